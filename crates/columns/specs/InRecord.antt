@@ -1,0 +1,30 @@
+-- A column inside a record: what it says, and the record with a number written into it. Assumes nothing.
+use mathlib.Core.Bool.{Bool, true, false, cond, _&&_}
+use mathlib.Core.List.{List}
+use Prim.Native.Nat.{ℕ, _+_}
+use lib.Dec.{leb}
+use lib.IntN.{ℤ}
+use lib.ListN.{length}
+use Rattle.format.specs.declared.Column.{Column}
+use Rattle.format.specs.declared.Column.the-variants.{Malformed}
+use Rattle.format.specs.Column.{columnOf, fits, written, widthOk}
+use Rattle.format.specs.Layout.{column, splice}
+
+-- what the column of `width` bytes from `start` of a record r says. No column is wider than 18; one wider, or not whole inside the
+-- record, is malformed
+unfoldable pub columnAt : List ℕ → ℕ → ℕ → Column
+columnAt r start width =
+    cond (leb width 18 && leb (start + width) (length r)) (columnOf (column start width r)) Malformed
+
+-- whether the number was written, and all bytes of the record afterwards
+pub record Rewritten : Type 0 where
+  pub done : Bool
+  pub bytes : List ℕ
+
+-- a record r with that column in written form. "number does not fit the width, width .. not allowed", or a column that is not whole
+-- inside the record: nothing is written
+unfoldable pub writeAt : List ℕ → ℕ → ℕ → ℤ → Rewritten
+writeAt r start width z =
+    cond (widthOk width && fits width z && leb (start + width) (length r))
+    (record { done = true; bytes = splice start width (written width z) r })
+    (record { done = false; bytes = r })

@@ -1,0 +1,3 @@
+pub mod InRecord
+pub mod ReadSteps
+pub mod WriteSteps

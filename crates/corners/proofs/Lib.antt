@@ -1,0 +1,4 @@
+pub mod Listed
+pub mod Signed
+pub mod Joining
+pub mod Splitting

@@ -1,0 +1,81 @@
+-- Signed 64-bit numbers: through their bits and back, their sizes, and that what is small enough fits. Assumes nothing.
+use mathlib.Core.Path.{_≡_, refl, ap, sym, _∙_}
+use mathlib.Core.Bool.{Bool, true, false, cond, _&&_, and-true}
+use Prim.Native.Nat.{ℕ, zero, suc, _+_, _-_, _*_, _/_, _^_, _≤_, _<_}
+use native.Mathlib.Nat.{div-le-self}
+use native.Mathlib.Omega.{arith}
+use lib.Dec.{ltb, leb}
+use lib.IntN.{ℤ, pos, negsuc, negℤ, natAbs, _+ℤ_, _*ℤ_}
+use lib.Signed.{mag, leZ, quotZ, remZ, mag-rem}
+use mir.Syntax.{w64}
+use mir.Val.{SFits, toZ, ofZ}
+use mir.ValLaws.{toZ-ofZ, sfits-le}
+use Rattle.format.specs.Basics.{minus}
+use Rattle.format.proofs.ColumnFits.{minus-pos, minus-negsuc}
+
+-- ---- bits: a number as an `i64` holds it, which is how code reads each operand
+abbrev pub held : ℤ → ℤ
+held z = toZ w64 (ofZ w64 z)
+
+pub back : (z : ℤ) → SFits w64 z → held z ≡ z
+back z f = toZ-ofZ w64 z f
+
+-- numbers that fit are equal where their bits are
+pub same-bits : (y z : ℤ) → SFits w64 y → SFits w64 z → ofZ w64 y ≡ ofZ w64 z → y ≡ z
+same-bits y z fy fz e = sym (back y fy) ∙ ap (toZ w64) e ∙ back z fz
+
+-- ---- sizes
+mag-le : (z : ℤ) → mag z ≤ natAbs z
+mag-le (pos n) = omega arith
+mag-le (negsuc n) = omega arith
+
+pub fits-abs : (z : ℤ) → natAbs z < 2 ^ 63 → SFits w64 z
+fits-abs z h = record { sfits = omega (arith, mag-le z) }
+
+pub abs-neg : (n : ℕ) → natAbs (negℤ (pos n)) ≡ n
+abs-neg zero = refl
+abs-neg (suc n) = refl
+
+pub abs-mul : (a b : ℤ) → natAbs (a *ℤ b) ≡ natAbs a * natAbs b
+abs-mul (pos a) (pos b) = refl
+abs-mul (pos a) (negsuc b) = abs-neg (a * suc b)
+abs-mul (negsuc a) (pos b) = abs-neg (suc a * b)
+abs-mul (negsuc a) (negsuc b) = refl
+
+abs-sub : (a b : ℕ) (t : Bool) → natAbs (cond t (negsuc (suc b - suc a)) (pos (a - suc b))) ≤ a + suc b
+abs-sub a b true = omega arith
+abs-sub a b false = omega arith
+
+pub abs-add : (a b : ℤ) → natAbs (a +ℤ b) ≤ natAbs a + natAbs b
+abs-add (pos a) (pos b) = omega arith
+abs-add (pos a) (negsuc b) = abs-sub a b (ltb a (suc b))
+abs-add (negsuc a) (pos b) = omega (arith, abs-sub b a (ltb b (suc a)))
+abs-add (negsuc a) (negsuc b) = omega arith
+
+-- ---- division towards zero: quotient and remainder are no larger than the number, the least `i64` too
+mag-neg : (r n : ℕ) → r ≤ suc n → mag (negℤ (pos r)) ≤ n
+mag-neg zero n h = omega arith
+mag-neg (suc r) n h = omega arith
+
+mag-quot : (z : ℤ) (d : ℕ) → mag (quotZ z (pos d)) ≤ mag z
+mag-quot (pos n) d = div-le-self n d
+mag-quot (negsuc n) d = mag-neg (suc n / d) n (div-le-self (suc n) d)
+
+pub quot-fits : (z : ℤ) (d : ℕ) → SFits w64 z → SFits w64 (quotZ z (pos d))
+quot-fits z d f = sfits-le (mag-quot z d) f
+
+pub rem-fits : (z : ℤ) (d : ℕ) → SFits w64 z → SFits w64 (remZ z (pos d))
+rem-fits z d f = sfits-le (mag-rem z (pos d)) f
+
+-- ---- a range about zero is a bound on the size
+pub size-range : (m : ℕ) (z : ℤ) → leZ (minus m) z && leZ z (pos m) ≡ leb (natAbs z) m
+size-range m (pos n) = rw (minus-pos m n)
+size-range m (negsuc n) = rw (minus-negsuc m n) (and-true (leb (suc n) m))
+
+-- ---- a range as code tests it: at the left end, then at the right one
+module _ (least z most : ℤ) (fl : SFits w64 least) (fz : SFits w64 z) (fm : SFits w64 most) where
+  pub left-fails : leZ (held least) (held z) ≡ false → leZ (held least) (held z) ≡ leZ least z && leZ z most
+  left-fails t = let e : leZ least z ≡ false = rw (back least fl, back z fz) at t in rw (back least fl, back z fz, e)
+
+  pub left-holds : leZ (held least) (held z) ≡ true → leZ (held z) (held most) ≡ leZ least z && leZ z most
+  left-holds t = let e : leZ least z ≡ true = rw (back least fl, back z fz) at t in rw (back z fz, back most fm, e)

@@ -1,0 +1,5 @@
+pub mod Neighbours
+pub mod Doubts
+pub mod Columns
+pub mod Reader
+pub mod Records

@@ -1,0 +1,18 @@
+-- Columns of seven bytes laid end to end, as the data records have them: "3D and net, four points of three I7; 2D, six points of two I7;
+-- grid, twelve I7 (all any sign)". Assumes nothing.
+use mathlib.Core.Bool.{Bool, true, _&&_}
+use mathlib.Core.List.{List}
+use Prim.Native.Nat.{ℕ, zero, suc, _+_, _*_}
+use lib.Dec.{leb}
+use lib.ListN.{length, take, drop}
+use Rattle.format.specs.Column.{columnOf, formed}
+
+-- the bytes begin with so many columns of seven bytes, each of them well formed: "right-justified: leading spaces, then at most one minus,
+-- then one digit or more to the last column"
+unfoldable pub eachFormed : ℕ → List ℕ → Bool
+eachFormed zero bytes = true
+eachFormed (suc count) bytes = formed (columnOf (take 7 bytes)) && eachFormed count (drop 7 bytes)
+
+-- so many columns of seven bytes from `start` on lie whole in the bytes, and each is well formed
+unfoldable pub columnsFormed : List ℕ → ℕ → ℕ → Bool
+columnsFormed bytes start count = leb (start + count * 7) (length bytes) && eachFormed count (drop start bytes)

@@ -1,0 +1,80 @@
+-- THE CLAIMS about the definitions, each in a line; the other files of this folder are their proofs. Assumes nothing.
+use mathlib.Core.Path.{_≡_, ap, sym, _∙_}
+use mathlib.Core.Bool.{true}
+use mathlib.Core.Logic.{_⊎_, _↔_}
+use mathlib.Core.List.{List, [], _∷_, _++_}
+use Prim.Native.Nat.{ℕ, suc, _+_, _-_, _/_, _≤_, _<_}
+use lib.IntN.{ℤ}
+use lib.ListN.{length}
+use borrow.Author.Tests.{lt-leb}
+use Rattle.format.specs.Text.{bytes}
+use Rattle.format.specs.Basics.{given, refused, chunks}
+use Rattle.format.specs.Record.{View, isHead}
+use Rattle.format.specs.Program.{line}
+use Rattle.format.specs.Column.{readAlone, writeAlone}
+use Rattle.format.specs.Corner.{Corner, join, split}
+use Rattle.format.specs.Judge.{File, fileOf, headersAndItems, accepted, judge, judgeSheet}
+use Rattle.format.specs.Edit.{Edit, dueBehind}
+use Rattle.format.specs.Run.{Buffer, Runs}
+use Rattle.format.specs.Above.{numbered, aboveAt, levelAt, literal, up}
+use Rattle.format.proofs.JudgeWalks.{headersAndItems-append}
+use Rattle.format.proofs.JudgeCounts.{Agree, counted-at}
+use Rattle.format.proofs.Above.{dataRecords-head}
+use Rattle.format.proofs.JudgeAccepted.{Ok, accepted-ok}
+use Rattle.format.proofs.JudgeMeaning.{meaning}
+use Rattle.format.proofs.ColumnRoundTrip.{round-trip}
+use Rattle.format.proofs.Corners.{split-only, split-joins, split-answers, refused-unjoined, unjoined-refused}
+use Rattle.format.proofs.Run.{Opened, accepted-opened, held-judged, demand3}
+use Rattle.format.proofs.AboveWayUp.{way-up}
+use Rattle.format.proofs.SheetCounts.{theLaws}
+
+-- what was written reads as that number, for every width and number
+pub written-reads : (column : List ℕ) (z : ℤ) (n : ℕ) → (writeAlone column z) .answer ≡ given n → readAlone ((writeAlone column z) .bytes) ≡ given z
+written-reads = round-trip
+
+-- splitting gives the one pair that joins to the number: all that joins, and nothing else
+pub one-pair : (unit : ℕ) (z : ℤ) (c : Corner) → (join unit (c .whole) (c .fraction) ≡ given z → split unit z ≡ given c) × (split unit z ≡ given c → join unit (c .whole) (c .fraction) ≡ given z)
+one-pair unit z c = (split-only unit (c .whole) (c .fraction) z, split-joins unit z c)
+
+-- it refuses, by 16 at record 0, exactly the numbers that no pair joins to
+pub no-pair : (unit : ℕ) (z : ℤ) → split unit z ≡ refused 16 0 ↔ ((c : Corner) → join unit (c .whole) (c .fraction) ≡ given z → ⊥)
+no-pair unit z = (refused-unjoined unit z, unjoined-refused unit z)
+
+-- and answers nothing but a pair or that refusal
+pub pair-or-16 : (unit : ℕ) (z : ℤ) → ((c : Corner) × (split unit z ≡ given c)) ⊎ (split unit z ≡ refused 16 0)
+pair-or-16 = split-answers
+
+-- DEMAND 3: a whole list of calls, from an accepted sheet
+pub runs : (cs : List Edit) (b : Buffer) (n m : ℕ) → judgeSheet (b .used) (b .bytes) ≡ accepted n m → Runs cs b
+runs = demand3 theLaws
+
+-- the body of an accepted sheet is accepted by itself
+pub body-judged : (b : Buffer) (n m : ℕ) → judgeSheet (b .used) (b .bytes) ≡ accepted n m → judge (fileOf (chunks (b .used / 84) (b .bytes))) ≡ accepted n m
+body-judged b n m e = sym (held-judged theLaws _ (o .held)) ∙ ap (λ (x : Buffer). judgeSheet (x .used) (x .bytes)) (o .same) ∙ e
+  where
+    o : Opened theLaws b
+    o = accepted-opened theLaws b n m e
+
+-- the way up from any record behind the sheet part: "how many headers it passed: level less 1", at most eight
+pub way-up-counts : (b : Buffer) (n m p : ℕ) → judgeSheet (b .used) (b .bytes) ≡ accepted n m → let f = fileOf (chunks (b .used / 84) (b .bytes)) in f .partLength < p → p ≤ f .partLength + length (f .body) → (up (b .used) (b .bytes) p ≡ given (record { header = numbered (f .partLength) (aboveAt (f .body) (p - f .partLength)); passed = levelAt (f .body) (p - f .partLength) - 1 })) × (levelAt (f .body) (p - f .partLength) - 1 ≤ 8)
+unfolding up
+way-up-counts b n m p e l u = let a = way-up (fileOf (chunks (b .used / 84) (b .bytes))) n m p (body-judged b n m e) l u in (rw e (a .answer), a .most)
+
+-- the counts of an accepted sheet, in document 01's own words: what a header states of a kind is the number of headers and items of that kind
+-- whose header above it is
+pub counts-mean : (f : File) (n m : ℕ) → judge f ≡ accepted n m → (P Q : List View) (h : View) → f .body ≡ P ++ h ∷ Q → dueBehind 0 P ≡ 0 → isHead (h .kind) ≡ true → (j : ℕ) → j < 10 → h .count j ≡ literal (suc (length P)) j [] 0 (f .body)
+counts-mean f n m e P Q h is closed hh j l = agree .each j l ∙ sym (meaning (f .body) P h Q j (k .walks .0) is closed hh)
+  where
+    k : Ok f
+    k = accepted-ok f n m e
+
+    entries : headersAndItems 0 (f .body) ≡ headersAndItems 0 P ++ h ∷ headersAndItems 0 Q
+    entries = ap (headersAndItems 0) is ∙ headersAndItems-append 0 P (h ∷ Q) ∙ rw (closed, dataRecords-head h hh)
+
+    agree : Agree h (headersAndItems 0 Q)
+    agree = counted-at (headersAndItems 0 P) h (headersAndItems 0 Q) hh (rw entries at (k .counted))
+
+-- a longer input is not judged
+pub too-long : (input : List ℕ) → 65520 < length input → line input ≡ bytes "too long"
+unfolding line
+too-long input h = rw (lt-leb (length input) 65520 h)

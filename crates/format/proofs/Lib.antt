@@ -1,0 +1,26 @@
+-- Laws of the definitions, in the order of specs/; Claims states the theorems that a reader should know.
+pub mod Basics
+pub mod Lists
+pub mod Columns
+pub mod ColumnFits
+pub mod ColumnRoundTrip
+pub mod Corners
+pub mod LayoutRewriting
+pub mod RecordHeaders
+pub mod SheetPhases
+pub mod JudgeWalks
+pub mod JudgeCounts
+pub mod JudgeAccepted
+pub mod JudgeMeaning
+pub mod JudgeSteps
+pub mod Above
+pub mod AboveWayUp
+pub mod EditViews
+pub mod EditItems
+pub mod EditInsert
+pub mod EditRemove
+pub mod EditRecords
+pub mod EditMoves
+pub mod SheetCounts
+pub mod Run
+pub mod Claims

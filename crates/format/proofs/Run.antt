@@ -1,0 +1,180 @@
+-- DEMAND 3 over bytes. Assumes nothing.
+use mathlib.Core.Path.{_≡_, refl, ap, ap₂, sym, _∙_}
+use mathlib.Core.Bool.{Bool, true, false, cond, _&&_}
+use mathlib.Core.List.{List, [], _∷_, _++_, map}
+use Prim.Native.Nat.{ℕ, zero, suc, _+_, _*_, _/_, _%_, _≤_}
+use native.Mathlib.Omega.{arith}
+use lib.Dec.{leb, ltb, eqb}
+use borrow.Author.Tests.{leb-true, le-leb, eqb-true, eq-eqb, lt-ltb}
+use lib.ListN.{length, length-append, length-map, length-drop, drop, getD}
+use lib.Seq.{drop-at}
+use Rattle.format.specs.Basics.{Fault, none, fault, Answer, chunks, flat, stageOneOk}
+use Rattle.format.specs.Run.{Buffer, call, bufferOf, listOf, insertions, repliesBuffer, repliesPlain, runBuffer, runPlain, sum-of, removals, Runs, elementCount}
+use Rattle.format.specs.Judge.{File, accepted, fileOf, judge, judgeRecords, judgeSheet, afterPart, afterStageOne}
+use Rattle.format.specs.Record.{nothing, view}
+use Rattle.format.specs.Edit.{Edit, RecordList, blockOf, conclude, remove11, removed, from12, from13, insert, plain, insert11, inserted, insertFault, remove}
+use Rattle.format.specs.Sheet.{statedElements, partLength, sheetFault}
+use Rattle.format.proofs.Basics.{first-zero, and-true, true-and}
+use Rattle.format.proofs.JudgeAccepted.{accepted-ok, ok-accepted}
+use Rattle.format.proofs.EditInsert.{fits, fine-none}
+use Rattle.format.proofs.EditRemove.{cuts, cut-ok}
+use Rattle.format.proofs.Lists.{Wide, wide-chunks, chunks-flat, flat-chunks, length-flat, length-chunks}
+use Rattle.format.proofs.EditRecords.{Lawful, Held, put-held, cut-held, put-file, cut-file}
+
+list-path : (a b : RecordList) → a .records ≡ b .records → a .tail ≡ b .tail → a ≡ b
+list-path a b p q = λ i. record { records = p i; tail = q i }
+
+buffer-path : (a b : Buffer) → a .bytes ≡ b .bytes → a .used ≡ b .used → a ≡ b
+buffer-path a b p q = λ i. record { bytes = p i; used = q i }
+
+-- records to a buffer and back
+pub open-bufferOf : (g : RecordList) → Wide (g .records) → listOf (bufferOf g) ≡ g
+open-bufferOf g w = list-path _ _ (rw count (chunks-flat (g .records) (g .tail) w)) (drop-at (flat (g .records)) (g .tail) _ (length-flat (g .records) w))
+  where
+    count : 84 * length (g .records) / 84 ≡ length (g .records)
+    count = omega arith
+
+-- a block's records
+nil-wide : Wide []
+unfolding Wide
+nil-wide = tt
+
+pub block-wide : (bs : List ℕ) → Wide (blockOf bs)
+block-wide bs = go (eqb (length bs % 84) 0) refl
+  where
+    go : (t : Bool) → eqb (length bs % 84) 0 ≡ t → Wide (cond t (chunks (length bs / 84) bs) [])
+    go true e = wide-chunks (length bs / 84) bs (omega (arith, eqb-true (length bs % 84) 0 e))
+    go false e = nil-wide
+
+module _ (L : Lawful) where
+  step-put : (g : RecordList) (p : ℕ) (blk : List (List ℕ)) → Held g → Wide blk → (n : ℕ) → insertFault (fileOf (g .records)) (g .tail) p (map view blk) ≡ n → Held ((conclude n g (inserted g p blk)) .list)
+  step-put g p [] k w zero e = absurd (omega (arith, (first-zero 12 (from13 (fileOf (g .records)) (g .tail) p []) ((first-zero (insert11 (fileOf (g .records)) (g .tail) p) (from12 (fileOf (g .records)) (g .tail) p []) e) .1)) .0))
+  step-put g p (x ∷ xs) k w zero e = put-held L g p x xs k (fits (fileOf (g .records)) (g .tail) p (view x) (map view xs) e) w
+  step-put g p blk k w (suc n) e = k
+
+  step-cut : (g : RecordList) (p : ℕ) → Held g → (n : ℕ) → remove11 (fileOf (g .records)) (g .tail) p ≡ n → Held ((conclude n g (removed g p)) .list)
+  step-cut g p k zero e = cut-held L g p k (cuts (fileOf (g .records)) (g .tail) p e)
+  step-cut g p k (suc n) e = k
+
+  pub plain-held : (c : Edit) (g : RecordList) → Held g → Held ((plain c g) .list)
+  unfolding plain
+  plain-held (insert p bs) g k = step-put g p (blockOf bs) k (block-wide bs) _ refl
+  plain-held (remove p) g k = step-cut g p k _ refl
+
+  stage-ok : (g : RecordList) → Held g → stageOneOk ((bufferOf g) .used) ((bufferOf g) .bytes) ≡ true
+  stage-ok g k = true-and _ _ (true-and _ _ (true-and _ _ (lt-ltb 0 (84 * length (g .records)) (omega (arith, L .two (g .records) (k .sheet), L .inside (g .records) (k .sheet)))) (le-leb (84 * length (g .records)) (length (flat (g .records) ++ g .tail)) (rw (length-append (flat (g .records)) (g .tail)) (omega (arith, length-flat (g .records) (k .wide)))))) (eq-eqb (84 * length (g .records) % 84) 0 (omega arith))) (le-leb (84 * length (g .records)) (84 * 200000) (omega (arith, k .few)))
+
+  -- such records, in a buffer, are accepted
+  pub held-judged : (g : RecordList) → Held g → judgeSheet ((bufferOf g) .used) ((bufferOf g) .bytes) ≡ judge (fileOf (g .records))
+  unfolding judgeSheet judgeRecords
+  held-judged g k = ap (λ (t : Bool). afterStageOne t (judgeRecords ((listOf (bufferOf g)) .records))) (stage-ok g k) ∙ ap (λ (x : RecordList). judgeRecords (x .records)) (open-bufferOf g (k .wide)) ∙ ap (λ (t : Fault). afterPart t (judge (fileOf (g .records)))) (fine-none (sheetFault (g .records)) (k .sheet))
+
+  pub call-plain : (c : Edit) (g : RecordList) → Held g → call c (bufferOf g) ≡ record { reply = (plain c g) .reply; buffer = bufferOf ((plain c g) .list) }
+  unfolding call
+  call-plain c g k = rw (held-judged g k, ok-accepted (fileOf (g .records)) (k .ok), open-bufferOf g (k .wide))
+
+  -- an accepted buffer is such records
+  pub record Opened (b : Buffer) : Type 0 where
+    pub same : bufferOf (listOf b) ≡ b
+    pub held : Held (listOf b)
+
+  pub accepted-opened : (b : Buffer) (n m : ℕ) → judgeSheet (b .used) (b .bytes) ≡ accepted n m → Opened b
+  unfolding judgeSheet judgeRecords
+  accepted-opened b n m e = stage (stageOneOk (b .used) (b .bytes)) refl (sheetFault ((listOf b) .records)) refl e
+    where
+      stage : (t : Bool) → stageOneOk (b .used) (b .bytes) ≡ t → (u : Fault) → sheetFault ((listOf b) .records) ≡ u → afterStageOne t (afterPart u (judge (fileOf ((listOf b) .records)))) ≡ accepted n m → Opened b
+      stage false p u q e = let z : _≡_ {A = ℕ} 0 1 = cc in absurd (omega arith)
+      stage true p (fault i j) q e = let z : _≡_ {A = ℕ} 0 1 = cc in absurd (omega arith)
+      stage true p none q e = record {
+        same = buffer-path _ _ (ap (λ (j : ℕ). flat (chunks (b .used / 84) (b .bytes)) ++ drop j (b .bytes)) whole ∙ flat-chunks (b .used / 84) (b .bytes) (omega (arith, short))) (rw (length-chunks (b .used / 84) (b .bytes)) (omega (arith, whole)));
+        held = record { wide = wide-chunks (b .used / 84) (b .bytes) (omega (arith, short)); few = rw (length-chunks (b .used / 84) (b .bytes)) (omega (arith, least)); sheet = rw q; ok = accepted-ok _ n m e };
+      }
+        where
+          x : (ltb 0 (b .used) && leb (b .used) (length (b .bytes)) && eqb (b .used % 84) 0 ≡ true) × (leb (b .used) (84 * 200000) ≡ true)
+          x = and-true _ _ p
+
+          y : (ltb 0 (b .used) && leb (b .used) (length (b .bytes)) ≡ true) × (eqb (b .used % 84) 0 ≡ true)
+          y = and-true _ _ (x .0)
+
+          z : (ltb 0 (b .used) ≡ true) × (leb (b .used) (length (b .bytes)) ≡ true)
+          z = and-true _ _ (y .0)
+
+          even : b .used % 84 ≡ 0
+          even = eqb-true _ _ (y .1)
+
+          short : b .used ≤ length (b .bytes)
+          short = leb-true _ _ (z .1)
+
+          least : b .used ≤ (84 * 200000)
+          least = leb-true _ _ (x .1)
+
+          whole : b .used ≡ 84 * (b .used / 84)
+          whole = omega (arith, even)
+
+  -- the count of elements
+  count-put : (g : RecordList) (p : ℕ) (bs : List ℕ) (blk : List (List ℕ)) → Held g → (n : ℕ) → insertFault (fileOf (g .records)) (g .tail) p (map view blk) ≡ n → (fileOf ((conclude n g (inserted g p blk)) .list .records)) .statedElements + removals (insert p bs) ((conclude n g (inserted g p blk)) .reply) ≡ (fileOf (g .records)) .statedElements + insertions (insert p bs) ((conclude n g (inserted g p blk)) .reply)
+  count-put g p bs [] k zero e = absurd (omega (arith, (first-zero 12 (from13 (fileOf (g .records)) (g .tail) p []) ((first-zero (insert11 (fileOf (g .records)) (g .tail) p) (from12 (fileOf (g .records)) (g .tail) p []) e) .1)) .0))
+  count-put g p bs (x ∷ xs) k zero e = omega (arith, ap (λ (f : File). f .statedElements) (put-file L g p x xs k (fits (fileOf (g .records)) (g .tail) p (view x) (map view xs) e)))
+  count-put g p bs blk k (suc n) e = refl
+
+  count-cut : (g : RecordList) (p : ℕ) → Held g → (n : ℕ) → remove11 (fileOf (g .records)) (g .tail) p ≡ n → (fileOf ((conclude n g (removed g p)) .list .records)) .statedElements + removals (remove p) ((conclude n g (removed g p)) .reply) ≡ (fileOf (g .records)) .statedElements + insertions (remove p) ((conclude n g (removed g p)) .reply)
+  count-cut g p k zero e = omega (arith, ap (λ (f : File). f .statedElements) (cut-file L g p k (cuts (fileOf (g .records)) (g .tail) p e)), (cut-ok (fileOf (g .records)) (g .tail) p (k .ok) (cuts (fileOf (g .records)) (g .tail) p e) (λ d i. 0)) .1)
+  count-cut g p k (suc n) e = refl
+
+  plain-count : (c : Edit) (g : RecordList) → Held g → (fileOf ((plain c g) .list .records)) .statedElements + removals c ((plain c g) .reply) ≡ (fileOf (g .records)) .statedElements + insertions c ((plain c g) .reply)
+  unfolding plain
+  plain-count (insert p bs) g k = count-put g p bs (blockOf bs) k _ refl
+  plain-count (remove p) g k = count-cut g p k _ refl
+
+  pub run-count : (cs : List Edit) (g : RecordList) → Held g → (fileOf ((runPlain cs g) .records)) .statedElements + sum-of removals cs (repliesPlain cs g) ≡ (fileOf (g .records)) .statedElements + sum-of insertions cs (repliesPlain cs g)
+  run-count [] g k = refl
+  run-count (c ∷ cs) g k = omega (arith, plain-count c g k, run-count cs ((plain c g) .list) (plain-held c g k))
+
+  pub run-replies : (cs : List Edit) (g : RecordList) → Held g → repliesBuffer cs (bufferOf g) ≡ repliesPlain cs g
+  run-replies [] g k = refl
+  run-replies (c ∷ cs) g k = rw (call-plain c g k, run-replies cs ((plain c g) .list) (plain-held c g k))
+
+  pub run-bytes : (cs : List Edit) (g : RecordList) → Held g → runBuffer cs (bufferOf g) ≡ bufferOf (runPlain cs g)
+  run-bytes [] g k = refl
+  run-bytes (c ∷ cs) g k = rw (call-plain c g k) (run-bytes cs ((plain c g) .list) (plain-held c g k))
+
+  pub run-held : (cs : List Edit) (g : RecordList) → Held g → Held (runPlain cs g)
+  run-held [] g k = k
+  run-held (c ∷ cs) g k = run-held cs ((plain c g) .list) (plain-held c g k)
+
+  -- the numbers of an accepted sheet
+  pub held-accepted : (g : RecordList) → Held g → judgeSheet ((bufferOf g) .used) ((bufferOf g) .bytes) ≡ accepted (length (g .records)) (statedElements (getD (g .records) 1 []))
+  held-accepted g k = held-judged g k ∙ ok-accepted (fileOf (g .records)) (k .ok) ∙ ap₂ accepted whole (sym (k .ok .statedElements))
+    where
+      whole : partLength (g .records) + length (map view (drop (partLength (g .records)) (g .records))) ≡ length (g .records)
+      whole = rw (length-map (drop (partLength (g .records)) (g .records)) view, length-drop (partLength (g .records)) (g .records)) (omega (arith, L .inside (g .records) (k .sheet)))
+
+  -- DEMAND 3
+  pub demand3 : (cs : List Edit) (b : Buffer) (n m : ℕ) → judgeSheet (b .used) (b .bytes) ≡ accepted n m → Runs cs b
+  demand3 cs b n m e = record {
+    replies = same-replies;
+    buffer = same-buffer;
+    accepts = ap (λ (x : Buffer). judgeSheet (x .used) (x .bytes)) same-buffer ∙ held-accepted end last ∙ ap₂ accepted (sym (ap (λ (x : Buffer). x .used / 84) same-buffer ∙ whole)) (sym same-count);
+    counts = ap₂ (λ (x : ℕ) (rs : List (Answer ℕ)). x + sum-of removals cs rs) same-count same-replies ∙ run-count cs (listOf b) (o .held) ∙ ap (λ (rs : List (Answer ℕ)). elementCount b + sum-of insertions cs rs) (sym same-replies);
+  }
+    where
+      o : Opened b
+      o = accepted-opened b n m e
+
+      end : RecordList
+      end = runPlain cs (listOf b)
+
+      last : Held (runPlain cs (listOf b))
+      last = run-held cs (listOf b) (o .held)
+
+      same-replies : repliesBuffer cs b ≡ repliesPlain cs (listOf b)
+      same-replies = ap (λ (x : Buffer). repliesBuffer cs x) (sym (o .same)) ∙ run-replies cs (listOf b) (o .held)
+
+      same-buffer : runBuffer cs b ≡ bufferOf (runPlain cs (listOf b))
+      same-buffer = ap (λ (x : Buffer). runBuffer cs x) (sym (o .same)) ∙ run-bytes cs (listOf b) (o .held)
+
+      same-count : elementCount (runBuffer cs b) ≡ statedElements (getD ((runPlain cs (listOf b)) .records) 1 [])
+      same-count = ap elementCount same-buffer ∙ ap (λ (g : RecordList). statedElements (getD (g .records) 1 [])) (open-bufferOf end (last .wide))
+
+      whole : 84 * length ((runPlain cs (listOf b)) .records) / 84 ≡ length ((runPlain cs (listOf b)) .records)
+      whole = omega arith

@@ -1,0 +1,50 @@
+-- For each answer that is an enum, this paper's number and values for every case. The promises use these. Assumes nothing.
+use Prim.Native.Nat.{ℕ}
+use lib.IntN.{ℤ}
+use Rattle.format.specs.Basics.{Answer, given, refused}
+use Rattle.format.specs.Corner.{Corner}
+use Rattle.format.specs.Judge.{Counts}
+use Rattle.format.specs.Above.{Way}
+use Rattle.format.specs.declared.Number.{Number}
+use Rattle.format.specs.declared.Number.the-variants as Number
+use Rattle.format.specs.declared.Written.{Written}
+use Rattle.format.specs.declared.Written.the-variants as Written
+use Rattle.format.specs.declared.Parts.{Parts}
+use Rattle.format.specs.declared.Parts.the-variants as Parts
+use Rattle.format.specs.declared.Judged.{Judged}
+use Rattle.format.specs.declared.Judged.the-variants as Judged
+use Rattle.format.specs.declared.Edited.{Edited}
+use Rattle.format.specs.declared.Edited.the-variants as Edited
+use Rattle.format.specs.declared.WayUp.{WayUp}
+use Rattle.format.specs.declared.WayUp.the-variants as WayUp
+
+-- a column read alone, a corner joined: the number
+unfoldable pub numberAnswer : Number → Answer ℤ
+numberAnswer (Number.Is z) = given z
+numberAnswer (Number.Refused n r) = refused n r
+
+-- a column written alone, a normal form: bytes written
+unfoldable pub writtenAnswer : Written → Answer ℕ
+writtenAnswer (Written.Bytes n) = given n
+writtenAnswer (Written.Refused n r) = refused n r
+
+-- a millimetre number split: whole and fraction
+unfoldable pub partsAnswer : Parts → Answer Corner
+partsAnswer (Parts.Corner w f) = given (record { whole = w; fraction = f })
+partsAnswer (Parts.Refused n r) = refused n r
+
+-- a file judged: "record and item counts"
+unfoldable pub judgedAnswer : Judged → Answer Counts
+judgedAnswer (Judged.Accepted n m) = given (record { records = n; items = m })
+judgedAnswer (Judged.Refused n r) = refused n r
+
+-- an edit: "the new used length"
+unfoldable pub editedAnswer : Edited → Answer ℕ
+editedAnswer (Edited.Used n) = given n
+editedAnswer (Edited.Refused n r) = refused n r
+
+-- the way up: the header above, and how many headers were passed; "For a layer header: none, 0"
+unfoldable pub wayUpAnswer : WayUp → Answer Way
+wayUpAnswer (WayUp.Header h n) = given (record { header = h; passed = n })
+wayUpAnswer WayUp.LayerHeader = given (record { header = 0; passed = 0 })
+wayUpAnswer (WayUp.Refused n r) = refused n r

@@ -1,0 +1,100 @@
+-- Examples, computed: a whole sheet as text, with what the program prints, its corners, the way up, an item taken out and put in again;
+-- and the cases of "Around the edges" that bear no star.
+use mathlib.Core.Path.{_≡_, refl}
+use mathlib.Core.List.{List, [], _∷_, _++_}
+use Prim.Native.Nat.{ℕ, _/_}
+use Prim.Native.String.{String}
+use lib.IntN.{ℤ, pos}
+use lib.ListN.{length}
+use Rattle.format.specs.Basics.{Answer, given, refused, minus, chunks}
+use Rattle.format.specs.Text.{bytes, rows, begins}
+use Rattle.format.specs.Column.{strip, isDigit, allDigits, valueOf, isNumber, negative, positive, signed, columnOf, digitsIn, digits, textOf, fits, written, readAlone, writeAlone}
+use Rattle.format.specs.Corner.{fractionOk, millimetres, join, split}
+use Rattle.format.specs.Layout.{column, splice, find, integerAt, numberAt, allFormed, allInside, columnFault, indexA, indexB, indexC, sheetA, sheetB, sheetC, sheetD, sheetE, sheetF, header, element, gridHeader, netHeader, data3D, data2D, dataNote, dataAttribute, dataGrid, dataNet}
+use Rattle.format.specs.Record.{typeOf, countName, dataColumns, directionOk, dataFault, elementRecords, elementRule, gridStates, gridNeeds, netNeeds, headerView, elementView, gridView, netView, otherView, view, rewrite, raise, lower}
+use Rattle.format.specs.Sheet.{wholesOf, fractionsOf, partLength, sheetFault, corners, statedElements, statedRecords, writeCounts}
+use Rattle.format.specs.Index.{indexFault}
+use Rattle.format.specs.Judge.{judge, judgeRecords, judgeIndexRecords, judgeSheet, judgeIndex}
+use Rattle.format.specs.Edit.{Edit, plain, insert, remove}
+use Rattle.format.specs.Run.{call, runBuffer, repliesBuffer}
+use Rattle.format.specs.Above.{up}
+use Rattle.format.specs.Program.{line, printed}
+
+-- "five sheet records, one layer, one E2 of 7 points in 2D": the five, the layer, and the line with its two data records
+abbrev pub five : List String
+five =
+    "M 09LD1234Example sheet         500Town plan                      010               " ∷
+    "  -1234   5678   -934   5978        1      4  1   -934   5678  -1234   5978         " ∷
+    "                                                                                    " ∷
+    "2408240700Plotter                       Approval 1                    100           " ∷
+    "Survey office                            -56  50   0   0   0  50 -56   0            " ∷ []
+
+abbrev pub layer : String
+layer = "H 2100 0   0   0 1    1    0    0    1    0    0    0    0    0    002408         0 "
+
+abbrev pub item : List String
+item =
+    "E22101 0   0   1 2 02210 00   7   2      0      0        0       2408              1" ∷
+    "      0      0   1000      0   2000   -500   3000      0   4000      0   5000      0" ∷
+    "   6000      0unused text is not judged                                             " ∷ []
+
+abbrev pub example : List ℕ
+example = rows five ++ (bytes layer ++ rows item)
+
+-- the same "with header total 2"
+abbrev pub wrong : List ℕ
+wrong = rows five ++ (bytes "H 2100 0   0   0 1    2    0    0    1    0    0    0    0    0    002408         0 " ++ rows item)
+
+-- ---- One table, one claim
+pub data Example : Type 0 where
+  prints : (input : List ℕ) → (text : String) → Example
+  gridNeed : (rows columns records : ℕ) → Example
+  gridStated : (repeat column records : ℕ) → Example
+  elementNeed : (kind count records : ℕ) → Example
+  index : (record1 : String) → (number at : ℕ) → Example
+  cornersAre : (file : List ℕ) → (millimetres : List ℤ) → Example
+  upwards : (file : List ℕ) → (number header passed : ℕ) → Example
+  edits : (calls : List Edit) → (file : List ℕ) → (replies : List (Answer ℕ)) → (after : List ℕ) → Example
+
+abbrev pub table : List Example
+table =
+    -- "prints, whole: `accepted 9 records 1 items`"
+    prints example "accepted 9 records 1 items" ∷
+    -- "With header total 2 it prints `refused 10 at record 6`"
+    prints wrong "refused 10 at record 6" ∷
+    -- "1,000 x 1,080 points need 90,000 and cannot be stated": 89,999 is the most
+    gridNeed 1000 1080 90000 ∷
+    gridStated 9 9999 89999 ∷
+    -- the grid of 70,000 records that the repeat column 8 and the column 0 state
+    gridNeed 1000 840 70000 ∷
+    -- "2D: 6 points 1, 7 points 2"
+    elementNeed 2 6 1 ∷
+    elementNeed 2 7 2 ∷
+    -- "991 sheets, record 1 well formed: 6, as b has two digits"
+    index "I  9City survey office            99199   0002008Regulation                    10   " 6 1 ∷
+    -- the corners of the example: level 500 has unit 1, so the fractions are millimetres
+    cornersAre example (minus 1234056 ∷ pos 5678050 ∷ minus 934000 ∷ pos 5978000 ∷ minus 934000 ∷ pos 5678050 ∷ minus 1234056 ∷ pos 5978000 ∷ []) ∷
+    -- from the second data record: the layer's header, one header passed
+    upwards example 9 6 1 ∷
+    -- a removal at a header and one in the middle of an item, refused; the item taken out, and put in again; then all is as before
+    edits (remove 6 ∷ remove 8 ∷ remove 7 ∷ insert 7 (rows item) ∷ []) example (refused 11 0 ∷ refused 11 0 ∷ given 504 ∷ given 756 ∷ []) example ∷ []
+
+abbrev pub Says : Example → Type 0
+Says (prints input text) = line input ≡ bytes text
+Says (gridNeed rows columns records) = gridNeeds rows columns ≡ records
+Says (gridStated repeat column records) = gridStates repeat column ≡ records
+Says (elementNeed kind count records) = elementRecords kind count ≡ records
+Says (index record1 number at) = judgeIndex 84 (bytes record1) ≡ refused number at
+Says (cornersAre file millimetres) = corners (chunks (length file / 84) file) ≡ millimetres
+Says (upwards file number header passed) = up (length file) file number ≡ given (record { header = header; passed = passed })
+Says (edits calls file replies after) =
+    (repliesBuffer calls (record { bytes = file; used = length file }) ≡ replies)
+    × ((runBuffer calls (record { bytes = file; used = length file })) .bytes ≡ after)
+
+abbrev pub Every : List Example → Type 0
+Every [] = Unit {0}
+Every (e ∷ es) = Says e × Every es
+
+pub examples : Every table
+unfolding bytes rows begins strip isDigit allDigits valueOf isNumber negative positive signed columnOf digitsIn digits textOf fits written readAlone writeAlone fractionOk millimetres join split column splice find integerAt numberAt allFormed allInside columnFault indexA indexB indexC sheetA sheetB sheetC sheetD sheetE sheetF header element gridHeader netHeader data3D data2D dataNote dataAttribute dataGrid dataNet typeOf countName dataColumns directionOk dataFault elementRecords elementRule gridStates gridNeeds netNeeds headerView elementView gridView netView otherView view rewrite raise lower wholesOf fractionsOf partLength sheetFault corners statedElements statedRecords writeCounts indexFault judge judgeRecords judgeIndexRecords judgeSheet judgeIndex plain call up line printed
+examples = (refl, (refl, (refl, (refl, (refl, (refl, (refl, (refl, (refl, (refl, ((refl, refl), tt)))))))))))

@@ -1,0 +1,13 @@
+-- `layouts::NetHeader::integer_widths` meets its contract: result and table compute to one list. Assumes nothing.
+use mathlib.Core.Path.{refl}
+use Rattle.format.specs.Layout.{netHeader}
+use Rattle.layouts.specs.Tables.{widthsOf, integers}
+use Rattle.layouts.proofs.net_header.NetHeader.integer_widths.Statement.{statement}
+use Rattle.layouts.proofs.net_header.NetHeader.integer_widths.Tie as tie
+
+returns : tie.Need-returns
+unfolding netHeader widthsOf integers
+returns c = refl
+
+pub integer-widths-spec : {M : Type 1} → statement M
+integer-widths-spec = tie.close (tie.spec returns)

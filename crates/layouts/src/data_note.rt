@@ -1,0 +1,81 @@
+ghost use mathlib.Core.Path.{_≡_};
+ghost use Rattle.format.specs.Layout.{dataNote};
+ghost use Rattle.layouts.specs.Tables.{spansOf, startsOf, widthsOf, integers, lowsOf, highsOf};
+use super::Bytes5;
+use super::Limits5;
+use super::Span;
+use super::Spans6;
+
+// Data note: I1 (0,1), direction I7, I5, I5, I2, A64.
+pub struct DataNote {}
+
+impl DataNote {
+    pub const UPRIGHT_WIDTH: usize = 1;
+
+    pub const DIRECTION_WIDTH: usize = 7;
+
+    pub const LETTER_SIZE_WIDTH: usize = 5;
+
+    pub const LETTER_SPACING_WIDTH: usize = 5;
+
+    pub const LINE_NUMBER_WIDTH: usize = 2;
+
+    pub const TEXT_WIDTH: usize = 64;
+
+    pub const UPRIGHT_START: usize = 0;
+
+    pub const DIRECTION_START: usize = Self::UPRIGHT_START + Self::UPRIGHT_WIDTH;
+
+    pub const LETTER_SIZE_START: usize = Self::DIRECTION_START + Self::DIRECTION_WIDTH;
+
+    pub const LETTER_SPACING_START: usize = Self::LETTER_SIZE_START + Self::LETTER_SIZE_WIDTH;
+
+    pub const LINE_NUMBER_START: usize = Self::LETTER_SPACING_START + Self::LETTER_SPACING_WIDTH;
+
+    pub const TEXT_START: usize = Self::LINE_NUMBER_START + Self::LINE_NUMBER_WIDTH;
+
+    pub const END: usize = Self::TEXT_START + Self::TEXT_WIDTH;
+
+    pub fn end() -> usize
+        ensures { λ r. ⌜ r ≡ 84 ⌝ }
+    {
+        Self::END
+    }
+
+    pub fn columns() -> Spans6
+        ensures { λ r. ⌜ r ≡ spansOf dataNote ⌝ }
+    {
+        [
+            Span(Self::UPRIGHT_START, Self::UPRIGHT_WIDTH),
+            Span(Self::DIRECTION_START, Self::DIRECTION_WIDTH),
+            Span(Self::LETTER_SIZE_START, Self::LETTER_SIZE_WIDTH),
+            Span(Self::LETTER_SPACING_START, Self::LETTER_SPACING_WIDTH),
+            Span(Self::LINE_NUMBER_START, Self::LINE_NUMBER_WIDTH),
+            Span(Self::TEXT_START, Self::TEXT_WIDTH),
+        ]
+    }
+
+    pub fn integer_starts() -> Bytes5
+        ensures { λ r. ⌜ r ≡ startsOf (integers dataNote) ⌝ }
+    {
+        [0, 1, 8, 13, 18]
+    }
+
+    pub fn integer_widths() -> Bytes5
+        ensures { λ r. ⌜ r ≡ widthsOf (integers dataNote) ⌝ }
+    {
+        [1, 7, 5, 5, 2]
+    }
+
+    pub fn integer_lows() -> Limits5
+        ensures { λ r. ⌜ r ≡ lowsOf (integers dataNote) ⌝ }
+    {
+        [0, -999999, 0, 0, 0]
+    }
+
+    pub fn integer_highs() -> Limits5
+        ensures { λ r. ⌜ r ≡ highsOf (integers dataNote) ⌝ }
+    {
+        [1, 9999999, 99999, 99999, 99]
+    }
+}
