@@ -47,6 +47,24 @@ fn range(words: &[&str]) -> Range {
     Range::From(low.parse().unwrap(), if high.is_empty() { i64::MAX } else { high.parse().unwrap() })
 }
 
+impl Range {
+    pub fn holds(&self, n: i64) -> bool {
+        match self {
+            Range::From(low, high) => (*low..=*high).contains(&n),
+            Range::OneOf(list) => list.contains(&n),
+        }
+    }
+
+    /// A number inside: 0 where that is, else the least.
+    pub fn some(&self) -> i64 {
+        match self {
+            Range::From(low, high) if *low <= 0 && 0 <= *high => 0,
+            Range::From(low, _) => *low,
+            Range::OneOf(list) => list[0],
+        }
+    }
+}
+
 impl Layout {
     pub fn of(text: &str) -> Layout {
         let mut fields = Vec::new();
@@ -71,6 +89,12 @@ impl Layout {
 
     fn field(&self, name: &str) -> &Field {
         self.fields.iter().find(|f| f.name == name).unwrap_or_else(|| panic!("no column {name}"))
+    }
+
+    /// The bytes of a record that a column takes.
+    pub fn span(&self, name: &str) -> std::ops::Range<usize> {
+        let f = self.field(name);
+        f.start..f.start + f.width
     }
 
     pub fn bytes<'a>(&self, name: &str, record: &'a [u8]) -> &'a [u8] {
@@ -105,9 +129,8 @@ impl Layout {
             What::IntegerOrSpaces => !blank(of(f)) && !matches!(parse(of(f)), Column::Value(_)),
             _ => false,
         };
-        let outside = |f: &&Field| match (&f.what, parse(of(f))) {
-            (What::Integer(Range::From(low, high)), Column::Value(n)) => n < *low || *high < n,
-            (What::Integer(Range::OneOf(list)), Column::Value(n)) => !list.contains(&n),
+        let outside = |f: &&Field| match &f.what {
+            What::Integer(range) => !matches!(parse(of(f)), Column::Value(n) if range.holds(n)),
             _ => false,
         };
         if fields.iter().any(|f| malformed(&f)) {

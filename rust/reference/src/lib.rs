@@ -13,6 +13,7 @@ pub mod layout;
 pub mod normal;
 pub mod random;
 pub mod record;
+pub mod sheets;
 pub mod way_up;
 
 /// A refusal: the paper's number and the record, 0 where it names none.
