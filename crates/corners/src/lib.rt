@@ -58,8 +58,8 @@ fn is_opposite(whole: i64, fraction: i64) -> bool
     0 < whole && fraction < 0
 }
 
-// Not too large, and not of opposite sign.
-fn fraction_ok(unit: u64, whole: i64, fraction: i64) -> bool
+// Whether a fraction goes with its whole: not too large, and not of opposite sign.
+pub fn fraction_ok(unit: u64, whole: i64, fraction: i64) -> bool
     ensures { λ r. ⌜ r ≡ fractionOk unit whole fraction ⌝ }
 {
     let most = most_of(unit);

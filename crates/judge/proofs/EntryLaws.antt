@@ -1,0 +1,144 @@
+-- One record where a header or an item is due: what each test of the code says of it. Assumes nothing.
+use mathlib.Core.Path.{_≡_, refl, sym, _∙_}
+use mathlib.Core.Bool.{Bool, true, false, not}
+use mathlib.Core.List.{List}
+use Prim.Native.Nat.{ℕ, zero, suc, _+_, _*_, _≤_, _<_}
+use native.Mathlib.Omega.{arith}
+use native.Mathlib.Numerals.{add-one}
+use borrow.Author.Tests.{not-true, not-false, le-leb, lt-leb, ne-eqb}
+use lib.Dec.{leb}
+use lib.ListN.{length, drop, length-drop}
+use lib.Seq.{length-take-le}
+use Rattle.format.specs.Basics.{first, unless}
+use Rattle.records.specs.declared.items.Entry.{Entry}
+use Rattle.format.specs.Record.{nothing, Kind, head, item, isHead, countIndex, view}
+use Rattle.format.specs.Judge.{lowestLevel, highestLevel, levelOk, faultAt}
+use Rattle.format.proofs.Basics.{first-zero}
+use Rattle.format.proofs.JudgeWalks.{good}
+use Rattle.records.proofs.Laws.{entry-kind, entry-level, entry-data-records, entry-held, entry-rule, fault-at}
+use Rattle.records.specs.Entry.{toData, entryOf}
+use Rattle.judge.specs.Walks.{Room, recordAt, lowestOf, highestOf, levelFits, entryFault}
+
+-- ---- the first of two numbers that is not 0
+pub first-none : (a b : ℕ) → a ≡ 0 → b ≡ first a b
+first-none a b e = rw e
+
+pub first-some : (a b : ℕ) → (a ≡ 0 → ⊥) → a ≡ first a b
+first-some zero b ne = absurd (ne refl)
+first-some (suc a) b ne = refl
+
+-- ---- the level
+module _ (kind level opened : ℕ) where
+  pub too-low : (lowest : ℕ) → lowest ≡ lowestOf kind → level < lowest → false ≡ levelFits kind level opened
+  unfolding levelFits
+  too-low lowest e h = rw (← e, lt-leb lowest level h)
+
+  module _ (lowest : ℕ) (of : lowest ≡ lowestOf kind) (low : lowest ≤ level) (highest : ℕ) (of′ : highest ≡ highestOf kind) where
+    pub too-high : highest < level → false ≡ levelFits kind level opened
+    unfolding levelFits
+    too-high h = rw (← of, ← of′, le-leb lowest level low, lt-leb level highest h)
+
+    pub near-enough : level ≤ highest → leb level (opened + 1) ≡ levelFits kind level opened
+    unfolding levelFits
+    near-enough h = rw (← of, ← of′, le-leb lowest level low, le-leb level highest h)
+
+-- ---- the first fault
+module _ (e : Entry) (opened : ℕ) where
+  pub fault-own : (e .fault ≡ 0 → ⊥) → e .fault ≡ entryFault e opened
+  unfolding entryFault
+  fault-own ne = first-some (e .fault) _ ne
+
+  module _ (fine : e .fault ≡ 0) (fits : Bool) (of : fits ≡ levelFits (e .kind) (e .level) opened) where
+    pub fault-level : not fits ≡ true → 7 ≡ entryFault e opened
+    unfolding entryFault
+    fault-level h = rw (fine, ← of, not-true fits h)
+
+    pub fault-rule : not fits ≡ false → e .«rule_fault» ≡ entryFault e opened
+    unfolding entryFault
+    fault-rule h = rw (fine, ← of, not-false fits h)
+
+-- ---- what an entry says of a record
+lowest-is : (k : Kind) → lowestOf (countIndex k) ≡ lowestLevel k
+unfolding lowestOf
+lowest-is head = refl
+lowest-is (item k) = rw (ne-eqb (suc k) 0 (λ e. omega arith))
+
+highest-is : (k : Kind) → highestOf (countIndex k) ≡ highestLevel k
+unfolding highestOf
+highest-is head = refl
+highest-is (item k) = rw (ne-eqb (suc k) 0 (λ e. omega arith))
+
+first-same : (a b c : ℕ) → (a ≡ 0 → b ≡ c) → first a b ≡ first a c
+first-same zero b c e = e refl
+first-same (suc a) b c e = refl
+
+head-first : (k : Kind) → countIndex k ≡ 0 → isHead k ≡ true
+head-first head e = refl
+head-first (item k) e = absurd (omega arith)
+
+item-later : (k : Kind) → (countIndex k ≡ 0 → ⊥) → isHead k ≡ false
+item-later head ne = absurd (ne refl)
+item-later (item k) ne = refl
+
+header-to-8 : (k : Kind) → countIndex k ≡ 0 → highestLevel k ≡ 8
+header-to-8 head e = refl
+header-to-8 (item k) e = absurd (omega arith)
+
+module _ (l : List ℕ) (whole : length l ≡ 84) (opened : ℕ) where
+  level-tested : (entryOf l) .fault ≡ 0 → levelFits ((entryOf l) .kind) ((entryOf l) .level) opened ≡ levelOk opened (view l)
+  unfolding levelFits
+  level-tested z = rw (entry-kind l whole z, entry-level l whole z, lowest-is ((view l) .kind), highest-is ((view l) .kind), add-one opened)
+
+  entry-faults : entryFault (entryOf l) opened ≡ faultAt opened 0 nothing (view l)
+  unfolding entryFault
+  entry-faults =
+      first-same ((entryOf l) .fault) _ (first (unless (levelOk opened (view l)) 7) ((view l) .ruleFault)) (λ z. rw (level-tested z, entry-rule l whole z))
+      ∙ sym (fault-at l whole opened nothing)
+
+-- ---- the same of a record of a file, whose entry and fault are what the code has
+pub wide-at : (file : List ℕ) (n k : ℕ) → Room file n → k < n → length (recordAt file k) ≡ 84
+wide-at file n k room here = length-take-le 84 (drop (84 * k) file) (rw (length-drop (84 * k) file) (omega arith))
+
+-- a header or an item that passes
+pub record Sound (file : List ℕ) (k opened : ℕ) (e : Entry) : Type 0 where
+  pub well : faultAt opened 0 nothing (view (recordAt file k)) ≡ 0
+  pub kind-is : e .kind ≡ countIndex ((view (recordAt file k)) .kind)
+  pub kind-small : e .kind ≤ 9
+  pub level-is : (view (recordAt file k)) .level ≡ e .level
+  pub near : e .level ≤ suc opened
+  pub header : e .kind ≡ 0 → isHead ((view (recordAt file k)) .kind) ≡ true
+  pub header-high : e .kind ≡ 0 → e .level ≤ 8
+  pub no-header : (e .kind ≡ 0 → ⊥) → isHead ((view (recordAt file k)) .kind) ≡ false
+  pub records-are : e .«data_records» ≡ (view (recordAt file k)) .dataRecords
+  pub held-is : toData (e .held) ≡ (view (recordAt file k)) .dataHeld
+
+module _ (file : List ℕ) (n k opened : ℕ) (e : Entry) (fault : ℕ) (room : Room file n) (here : k < n) (is : e ≡ entryOf (recordAt file k)) (of : fault ≡ entryFault e opened) where
+  abbrev one : List ℕ
+  one = recordAt file k
+
+  whole : length one ≡ 84
+  whole = wide-at file n k room here
+
+  pub fault-is : fault ≡ faultAt opened 0 nothing (view one)
+  fault-is = of ∙ rw is (entry-faults one whole opened)
+
+  pub sound : fault ≡ 0 → Sound file k opened e
+  sound z =
+      let v = view one in
+      let well : faultAt opened 0 nothing v ≡ 0 = sym fault-is ∙ z in
+      let g = good opened nothing v well in
+      let fine : (entryOf one) .fault ≡ 0 = first-zero _ _ (sym (fault-at one whole opened nothing) ∙ well) .0 in
+      let kind : e .kind ≡ countIndex (v .kind) = rw is (entry-kind one whole fine) in
+      let level : e .level ≡ v .level = rw is (entry-level one whole fine) in
+      record {
+        well = well;
+        kind-is = kind;
+        kind-small = omega (arith, g .known);
+        level-is = sym level;
+        near = omega (arith, g .near);
+        header = λ q. head-first (v .kind) (sym kind ∙ q);
+        header-high = λ q. omega (arith, g .high, header-to-8 (v .kind) (sym kind ∙ q));
+        no-header = λ q. item-later (v .kind) (λ x. q (kind ∙ x));
+        records-are = rw is (entry-data-records one whole fine);
+        held-is = rw is (entry-held one whole fine);
+      }

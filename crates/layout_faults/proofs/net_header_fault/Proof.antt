@@ -1,0 +1,51 @@
+-- `layout_faults::net_header_fault` meets its contract: the tables ask all of it. Assumes nothing.
+use borrow.Author.Needs.{needs}
+use Rattle.layout_faults.proofs.Layouts.{netHeader-judged}
+use Rattle.layout_faults.proofs.Tables.{all-asked}
+use Rattle.layout_faults.proofs.net_header_fault.Statement.{statement}
+use Rattle.layout_faults.proofs.net_header_fault.Tie as tie
+
+integer-starts-requires : tie.Need-integer-starts-requires
+integer-starts-requires c κs = search needs
+
+integer-widths-requires : tie.Need-integer-widths-requires
+integer-widths-requires c κs = search needs
+
+integer-lows-requires : tie.Need-integer-lows-requires
+integer-lows-requires c κs = search needs
+
+integer-highs-requires : tie.Need-integer-highs-requires
+integer-highs-requires c κs = search needs
+
+slice-aggregate-table-fault : tie.Need-slice-aggregate-table-fault
+slice-aggregate-table-fault c = search needs
+
+slice-aggregate-table-fault-2 : tie.Need-slice-aggregate-table-fault-2
+slice-aggregate-table-fault-2 c = search needs
+
+slice-aggregate-table-fault-3 : tie.Need-slice-aggregate-table-fault-3
+slice-aggregate-table-fault-3 c = search needs
+
+slice-aggregate-table-fault-4 : tie.Need-slice-aggregate-table-fault-4
+slice-aggregate-table-fault-4 c = search needs
+
+table-fault-requires : tie.Need-table-fault-requires
+table-fault-requires c κs = search needs
+
+returns : tie.Need-returns
+returns c = search (all-asked, netHeader-judged)
+
+pub net-header-fault-spec : {M : Type 1} → statement M
+net-header-fault-spec =
+    tie.close
+    (tie.spec
+    integer-starts-requires
+    integer-widths-requires
+    integer-lows-requires
+    integer-highs-requires
+    slice-aggregate-table-fault
+    slice-aggregate-table-fault-2
+    slice-aggregate-table-fault-3
+    slice-aggregate-table-fault-4
+    table-fault-requires
+    returns)

@@ -1,0 +1,75 @@
+-- `layout_faults::sheet_d_fault` meets its contract: its integers by the tables, then its lists. Assumes nothing.
+use borrow.Author.Needs.{needs}
+use Rattle.layout_faults.proofs.Layouts.{sheetD-judged, both}
+use Rattle.layout_faults.proofs.Tables.{fault-first, is-listed, not-listed}
+use Rattle.layout_faults.proofs.sheet_d_fault.Statement.{statement}
+use Rattle.layout_faults.proofs.sheet_d_fault.Tie as tie
+
+integer-starts-requires : tie.Need-integer-starts-requires
+integer-starts-requires c κs = search needs
+
+integer-widths-requires : tie.Need-integer-widths-requires
+integer-widths-requires c κs = search needs
+
+integer-lows-requires : tie.Need-integer-lows-requires
+integer-lows-requires c κs = search needs
+
+integer-highs-requires : tie.Need-integer-highs-requires
+integer-highs-requires c κs = search needs
+
+slice-aggregate-table-fault : tie.Need-slice-aggregate-table-fault
+slice-aggregate-table-fault c = search needs
+
+slice-aggregate-table-fault-2 : tie.Need-slice-aggregate-table-fault-2
+slice-aggregate-table-fault-2 c = search needs
+
+slice-aggregate-table-fault-3 : tie.Need-slice-aggregate-table-fault-3
+slice-aggregate-table-fault-3 c = search needs
+
+slice-aggregate-table-fault-4 : tie.Need-slice-aggregate-table-fault-4
+slice-aggregate-table-fault-4 c = search needs
+
+table-fault-requires : tie.Need-table-fault-requires
+table-fault-requires c κs = search needs
+
+returns : tie.Need-returns
+returns c = search (fault-first, sheetD-judged)
+
+slice-aggregate-listed : tie.Need-slice-aggregate-listed
+slice-aggregate-listed c = search needs
+
+listed-requires : tie.Need-listed-requires
+listed-requires c κs = search needs
+
+slice-aggregate-listed-2 : tie.Need-slice-aggregate-listed-2
+slice-aggregate-listed-2 c = search needs
+
+listed-requires-2 : tie.Need-listed-requires-2
+listed-requires-2 c κs = search needs
+
+returns-2 : tie.Need-returns-2
+returns-2 c = search (is-listed, sheetD-judged, both)
+
+returns-3 : tie.Need-returns-3
+returns-3 c = search (not-listed, sheetD-judged, both)
+
+pub sheet-d-fault-spec : {M : Type 1} → statement M
+sheet-d-fault-spec =
+    tie.close
+    (tie.spec
+    integer-starts-requires
+    integer-widths-requires
+    integer-lows-requires
+    integer-highs-requires
+    slice-aggregate-table-fault
+    slice-aggregate-table-fault-2
+    slice-aggregate-table-fault-3
+    slice-aggregate-table-fault-4
+    table-fault-requires
+    returns
+    slice-aggregate-listed
+    listed-requires
+    slice-aggregate-listed-2
+    listed-requires-2
+    returns-2
+    returns-3)

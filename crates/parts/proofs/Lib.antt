@@ -1,0 +1,9 @@
+pub mod Records
+pub mod Numbers
+pub mod Faults
+pub mod Fractions
+pub mod Due
+pub mod Walked
+pub mod SheetWalks
+pub mod IndexWalks
+pub mod Laws

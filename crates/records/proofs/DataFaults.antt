@@ -1,0 +1,102 @@
+-- Data records in the code's own words: the columns used decide the fault of points and heights; a note's direction is asked behind its columns.
+-- Assumes nothing.
+use mathlib.Core.Path.{_≡_, refl, sym, _∙_}
+use mathlib.Core.Bool.{Bool, true, false, cond}
+use mathlib.Core.List.{List, [], _∷_}
+use Prim.Native.Nat.{ℕ, zero, suc, _+_, _*_}
+use native.Mathlib.Omega.{arith}
+use borrow.Author.Tests.{eq-eqb, ne-eqb, le-leb}
+use lib.IntN.{ℤ}
+use lib.ListN.{length}
+use mir.Syntax.{w64}
+use mir.Val.{SFits, toZ, ofZ}
+use types.Run.{OneOf, miss}
+use denote.Enum.Declared.{tagOf}
+use Rattle.format.specs.Basics.{first, unless}
+use Rattle.format.specs.Column.{integer}
+use Rattle.format.specs.Layout.{find, numberAt, integerAt, allFormed, allInside, columnFault, dataNote, dataAttribute}
+use Rattle.format.specs.Record.{nothing, notes, dataColumns, directionOk, dataFault}
+use Rattle.columns.specs.InRecord.{columnAt}
+use Rattle.columns.proofs.Numbers.{back}
+use Rattle.data_columns.specs.Columns.{eachFormed, columnsFormed}
+use Rattle.data_columns.proofs.Records.{alone, columnFault-3D, columnFault-2D, columnFault-net, columnFault-grid}
+use Rattle.layout_faults.specs.Faults.{faultIn}
+use Rattle.layout_faults.proofs.Laws.{fault-in-record, integer-is}
+use Rattle.records.specs.declared.Held.{Held}
+use Rattle.records.specs.declared.Held.the-variants.{Nothing, Points3D, Points2D, Triangles, Heights, Notes, Attributes}
+use Rattle.records.specs.Entry.{toData, dataFaultOf}
+use Rattle.records.specs.Steps.{numberIn, columnsUsed, directionIn}
+use Rattle.records.proofs.Held.{the-type}
+use Rattle.records.proofs.Numbers.{stated}
+
+-- ---- `note_fault`
+
+first-some : (a b : ℕ) → (a ≡ 0 → ⊥) → a ≡ first a b
+first-some zero b h = absurd (h refl)
+first-some (suc a) b h = refl
+
+module _ (l : List ℕ) (whole : length l ≡ 84) where
+  note-rule : (upright : ℕ) (direction : ℤ) → upright ≡ numberIn l 0 1 → direction ≡ integer (columnAt l 1 7) → directionIn upright direction ≡ directionOk l
+  unfolding directionOk directionIn find dataNote
+  note-rule upright direction u d =
+      let u′ : upright ≡ numberAt dataNote "upright" l = u ∙ stated l whole dataNote "upright" 0 1 _ refl refl in
+      let d′ : direction ≡ integerAt dataNote "direction" l = d ∙ sym (integer-is dataNote "direction" 1 7 _ refl refl l whole) in
+      rw (u′, d′)
+
+  module _ (f : ℕ) (e : f ≡ faultIn dataNote l) where
+    own-note : columnFault dataNote l ≡ f
+    own-note = sym (fault-in-record dataNote l whole) ∙ sym e
+
+    pub note-refused : (f ≡ 0 → ⊥) → f ≡ dataFault notes 0 l
+    unfolding dataFault dataColumns
+    note-refused some = rw own-note (first-some f (unless (directionOk l) 6) some)
+
+    module _ (upright : ℕ) (direction : ℤ) (r : Bool) (none : f ≡ 0) (u : upright ≡ numberIn l 0 1) (d : direction ≡ integer (columnAt l 1 7)) (fits : SFits w64 direction) (q : r ≡ directionIn upright (toZ w64 (ofZ w64 direction))) where
+      judged : dataFault notes 0 l ≡ unless r 6
+      unfolding dataFault dataColumns
+      judged =
+          let p : r ≡ directionIn upright direction = q ∙ rw (back direction fits) in
+          rw (own-note ∙ none, ← note-rule upright direction u d, ← p)
+
+      pub note-passed : r ≡ true → 0 ≡ dataFault notes 0 l
+      note-passed t = sym (judged ∙ rw t)
+
+      pub note-fails : r ≡ false → 6 ≡ dataFault notes 0 l
+      note-fails t = sym (judged ∙ rw t)
+
+-- ---- `data_fault`
+
+pub no-data-record : (l : List ℕ) (held : Held) (behind : ℕ) → (length l ≡ 84 → ⊥) → 5 ≡ dataFaultOf l held behind
+unfolding dataFaultOf
+no-data-record l held behind h = rw (ne-eqb (length l) 84 h)
+
+module _ (l : List ℕ) (held : Held) (behind : ℕ) (whole : length l ≡ 84) where
+  pub of-note : (r : ℕ) → held ≡ Notes → r ≡ dataFault notes 0 l → r ≡ dataFaultOf l held behind
+  unfolding dataFaultOf dataFault dataColumns
+  of-note r h e = rw (eq-eqb (length l) 84 whole, h) e
+
+  -- columns that are well formed have no other fault
+  no-columns : columnsFormed l 0 0 ≡ true
+  unfolding columnsFormed eachFormed
+  no-columns = rw (le-leb (0 + 0 * 7) (length l) (omega arith))
+
+  by-columns : (h : Held) → OneOf (0 ∷ 1 ∷ 2 ∷ 3 ∷ 4 ∷ 6 ∷ []) (tagOf the-type h) → dataFault (toData h) behind l ≡ cond (columnsFormed l 0 (columnsUsed h behind)) 0 5
+  unfolding dataFault dataColumns columnsUsed columnFault allFormed allInside dataAttribute
+  by-columns Nothing t = rw no-columns
+  by-columns (Points3D count) t = columnFault-3D l l 0 (alone l whole) (omega arith) count behind
+  by-columns (Points2D count) t = columnFault-2D l l 0 (alone l whole) (omega arith) count behind
+  by-columns (Triangles count) t = columnFault-net l l 0 (alone l whole) (omega arith) count behind
+  by-columns (Heights count) t = columnFault-grid l l 0 (alone l whole) (omega arith) count behind
+  by-columns Notes t = absurd (miss (0 ∷ 1 ∷ 2 ∷ 3 ∷ 4 ∷ 6 ∷ []) 5 tt t)
+  by-columns Attributes t = rw no-columns
+
+  module _ (t : OneOf (0 ∷ 1 ∷ 2 ∷ 3 ∷ 4 ∷ 6 ∷ []) (tagOf the-type held)) (used : ℕ) (u : used ≡ columnsUsed held behind) (r : Bool) (e : r ≡ columnsFormed l 0 used) where
+    judged-by-columns : dataFaultOf l held behind ≡ cond r 0 5
+    unfolding dataFaultOf
+    judged-by-columns = rw (eq-eqb (length l) 84 whole, e, u) (by-columns held t)
+
+    pub columns-pass : r ≡ true → 0 ≡ dataFaultOf l held behind
+    columns-pass g = sym (judged-by-columns ∙ rw g)
+
+    pub columns-fail : r ≡ false → 5 ≡ dataFaultOf l held behind
+    columns-fail g = sym (judged-by-columns ∙ rw g)

@@ -1,0 +1,38 @@
+-- `records::note_fault` meets its contract: its columns, then its direction. Assumes nothing.
+use Rattle.records.proofs.DataFaults.{note-refused, note-passed, note-fails}
+use borrow.Author.Needs.{needs}
+use Rattle.records.proofs.note_fault.Statement.{statement}
+use Rattle.records.proofs.note_fault.Tie as tie
+
+data-note-fault-requires : tie.Need-data-note-fault-requires
+data-note-fault-requires c κs = search needs
+
+returns : tie.Need-returns
+returns c = search note-refused
+
+number-requires : tie.Need-number-requires
+number-requires c κs = search needs
+
+integer-requires : tie.Need-integer-requires
+integer-requires c κs = search needs
+
+is-direction-requires : tie.Need-is-direction-requires
+is-direction-requires c κs = search needs
+
+returns-2 : tie.Need-returns-2
+returns-2 c = search note-passed
+
+returns-3 : tie.Need-returns-3
+returns-3 c = search note-fails
+
+pub note-fault-spec : {M : Type 1} → statement M
+note-fault-spec =
+    tie.close
+    (tie.spec
+    data-note-fault-requires
+    returns
+    number-requires
+    integer-requires
+    is-direction-requires
+    returns-2
+    returns-3)

@@ -1,0 +1,153 @@
+// One record of a sheet's body: what a header or an item states, and the first fault of its own columns; the first fault of a data record; and
+// whether a header states the counts of a tally.
+ghost use mathlib.Core.Path.{_≡_};
+ghost use Prim.Native.Nat.{_<_};
+ghost use lib.ListN.{length};
+ghost use Rattle.format.specs.Record.{typeOf, countIn, notes, dataFault};
+ghost use Rattle.records.specs.Entry.{entryOf, dataFaultOf, statesCounts};
+ghost use Rattle.records.specs.Steps.{codeOf};
+
+mod data;
+mod items;
+mod reading;
+mod rules;
+
+pub use items::Entry;
+use layouts::DataNote;
+use layouts::Header;
+
+// What an item's data records hold: so many points in 3D or 2D, triangles or heights; a note; attributes.
+pub enum Held {
+    Nothing,
+    Points3D(usize),
+    Points2D(usize),
+    Triangles(usize),
+    Heights(usize),
+    Notes,
+    Attributes,
+}
+
+// What the two type bytes of a record say.
+enum TypeCode {
+    Header,
+    Element(usize),
+    Grid,
+    Net,
+    Other,
+}
+
+fn read_type(record: &[u8]) -> TypeCode
+    requires { ⌜ length (now «record») ≡ 84 ⌝ }
+    ensures { λ r. ⌜ r ≡ codeOf (typeOf (now («record» .entry))) ⌝ }
+{
+    let letter = record[0];
+    let next = record[1];
+    if letter == b'E' {
+        if next < b'1' {
+            return TypeCode::Other;
+        }
+        if b'8' < next {
+            return TypeCode::Other;
+        }
+        return TypeCode::Element((next - b'0') as usize);
+    }
+    if next != b' ' {
+        return TypeCode::Other;
+    }
+    match letter {
+        b'H' => TypeCode::Header,
+        b'G' => TypeCode::Grid,
+        b'T' => TypeCode::Net,
+        _ => TypeCode::Other,
+    }
+}
+
+// What stands where a header or an item is due. What is no record of 84 bytes is neither.
+pub fn entry(record: &[u8]) -> Entry
+    ensures { λ r. ⌜ r ≡ entryOf (now («record» .entry)) ⌝ }
+{
+    if record.len() != 84 {
+        return items::refused(4);
+    }
+    let code = read_type(record);
+    match code {
+        TypeCode::Header => items::header_entry(record),
+        TypeCode::Element(number) => items::element_entry(record, number),
+        TypeCode::Grid => items::grid_entry(record),
+        TypeCode::Net => items::net_entry(record),
+        TypeCode::Other => items::refused(4),
+    }
+}
+
+// A count that a header states, by kind: nine I5 in a row, and I1 for grid and net.
+fn stated_count(record: &[u8], kind: usize) -> usize
+    requires { ⌜ (length (now «record») ≡ 84) × (kind < 10) ⌝ }
+    ensures { λ r. ⌜ r ≡ countIn (now («record» .entry)) kind ⌝ }
+{
+    if kind < 9 {
+        let start = Header::GROUPS_START + kind * Header::GROUPS_WIDTH;
+        return reading::number(record, start, Header::GROUPS_WIDTH);
+    }
+    reading::number(
+        record,
+        Header::GRID_AND_NET_START,
+        Header::GRID_AND_NET_WIDTH,
+    )
+}
+
+// A header states exactly these ten counts, and their sum as its total.
+pub fn counts_agree(record: &[u8], tally: &[usize; 10]) -> bool
+    ensures { λ r. ⌜ r ≡ statesCounts (now («record» .entry)) (now (tally .entry)) ⌝ }
+{
+    if record.len() != 84 {
+        return false;
+    }
+    let mut agree = true;
+    let mut sum: usize = 0;
+    let mut kind = 0;
+    while kind < 10 {
+        let stated = stated_count(record, kind);
+        agree = agree & (stated == tally[kind]);
+        sum += stated;
+        kind += 1;
+    }
+    let total = reading::number(record, Header::TOTAL_START, Header::TOTAL_WIDTH);
+    agree & (total == sum)
+}
+
+// A note record: its own columns, then its direction.
+fn note_fault(record: &[u8]) -> u8
+    requires { ⌜ length (now «record») ≡ 84 ⌝ }
+    ensures { λ r. ⌜ r ≡ dataFault notes 0 (now («record» .entry)) ⌝ }
+{
+    let fault = layout_faults::data_note_fault(record);
+    if fault != 0 {
+        return fault;
+    }
+    let upright = reading::number(record, DataNote::UPRIGHT_START, DataNote::UPRIGHT_WIDTH);
+    let direction = reading::integer(record, DataNote::DIRECTION_START, DataNote::DIRECTION_WIDTH);
+    if data::is_direction(upright, direction) {
+        0
+    } else {
+        6
+    }
+}
+
+// The first fault of a data record, by what its item's data records hold and how many of them stand behind this one; 0 for none. Points and
+// heights are read for form alone, those after the last used one not at all.
+pub fn data_fault(record: &[u8], held: Held, behind: usize) -> u8
+    ensures { λ r. ⌜ r ≡ dataFaultOf (now («record» .entry)) held behind ⌝ }
+{
+    if record.len() != 84 {
+        return 5;
+    }
+    if let Held::Notes = held {
+        return note_fault(record);
+    }
+    let used = data::columns_used(held, behind);
+    if data_columns::columns_well_formed(record, 0, used) {
+        0
+    } else {
+        5
+    }
+}
