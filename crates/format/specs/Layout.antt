@@ -47,23 +47,24 @@ pub record Col : Type 0 where
   pub width : ℕ
   pub what : What
 
-abbrev pub A : String → ℕ → ℕ → Col
-A n s w = record { name = n; start = s; width = w; what = text }
+-- the kinds of columns as document 01 writes them: A8, X4, I5; and the one that holds an integer or spaces
+abbrev pub A : (name : String) → (start width : ℕ) → Col
+A name start width = record { name = name; start = start; width = width; what = text }
 
-abbrev pub X : ℕ → ℕ → Col
-X s w = record { name = ""; start = s; width = w; what = blank }
+abbrev pub X : (start width : ℕ) → Col
+X start width = record { name = ""; start = start; width = width; what = blank }
 
-abbrev pub I : String → ℕ → ℕ → Rule → Col
-I n s w r = record { name = n; start = s; width = w; what = integral r }
+abbrev pub I : (name : String) → (start width : ℕ) → Rule → Col
+I name start width rule = record { name = name; start = start; width = width; what = integral rule }
 
-abbrev pub IorX : String → ℕ → ℕ → Col
-IorX n s w = record { name = n; start = s; width = w; what = integralOrSpaces }
+abbrev pub IorX : (name : String) → (start width : ℕ) → Col
+IorX name start width = record { name = name; start = start; width = width; what = integralOrSpaces }
 
 -- the bytes of a record from `start` on, `width` of them; and the record with other bytes there
-unfoldable pub column : ℕ → ℕ → List ℕ → List ℕ
+unfoldable pub column : (start width : ℕ) → List ℕ → List ℕ
 column start width r = take width (drop start r)
 
-unfoldable pub splice : ℕ → ℕ → List ℕ → List ℕ → List ℕ
+unfoldable pub splice : (start width : ℕ) → (new : List ℕ) → List ℕ → List ℕ
 splice start width new r = take start r ++ (new ++ drop (start + width) r)
 
 -- spaces alone
@@ -71,18 +72,19 @@ abbrev pub spaces : List ℕ → Bool
 spaces [] = true
 spaces (b ∷ bs) = eqb b 32 && spaces bs
 
--- a column of a layout, by its name; no layout has a name twice, and every name used below is there (`distinct`, `has`)
-unfoldable pub find : String → List Col → Col
-find n [] = X 0 0
-find n (c ∷ cs) = cond (eqt n (c .name)) c (find n cs)
+-- a column of a layout, by its name. That no layout has a name twice is `names-distinct` below; that every name used is a column of its
+-- layout is `names-there` in Record, Sheet and Index
+unfoldable pub find : (name : String) → List Col → Col
+find name [] = X 0 0
+find name (c ∷ cs) = cond (eqt name (c .name)) c (find name cs)
 
-abbrev pub has : List Col → String → Bool
-has [] n = false
-has (c ∷ cs) n = eqt n (c .name) || has cs n
+abbrev pub has : List Col → (name : String) → Bool
+has [] name = false
+has (c ∷ cs) name = eqt name (c .name) || has cs name
 
-abbrev pub hasAll : List Col → List String → Bool
-hasAll l [] = true
-hasAll l (n ∷ ns) = has l n && hasAll l ns
+abbrev pub hasAll : List Col → (names : List String) → Bool
+hasAll layout [] = true
+hasAll layout (n ∷ ns) = has layout n && hasAll layout ns
 
 abbrev pub distinct : List Col → Bool
 distinct [] = true
@@ -92,11 +94,11 @@ distinct (c ∷ cs) = (eqt (c .name) "" || not (has cs (c .name))) && distinct c
 abbrev pub bytesOf : Col → List ℕ → List ℕ
 bytesOf c r = column (c .start) (c .width) r
 
-unfoldable pub integerAt : List Col → String → List ℕ → ℤ
-integerAt l n r = integer (columnOf (bytesOf (find n l) r))
+unfoldable pub integerAt : List Col → (name : String) → List ℕ → ℤ
+integerAt layout name r = integer (columnOf (bytesOf (find name layout) r))
 
-unfoldable pub numberAt : List Col → String → List ℕ → ℕ
-numberAt l n r = numberOf (columnOf (bytesOf (find n l) r))
+unfoldable pub numberAt : List Col → (name : String) → List ℕ → ℕ
+numberAt layout name r = numberOf (columnOf (bytesOf (find name layout) r))
 
 -- 5: "an integer column is malformed"
 abbrev pub isFormed : What → List ℕ → Bool
@@ -122,7 +124,7 @@ allInside (c ∷ cs) r = isInside (c .what) (bytesOf c r) && allInside cs r
 
 -- the first fault of a record's own columns: every 5 of a record comes before its 6
 unfoldable pub columnFault : List Col → List ℕ → ℕ
-columnFault l r = first (unless (allFormed l r) 5) (unless (allInside l r) 6)
+columnFault layout r = first (unless (allFormed layout r) 5) (unless (allInside layout r) 6)
 
 -- where the columns end, if each starts where the one before it ends; else 0
 abbrev pub laid : ℕ → List Col → ℕ

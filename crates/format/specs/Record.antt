@@ -287,15 +287,15 @@ typeColumns other = []
 
 -- ---- "rewrites .. columns in written form"
 -- a column of a layout with another number in it
-unfoldable pub rewrite : List Col → String → ℕ → List ℕ → List ℕ
-rewrite l n x r = splice ((find n l) .start) ((find n l) .width) (written ((find n l) .width) (pos x)) r
+unfoldable pub rewrite : List Col → (name : String) → (number : ℕ) → List ℕ → List ℕ
+rewrite layout name number r = splice ((find name layout) .start) ((find name layout) .width) (written ((find name layout) .width) (pos number)) r
 
--- "total and own kind in the header above": one more, one less of kind j
-unfoldable pub raise : ℕ → List ℕ → List ℕ
-raise j r = rewrite header (countName j) (countIn r j + 1) (rewrite header "total" (numberAt header "total" r + 1) r)
+-- "total and own kind in the header above": one more, one less of this kind
+unfoldable pub raise : (kind : ℕ) → List ℕ → List ℕ
+raise kind r = rewrite header (countName kind) (countIn r kind + 1) (rewrite header "total" (numberAt header "total" r + 1) r)
 
-unfoldable pub lower : ℕ → List ℕ → List ℕ
-lower j r = rewrite header (countName j) (countIn r j - 1) (rewrite header "total" (numberAt header "total" r - 1) r)
+unfoldable pub lower : (kind : ℕ) → List ℕ → List ℕ
+lower kind r = rewrite header (countName kind) (countIn r kind - 1) (rewrite header "total" (numberAt header "total" r - 1) r)
 
 -- every name that stands above is a column of its layout
 names-there : hasAll header ("level" ∷ "total" ∷ "groups" ∷ "area" ∷ "line" ∷ "circle" ∷ "arc" ∷ "point" ∷ "direction" ∷ "note" ∷ "attribute" ∷ "grid and net" ∷ []) && not (has header "none") && hasAll element ("level" ∷ "data kind" ∷ "data count" ∷ "records" ∷ []) && hasAll gridHeader ("level" ∷ "rows" ∷ "columns" ∷ "records" ∷ "repeat" ∷ []) && hasAll netHeader ("level" ∷ "triangles" ∷ "records" ∷ []) && hasAll dataNote ("upright" ∷ "direction" ∷ []) ≡ true

@@ -95,8 +95,11 @@ fn stated_count(record: &[u8], kind: usize) -> usize
     )
 }
 
+// Counts by kind, as a header has them: groups, the eight types of elements, grid and net.
+pub type Tally = [usize; 10];
+
 // A header states exactly these ten counts, and their sum as its total.
-pub fn counts_agree(record: &[u8], tally: &[usize; 10]) -> bool
+pub fn counts_agree(record: &[u8], tally: &Tally) -> bool
     ensures { λ r. ⌜ r ≡ statesCounts (now («record» .entry)) (now (tally .entry)) ⌝ }
 {
     if record.len() != 84 {

@@ -1,0 +1,33 @@
+-- What judging answered, as a line. Assumes nothing.
+use mathlib.Core.Path.{_≡_, refl, _∙_}
+use mathlib.Core.List.{List, [], _∷_, _++_, append-assoc}
+use Prim.Native.Nat.{ℕ, _≤_, _<_}
+use borrow.Author.Tests.{le-leb, lt-leb}
+use lib.ListN.{length}
+use Rattle.format.specs.Text.{bytes}
+use Rattle.format.specs.Basics.{Outcome}
+use Rattle.format.specs.Answers.{judgedAnswer}
+use Rattle.format.specs.Column.{digits}
+use Rattle.format.specs.declared.Judged.{Judged}
+use Rattle.format.specs.declared.Judged.the-variants as Judged
+use Rattle.format.specs.Program.{judgeInput, line, printed}
+use Rattle.report.specs.Report.{lineTo, reportTo}
+use Rattle.report.specs.Steps.{numberLine, lineFor}
+
+pub accepted-line : (j : Judged) (records items : ℕ) (out : List ℕ) (o : Outcome ℕ) → j ≡ Judged.Accepted records items → o ≡ lineTo (numberLine (bytes "accepted ") records (bytes " records ") items (bytes " items" ++ 10 ∷ [])) out → o ≡ lineTo (lineFor j) out
+unfolding numberLine lineFor judgedAnswer
+accepted-line j records items out o e p = p ∙ rw (e, append-assoc (bytes "accepted " ++ digits records ++ bytes " records " ++ digits items) (bytes " items") (10 ∷ [])) refl
+
+pub refused-line : (j : Judged) (number at : ℕ) (out : List ℕ) (o : Outcome ℕ) → j ≡ Judged.Refused number at → o ≡ lineTo (numberLine (bytes "refused ") number (bytes " at record ") at (10 ∷ [])) out → o ≡ lineTo (lineFor j) out
+unfolding numberLine lineFor judgedAnswer
+refused-line j number at out o e p = p ∙ rw e refl
+
+-- ---- the whole line: what judging the input answered, or `too long`
+
+pub judged-line : (input out : List ℕ) (j : Judged) (o : Outcome ℕ) → length input ≤ 65520 → judgedAnswer j ≡ judgeInput input → o ≡ lineTo (lineFor j) out → o ≡ reportTo input out
+unfolding reportTo printed line lineFor
+judged-line input out j o h e p = p ∙ rw (e, le-leb (length input) 65520 h) refl
+
+pub long-line : (input out : List ℕ) (o : Outcome ℕ) → 65520 < length input → o ≡ lineTo (bytes "too long" ++ 10 ∷ []) out → o ≡ reportTo input out
+unfolding reportTo printed line
+long-line input out o h p = p ∙ rw (lt-leb (length input) 65520 h) refl

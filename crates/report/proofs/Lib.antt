@@ -1,0 +1,6 @@
+pub mod Answers
+pub mod Digits
+pub mod Laws
+pub mod Lines
+pub mod Starts
+pub mod Texts

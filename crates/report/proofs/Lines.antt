@@ -1,0 +1,87 @@
+-- A line put into a buffer piece by piece: the buffer holds the whole line. Assumes nothing.
+use mathlib.Core.Path.{_≡_, refl, ap, sym, _∙_}
+use mathlib.Core.List.{List, _++_, append-assoc}
+use Prim.Native.Nat.{ℕ, _+_, _≤_, _<_}
+use native.Mathlib.Nat.{zero-add}
+use native.Mathlib.Omega.{arith}
+use borrow.Author.Tests.{le-leb, lt-leb}
+use lib.ListN.{length, take, drop, length-append}
+use lib.Seq.{take-at, drop-at, drop-drop, length-take-le}
+use Rattle.format.specs.Answers.{writtenAnswer}
+use Rattle.format.specs.declared.Written.the-variants as Written
+use Rattle.format.specs.Column.{digits}
+use Rattle.report.specs.Report.{lineTo}
+use Rattle.report.specs.Steps.{placed, numberLine}
+
+-- ---- a text placed behind another
+
+module _ (l s t : List ℕ) (at : ℕ) (h : at + length s ≤ length l) where
+  front : List ℕ
+  front = take at l ++ s
+
+  length-front : length front ≡ at + length s
+  unfolding front
+  length-front = rw (length-append (take at l) s, length-take-le at l (omega arith)) refl
+
+  whole : placed l at s ≡ front ++ drop (at + length s) l
+  unfolding placed front
+  whole = sym (append-assoc (take at l) s (drop (at + length s) l))
+
+  rest : drop (at + length s + length t) (placed l at s) ≡ drop (at + length s + length t) l
+  rest =
+      sym (drop-drop (length t) (at + length s) (placed l at s))
+      ∙ ap (drop (length t)) (ap (drop (at + length s)) whole ∙ drop-at front (drop (at + length s) l) (at + length s) length-front)
+      ∙ drop-drop (length t) (at + length s) l
+
+  begin : take (at + length s) (placed l at s) ≡ front
+  begin = ap (take (at + length s)) whole ∙ take-at front (drop (at + length s) l) (at + length s) length-front
+
+  pub placed-behind : placed (placed l at s) (at + length s) t ≡ placed l at (s ++ t)
+  unfolding placed front
+  placed-behind =
+      let n : at + length (s ++ t) ≡ at + length s + length t = omega (arith, length-append s t) in
+      rw (begin, rest, n) (simp append-assoc)
+
+pub pair-placed : (l l₁ l₂ s t : List ℕ) (at : ℕ) → at + length s + length t ≤ length l → l₁ ≡ placed l at s → l₂ ≡ placed l₁ (at + length s) t → l₂ ≡ placed l at (s ++ t)
+pair-placed l l₁ l₂ s t at h p q = q ∙ rw p (placed-behind l s t at (omega arith))
+
+-- ---- a line at the start of a buffer
+
+pub no-room : (line out : List ℕ) → length out < length line → record { answer = writtenAnswer (Written.Refused 15 0); bytes = out } ≡ lineTo line out
+unfolding lineTo writtenAnswer
+no-room line out h = simp (lt-leb (length line) (length out) h)
+
+pub put-whole : (line out out′ : List ℕ) → length line ≤ length out → out′ ≡ placed out 0 line → record { answer = writtenAnswer (Written.Bytes (length line)); bytes = out′ } ≡ lineTo line out
+unfolding lineTo placed writtenAnswer
+put-whole line out out′ h e = rw (e, zero-add (length line), le-leb (length line) (length out) h) refl
+
+-- ---- a text, a number, a text, a number and a text: m and n are how many digits the numbers have
+
+module _ (first second third : List ℕ) (a b m n : ℕ) (p : m ≡ length (digits a)) (q : n ≡ length (digits b)) where
+  length-numbers : length first + m + length second + n + length third ≡ length (numberLine first a second b third)
+  unfolding numberLine
+  length-numbers = simp length-append (omega arith)
+
+  pub no-room-numbers : (out : List ℕ) → length out < length first + m + length second + n + length third → record { answer = writtenAnswer (Written.Refused 15 0); bytes = out } ≡ lineTo (numberLine first a second b third) out
+  no-room-numbers out h = no-room (numberLine first a second b third) out (rw length-numbers at h)
+
+  parts-numbers : first ++ digits a ++ (second ++ digits b) ++ third ≡ numberLine first a second b third
+  unfolding numberLine
+  parts-numbers = simp append-assoc
+
+  pub put-numbers : (out out₁ out₂ out₃ : List ℕ) (i j : ℕ) → length first + m + length second + n + length third ≤ length out
+      → out₁ ≡ placed out 0 (first ++ digits a) → i ≡ 0 + length first + length (digits a)
+      → out₂ ≡ placed out₁ i (second ++ digits b) → j ≡ i + length second + length (digits b)
+      → out₃ ≡ placed out₂ j third
+      → record { answer = writtenAnswer (Written.Bytes (length first + m + length second + n + length third)); bytes = out₃ } ≡ lineTo (numberLine first a second b third) out
+  put-numbers out out₁ out₂ out₃ i j h e₁ p₁ e₂ p₂ e₃ =
+      let s : List ℕ = first ++ digits a in
+      let t : List ℕ = second ++ digits b in
+      let x : length s ≡ length first + length (digits a) = length-append first (digits a) in
+      let y : length t ≡ length second + length (digits b) = length-append second (digits b) in
+      let z : length (s ++ t) ≡ length s + length t = length-append s t in
+      let i-is : i ≡ 0 + length s = omega arith in
+      let j-is : j ≡ 0 + length (s ++ t) = omega arith in
+      let two : out₂ ≡ placed out 0 (s ++ t) = pair-placed out out₁ out₂ s t 0 (omega arith) e₁ (rw i-is at e₂) in
+      let three : out₃ ≡ placed out 0 (s ++ t ++ third) = pair-placed out out₂ out₃ (s ++ t) third 0 (omega arith) two (rw j-is at e₃) in
+      rw length-numbers (put-whole (numberLine first a second b third) out out₃ (rw length-numbers at h) (rw parts-numbers at three))
