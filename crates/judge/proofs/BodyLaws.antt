@@ -95,12 +95,13 @@ module _ (file : List ℕ) (n k opened at : ℕ) (tally : List ℕ) (found low :
       (λ q kind. rw (views-more file n at h) (ends-uncounted opened (suc at) r rest (s .well) shallow (rw (views-more file n at h) at q) kind))
       (λ o. omega (arith, level-some opened (suc at) r rest (s .well))))
 
-  pub going-on : (c : Walked) (e : Entry) (low′ : ℕ) → Sound file at opened e → Child file n at opened c → c .number ≡ 0 → low′ ≡ first low (c .low) → Going file n k opened (c .next) (set tally (e .kind) (getD tally (e .kind) 0 + 1)) (found + c .items) low′
-  going-on c e low′ s d z of =
+  -- a turn: one more of its kind, and what the child holds
+  pub going-on : (c : Walked) (e : Entry) (count low′ : ℕ) → Sound file at opened e → Child file n at opened c → c .number ≡ 0 → count ≡ getD tally (e .kind) 0 + 1 → low′ ≡ first low (c .low) → Going file n k opened (c .next) (set tally (e .kind) count) (found + c .items) low′
+  going-on c e count low′ s d z more of =
       let o = d .onward z in
       let f = d .further z in
       let in-it : e .kind < length tally = omega (arith, g .ten, s .kind-small) in
-      rw of (record {
+      rw (more, of) (record {
         onward = record { start = omega (arith, g .onward .start); within = o .within; few = omega (arith, g .onward .few) };
         young = λ j. omega (arith, g .young j, one-more tally (e .kind) j in-it, at-most (eqb (e .kind) j));
         ten = length-set tally (e .kind) _ ∙ g .ten;

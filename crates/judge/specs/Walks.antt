@@ -59,8 +59,8 @@ pub record Through (held : Data) (owner due i : ℕ) (rs : List View) (left i′
   pub wrong : countFault due i rs ≡ countFault left i′ rs′
 
 -- ---- Headers and items: from rs at one open level to rs′ at another nothing is wrong; between them stand `found` items, and `low` is the first
--- header among them whose counts differ. Counts are those of a file in which stage two finds nothing, hence the premise. What stands
--- between counts for no header of a level above the open one
+-- header among them whose counts differ, 0 for none. Counts are those of a file in which stage two finds nothing: that is the premise of `wrong`.
+-- What stands between counts for no header of a level lower than the open one
 pub record Joins (opened i : ℕ) (rs : List View) (opened′ i′ : ℕ) (rs′ : List View) (found low : ℕ) : Type 0 where
   pub same : faultFrom opened i rs ≡ faultFrom opened′ i′ rs′
   pub holds : items (entries rs) ≡ found + items (entries rs′)

@@ -1,5 +1,5 @@
-// Judging a sheet file and an index file, in the three stages of document 01. A record is read when the walk reaches it; counts are
-// kept by the way, and compared once nothing else is wrong.
+// Judging a sheet file and an index file, in the three stages of document 01. The walk of stage two also counts, so that stage three reads
+// no more than each header's own counts.
 use format::Judged;
 use parts::SheetPart;
 use records::Entry;
@@ -33,6 +33,7 @@ struct WalkedBody {
     tally: [usize; 10],
 }
 
+// A walk that found a fault.
 fn failed(number: u8, at: usize) -> Walked
     ensures { λ r. ⌜ (r .number ≡ number) × (r .at ≡ at) ⌝ }
 {
@@ -58,6 +59,7 @@ fn failed_body(number: u8, at: usize) -> WalkedBody
     }
 }
 
+// A walk that came to the record `next` without one.
 fn passed(next: usize, items: usize, low: usize) -> Walked
     ensures { λ r. ⌜ r ≡ passedOf next items low ⌝ }
 {
@@ -83,7 +85,7 @@ fn passed_body(next: usize, items: usize, low: usize, tally: [usize; 10]) -> Wal
     }
 }
 
-// The first of two that is not 0.
+// The first of two numbers that is not 0; 0 is none.
 fn first_of(a: usize, b: usize) -> usize
     ensures { λ r. ⌜ r ≡ first a b ⌝ }
 {
@@ -124,12 +126,14 @@ fn lowest_level(kind: usize) -> usize
     if kind == 0 { 1 } else { 2 }
 }
 
+// The highest.
 fn highest_level(kind: usize) -> usize
     ensures { λ r. ⌜ r ≡ highestOf kind ⌝ }
 {
     if kind == 0 { 8 } else { 9 }
 }
 
+// From lowest to highest, and at most one above the open level.
 fn level_ok(kind: usize, level: usize, opened: usize) -> bool
     requires { ⌜ opened ≤ 8 ⌝ }
     ensures { λ r. ⌜ r ≡ levelFits kind level opened ⌝ }
@@ -222,9 +226,10 @@ fn walk_body(file: &[u8], n: usize, k: usize, opened: usize) -> WalkedBody
         if child.number != 0 {
             return failed_body(child.number, child.at);
         }
+        let found = child.items;
         at = child.next;
         tally[kind] = tally[kind] + 1;
-        items += child.items;
+        items += found;
         low = first_of(low, child.low);
     }
     passed_body(at, items, low, tally)

@@ -1,6 +1,7 @@
 ghost use mathlib.Core.Path.{_≡_};
 ghost use Rattle.format.specs.Layout.{dataGrid};
-ghost use Rattle.layouts.specs.Tables.{spansOf};
+ghost use Rattle.layouts.specs.Tables.{spansOf, startsOf, widthsOf, integers};
+use super::Bytes12;
 use super::Span;
 use super::Spans12;
 
@@ -81,5 +82,17 @@ impl DataGrid {
             Span(Self::HEIGHT_11_START, Self::HEIGHT_11_WIDTH),
             Span(Self::HEIGHT_12_START, Self::HEIGHT_12_WIDTH),
         ]
+    }
+
+    pub fn integer_starts() -> Bytes12
+        ensures { λ r. ⌜ r ≡ startsOf (integers dataGrid) ⌝ }
+    {
+        [0, 7, 14, 21, 28, 35, 42, 49, 56, 63, 70, 77]
+    }
+
+    pub fn integer_widths() -> Bytes12
+        ensures { λ r. ⌜ r ≡ widthsOf (integers dataGrid) ⌝ }
+    {
+        [7; 12]
     }
 }

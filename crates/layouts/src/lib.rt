@@ -5,7 +5,7 @@
 // - end: END, which is 84;
 // - columns: start and width of every column, those of the layout's table in crate format;
 // - integer_starts, integer_widths: those of its integer columns alone, as tables for a loop over them. The element's value, an integer or
-//   spaces, is not among them. Points and heights, twelve integers of seven bytes, have no such tables: they are checked in runs;
+//   spaces, is not among them. Points and heights are all twelve integers of seven bytes, so one table, that of the grid's data, serves them;
 // - integer_lows, integer_highs: the least and the greatest number allowed in each, of a list its ends. A layout whose integers may all
 //   have any sign has neither.
 mod data_2d;

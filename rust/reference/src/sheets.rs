@@ -199,7 +199,18 @@ pub fn large_grid(rows: usize, columns: usize) -> Vec<Vec<u8>> {
     out
 }
 
-/// The sheet part for an element and a record count; `corners` are the wholes and fractions to show.
+/// A layer header with so many of some kinds under it.
+pub fn layer(counts: &[(usize, usize)]) -> Vec<u8> {
+    let mut r = Random(1);
+    let total: usize = counts.iter().map(|(_, n)| n).sum();
+    let mut head = common(&mut r, &Layouts::shared().header, "H ", 1).number(&mut r, "total", total as i64);
+    for (kind, n) in counts {
+        head = head.number(&mut r, COUNTS[*kind], *n as i64);
+    }
+    head.filled(&mut r)
+}
+
+/// The sheet part for an element and a record count.
 pub fn sheet_part(r: &mut Random, elements: usize, records: usize) -> Vec<Vec<u8>> {
     let all = Layouts::shared();
     let level = *r.pick(&[500i64, 1000, 2500, 5000, 10000]);

@@ -42,7 +42,7 @@ fn the_technicians_grid() {
     let mut body = vec![Vec::new()];
     body.extend(sheets::large_grid(1_000, 840));
     assert_eq!(body.len(), 70_002);
-    body[0] = b"H 2100 0   0   0 1    1    0    0    0    0    0    0    0    0    012408         0 ".to_vec();
+    body[0] = sheets::layer(&[(9, 1)]);
     let file = sheets::sheet_of(&mut Random(3), body, 1);
     let counts = judge::sheet(&file, file.len()).unwrap();
     assert_eq!(counts.items, 1);

@@ -71,8 +71,10 @@ sound-at t c = sound _ _ _ _ _ _ (c .before .before .before .before .before .bef
 -- whichever walk gave the child, it is one
 child-at : (t : ℕ) (c : walk-body-lts.Joined3 (body-claims t) (walk-body-at t) walk-body.Post walk-body-Inv-loop walk-body-μ-loop) → let a = c .before .before .before .before .before .before .before .before .before .args in Child (now (a .file)) (a .n) (c .before .before .before .before .before .before .before .loop .at) (a .opened) (c .if3 .child)
 child-at t c =
-    let s = sound-at t (c .before .before .before) in
-    ⊎-elim (λ x. rw (x .2) (x .1 .ensures)) (λ x. rw (x .2) (item-child _ _ _ (c .before .before .before .before .before .before .loop-test .taken) _ _ s (c .before .if2 .left) (x .0 .left) _ (x .1 .ensures))) (c .if3 .came)
+    let a = c .before .before .before .before .before .before .before .before .before .args in
+    let e = c .before .before .before .before .before .entry-at .result in
+    let deep : a .opened < e .level = omega (arith, c .before .if2 .left) in
+    ⊎-elim (λ x. rw (x .2) (x .1 .ensures)) (λ x. rw (x .2) (item-child _ _ _ (c .before .before .before .before .before .before .loop-test .taken) _ _ (sound-at t (c .before .before .before)) deep (x .0 .left) _ (x .1 .ensures))) (c .if3 .came)
 
 -- its kind has a place in the tally
 kind-at : (t : ℕ) (c : walk-body-lts.Else4 (body-claims t) (walk-body-at t) walk-body.Post walk-body-Inv-loop walk-body-μ-loop) → c .before .before .before .before .before .before .before .entry-at .result .kind ≤ 9
@@ -100,7 +102,11 @@ walk-body-passed-body-requires : (t : ℕ) → walk-body-lts.Need-passed-body-re
 walk-body-passed-body-requires t c κs = search needs
 
 walk-body-returns-2 : (t : ℕ) → walk-body-lts.Need-returns-2 (body-claims t) (walk-body-at t) walk-body.Post walk-body-Inv-loop walk-body-μ-loop
-walk-body-returns-2 t c = body-stops _ _ _ _ _ _ _ _ (c .before .before .before .before .before .before .before .loop .inv) _ _ (c .before .before .before .before .before .before .loop-test .taken) (sound-at t (c .before .before .before)) (c .before .if2 .taken) (c .passed-body .ensures)
+walk-body-returns-2 t c =
+    let a = c .before .before .before .before .before .before .before .before .before .args in
+    let e = c .before .before .before .before .before .entry-at .result in
+    let shallow : e .level ≤ a .opened = omega (arith, c .before .if2 .taken) in
+    body-stops _ _ _ _ _ _ _ _ (c .before .before .before .before .before .before .before .loop .inv) _ _ (c .before .before .before .before .before .before .loop-test .taken) (sound-at t (c .before .before .before)) shallow (c .passed-body .ensures)
 
 walk-body-walk-group-requires : (t : ℕ) → walk-body-lts.Need-walk-group-requires (body-claims t) (walk-body-at t) walk-body.Post walk-body-Inv-loop walk-body-μ-loop
 walk-body-walk-group-requires t c κs = let s = sound-at t (c .before .before .before) in let h = s .header-high (c .if3 .taken) in let d = c .before .if2 .left in (omega arith, (search needs, search needs, omega arith, record { well = s .well; header = s .header (c .if3 .taken); deep = omega arith }))
@@ -121,7 +127,10 @@ walk-body-array-read-tally : (t : ℕ) → walk-body-lts.Need-array-read-tally (
 walk-body-array-read-tally t c = omega (arith, kind-at t c)
 
 walk-body-add-tally : (t : ℕ) → walk-body-lts.Need-add-tally (body-claims t) (walk-body-at t) walk-body.Post walk-body-Inv-loop walk-body-μ-loop
-walk-body-add-tally t c = let g = c .before .before .before .before .before .before .before .before .before .loop .inv in omega (arith, g .young (c .before .before .before .before .before .before .before .entry-at .result .kind), g .onward .within)
+walk-body-add-tally t c =
+    let g = c .before .before .before .before .before .before .before .before .before .loop .inv in
+    let d = child-at t (c .before .before) in
+    omega (arith, g .young (c .before .before .before .before .before .before .before .entry-at .result .kind), d .onward (c .if4 .left))
 
 walk-body-mul-tally-2 : (t : ℕ) → walk-body-lts.Need-mul-tally-2 (body-claims t) (walk-body-at t) walk-body.Post walk-body-Inv-loop walk-body-μ-loop
 walk-body-mul-tally-2 t c = omega (arith, kind-at t c)
@@ -130,16 +139,21 @@ walk-body-array-write-tally : (t : ℕ) → walk-body-lts.Need-array-write-tally
 walk-body-array-write-tally t c = omega (arith, kind-at t c)
 
 walk-body-add-items : (t : ℕ) → walk-body-lts.Need-add-items (body-claims t) (walk-body-at t) walk-body.Post walk-body-Inv-loop walk-body-μ-loop
-walk-body-add-items t c = let g = going-on _ _ _ _ _ _ _ _ (c .before .before .before .before .before .before .before .before .before .before .loop .inv) _ _ _ (sound-at t (c .before .before .before .before .before .before)) (child-at t (c .before .before .before)) (c .before .if4 .left) refl in omega (arith, g .onward .few, g .onward .within)
+walk-body-add-items t c =
+    let g = going-on _ _ _ _ _ _ _ _ (c .before .before .before .before .before .before .before .before .before .loop .inv) _ _ _ _ (sound-at t (c .before .before .before .before .before)) (child-at t (c .before .before)) (c .if4 .left) refl refl in
+    omega (arith, g .onward)
 
 walk-body-first-of-requires : (t : ℕ) → walk-body-lts.Need-first-of-requires (body-claims t) (walk-body-at t) walk-body.Post walk-body-Inv-loop walk-body-μ-loop
 walk-body-first-of-requires t c κs = search needs
 
 walk-body-loop-less : (t : ℕ) → walk-body-lts.Need-loop-less (body-claims t) (walk-body-at t) walk-body.Post walk-body-Inv-loop walk-body-μ-loop
-walk-body-loop-less t c = let d = child-at t (c .before .before .before .before) in omega (arith, d .further (c .before .before .if4 .left), c .before .before .before .before .before .before .before .before .before .before .loop-test .taken)
+walk-body-loop-less t c =
+    let d = child-at t (c .before .before .before) in
+    omega (arith, d .further (c .before .if4 .left), c .before .before .before .before .before .before .before .before .before .loop-test .taken)
 
 walk-body-loop-again : (t : ℕ) → walk-body-lts.Need-loop-again (body-claims t) (walk-body-at t) walk-body.Post walk-body-Inv-loop walk-body-μ-loop
-walk-body-loop-again t c = going-on _ _ _ _ _ _ _ _ (c .before .before .before .before .before .before .before .before .before .before .before .loop .inv) _ _ _ (sound-at t (c .before .before .before .before .before .before .before)) (child-at t (c .before .before .before .before)) (c .before .before .if4 .left) (c .first-of .ensures)
+walk-body-loop-again t c =
+    going-on _ _ _ _ _ _ _ _ (c .before .before .before .before .before .before .before .before .before .before .loop .inv) _ _ _ _ (sound-at t (c .before .before .before .before .before .before)) (child-at t (c .before .before .before)) (c .before .if4 .left) refl (c .first-of .ensures)
 
 walk-body-passed-body-requires-2 : (t : ℕ) → walk-body-lts.Need-passed-body-requires-2 (body-claims t) (walk-body-at t) walk-body.Post walk-body-Inv-loop walk-body-μ-loop
 walk-body-passed-body-requires-2 t c κs = search needs

@@ -1,3 +1,4 @@
+-- `walk_item` passes the data records that are due. The loop's invariant is `Walking`, its measure the records left. Assumes nothing.
 use Rattle.judge.proofs.ItemLaws.{Walking, walking, item-missing, item-wrong, item-more, item-done}
 use borrow.Author.Needs.{needs}
 use Rattle.judge.proofs.walk_item.Statement.{statement}

@@ -1,0 +1,41 @@
+-- Answers as the structs of numbers that C sees: the values of an accepted call, or number and record of its refusal. Assumes nothing.
+use mathlib.Core.List.{List}
+use Prim.Native.Nat.{ℕ}
+use lib.IntN.{ℤ, pos}
+use Rattle.format.specs.Basics.{Answer, given, refused, Outcome}
+use Rattle.format.specs.Corner.{Corner}
+use Rattle.format.specs.Judge.{Counts}
+use Rattle.format.specs.Above.{Way}
+use Rattle.exports.specs.declared.ZvWay.{ZvWay}
+use Rattle.exports.specs.declared.ZvNumber.{ZvNumber}
+use Rattle.exports.specs.declared.ZvCorner.{ZvCorner}
+use Rattle.exports.specs.declared.ZvCounts.{ZvCounts}
+use Rattle.exports.specs.declared.ZvLength.{ZvLength}
+
+abbrev pub numberOf : Answer ℤ → ZvNumber
+numberOf (given z) = record { refusal = 0; at = 0; value = z }
+numberOf (refused number at) = record { refusal = number; at = at; value = pos 0 }
+
+abbrev pub cornerOf : Answer Corner → ZvCorner
+cornerOf (given c) = record { refusal = 0; at = 0; whole = c .whole; fraction = c .fraction }
+cornerOf (refused number at) = record { refusal = number; at = at; whole = pos 0; fraction = pos 0 }
+
+abbrev pub countsOf : Answer Counts → ZvCounts
+countsOf (given c) = record { refusal = 0; at = 0; records = c .records; items = c .items }
+countsOf (refused number at) = record { refusal = number; at = at; records = 0; items = 0 }
+
+abbrev pub lengthOf : Answer ℕ → ZvLength
+lengthOf (given n) = record { refusal = 0; at = 0; length = n }
+lengthOf (refused number at) = record { refusal = number; at = at; length = 0 }
+
+abbrev pub wayOf : Answer Way → ZvWay
+wayOf (given w) = record { refusal = 0; at = 0; header = w .header; passed = w .passed }
+wayOf (refused number at) = record { refusal = number; at = at; header = 0; passed = 0 }
+
+-- a call that writes: its answer, and all bytes of the lent buffer afterwards
+pub record Wrote : Type 0 where
+  pub result : ZvLength
+  pub bytes : List ℕ
+
+abbrev pub wroteOf : Outcome ℕ → Wrote
+wroteOf o = record { result = lengthOf (o .answer); bytes = o .bytes }

@@ -1,0 +1,296 @@
+-- What the code writes, record by record from the one that is due first, is the normal form of an accepted file. Assumes nothing.
+use mathlib.Core.Path.{_≡_, refl, ap, sym, _∙_}
+use mathlib.Core.Bool.{Bool, true, false, cond, _&&_, false≢true}
+use mathlib.Core.List.{List, [], _∷_, _++_, map}
+use Prim.Native.Nat.{ℕ, zero, suc, _+_, _-_, _*_, _/_, _%_, _≤_, _<_}
+use native.Mathlib.Omega.{arith}
+use borrow.Author.Tests.{eqb-true, leb-true, le-leb, lt-leb}
+use lib.Dec.{eqb, leb, ltb}
+use lib.IntN.{ℤ}
+use lib.ListN.{length, take, drop, getD}
+use Rattle.format.specs.Basics.{Answer, given, refused, Outcome, first, unless, Fault, none, fault, chunks, flat, stageOneOk}
+use Rattle.format.specs.Text.{bytes, begins}
+use Rattle.format.specs.Layout.{Col, header, element, gridHeader, netHeader, numberAt, indexA, sheetA, sheetD}
+use Rattle.format.specs.Record.{RecordType, H, E1, E2, E3, E4, E5, E6, E7, E8, G, T, other, typeOf, typeColumns, countIndex, Data, nothing, dataColumns, View, view, viewAs, headerView, elementView, gridView, netView, otherView}
+use Rattle.format.specs.Part.{partFrom}
+use Rattle.format.specs.Sheet as Sheet
+use Rattle.format.specs.Index as Index
+use Rattle.format.specs.Judge as Judge
+use Rattle.format.specs.Normal.{normalRecord, normalBody, normalPart, normalStage, normalSheetRecords, normalIndexRecords, normalTo, normalSheet, normalIndex}
+use Rattle.format.specs.Answers.{writtenAnswer, judgedAnswer}
+use Rattle.format.specs.declared.Written.the-variants as Written
+use Rattle.format.specs.declared.Judged.{Judged}
+use Rattle.format.specs.declared.Judged.the-variants as Judged
+use Rattle.format.proofs.Basics.{and-true, first-zero}
+use Rattle.format.proofs.Lists.{Wide, wide-chunks, wide-drop}
+use Rattle.format.proofs.JudgeWalks.{Passes}
+use Rattle.format.proofs.JudgeAccepted.{accepted-ok}
+use Rattle.records.specs.declared.Held.{Held}
+use Rattle.records.specs.declared.Held.the-variants as Held
+use Rattle.records.specs.declared.items.Entry as Declared
+use Rattle.records.specs.Entry.{toData, entryOf}
+use Rattle.records.proofs.Laws.{entry-counted, entry-data-records, entry-held, fault-at}
+use Rattle.normal.specs.declared.due.Due.{Due}
+use Rattle.normal.specs.declared.due.Due.the-variants as Due
+use Rattle.normal.specs.Due.{dueSets, dueFs, dueData, dueBs, dueCs, behindEntry, dueAfter, letterColumns, columnsDue, rewritten, writtenTo}
+
+-- ---- an index
+
+stageDue : Index.Stage → Due
+stageDue Index.due-a = Due.IndexA
+stageDue (Index.due-b bs cs) = Due.IndexB bs cs
+stageDue (Index.due-c cs) = Due.IndexC cs
+stageDue Index.over = Due.Nothing
+
+stage-c : (cs : ℕ) → dueCs cs ≡ stageDue (Index.dueCs cs)
+unfolding dueCs stageDue
+stage-c zero = refl
+stage-c (suc cs) = refl
+
+stage-b : (bs cs : ℕ) → dueBs bs cs ≡ stageDue (Index.dueBs bs cs)
+unfolding dueBs stageDue
+stage-b zero cs = stage-c cs
+stage-b (suc bs) cs = refl
+
+stage-after : (p : Index.Stage) (r : List ℕ) → dueAfter (stageDue p) r ≡ stageDue (Index.after p r)
+unfolding dueAfter stageDue
+stage-after Index.due-a r = stage-b (numberAt indexA "b records" r) (numberAt indexA "c records" r)
+stage-after (Index.due-b bs cs) r = stage-b bs cs
+stage-after (Index.due-c cs) r = stage-c cs
+stage-after Index.over r = refl
+
+stage-columns : (p : Index.Stage) (r : List ℕ) → columnsDue (stageDue p) r ≡ Index.stageColumns p
+unfolding columnsDue stageDue
+stage-columns Index.due-a r = refl
+stage-columns (Index.due-b bs cs) r = refl
+stage-columns (Index.due-c cs) r = refl
+stage-columns Index.over r = refl
+
+stage-form : (p : Index.Stage) (rs : List (List ℕ)) → rewritten (stageDue p) rs ≡ normalStage p rs
+unfolding rewritten
+stage-form p [] = refl
+stage-form p (r ∷ rs) = rw (stage-columns p r, stage-after p r, stage-form (Index.after p r) rs)
+
+-- ---- a sheet part, and what is behind it
+
+phaseDue : Sheet.Phase → Due
+phaseDue Sheet.due-a = Due.SheetA
+phaseDue (Sheet.due-b level more) = Due.SheetB more
+phaseDue (Sheet.due-c unit wholes more) = Due.SheetC more
+phaseDue (Sheet.due-d unit wholes more) = Due.SheetD more
+phaseDue (Sheet.due-e unit wholes more fs) = Due.SheetE fs more
+phaseDue (Sheet.due-f unit wholes more fs) = Due.SheetF fs more
+phaseDue Sheet.body = Due.Entry
+
+phase-set : (unit : ℕ) (wholes : List ℤ) (more : ℕ) → dueSets more ≡ phaseDue (Sheet.afterSet unit wholes more)
+unfolding dueSets phaseDue
+phase-set unit wholes zero = refl
+phase-set unit wholes (suc more) = refl
+
+phase-f : (unit : ℕ) (wholes : List ℤ) (more fs : ℕ) → dueFs fs more ≡ phaseDue (Sheet.dueFs unit wholes more fs)
+unfolding dueFs phaseDue
+phase-f unit wholes more zero = phase-set unit wholes more
+phase-f unit wholes more (suc fs) = refl
+
+-- a record of the part: its columns, and what is due behind it
+module _ (r : List ℕ) (rs : List (List ℕ)) where
+  behind-part : Sheet.Phase → List (List ℕ)
+  behind-part p = normalPart p (take (partFrom Sheet.sheetMachine p rs) rs) ++ rewritten Due.Entry (drop (partFrom Sheet.sheetMachine p rs) rs)
+
+  one-more : (p : Sheet.Phase) → Sheet.isOver p ≡ false → columnsDue (phaseDue p) r ≡ Sheet.phaseColumns p → dueAfter (phaseDue p) r ≡ phaseDue (Sheet.after p r) → rewritten (phaseDue (Sheet.after p r)) rs ≡ behind-part (Sheet.after p r) → rewritten (phaseDue p) (r ∷ rs) ≡ normalPart p (take (partFrom Sheet.sheetMachine p (r ∷ rs)) (r ∷ rs)) ++ rewritten Due.Entry (drop (partFrom Sheet.sheetMachine p (r ∷ rs)) (r ∷ rs))
+  unfolding rewritten behind-part
+  one-more p o c a ih = rw (o, c, a, ih)
+
+  phase-step : (p : Sheet.Phase) → rewritten (phaseDue (Sheet.after p r)) rs ≡ behind-part (Sheet.after p r) → rewritten (phaseDue p) (r ∷ rs) ≡ normalPart p (take (partFrom Sheet.sheetMachine p (r ∷ rs)) (r ∷ rs)) ++ rewritten Due.Entry (drop (partFrom Sheet.sheetMachine p (r ∷ rs)) (r ∷ rs))
+  unfolding phaseDue columnsDue dueAfter
+  phase-step Sheet.due-a ih = one-more Sheet.due-a refl refl refl ih
+  phase-step (Sheet.due-b level more) ih = one-more (Sheet.due-b level more) refl refl refl ih
+  phase-step (Sheet.due-c unit wholes more) ih = one-more (Sheet.due-c unit wholes more) refl refl refl ih
+  phase-step (Sheet.due-d unit wholes more) ih = one-more (Sheet.due-d unit wholes more) refl refl refl ih
+  phase-step (Sheet.due-e unit wholes more fs) ih = one-more (Sheet.due-e unit wholes more fs) refl refl (phase-f unit wholes more fs) ih
+  phase-step (Sheet.due-f unit wholes more fs) ih = one-more (Sheet.due-f unit wholes more fs) refl refl (phase-f unit wholes more fs) ih
+  phase-step Sheet.body ih = refl
+
+part-form : (p : Sheet.Phase) (rs : List (List ℕ)) → rewritten (phaseDue p) rs ≡ normalPart p (take (partFrom Sheet.sheetMachine p rs) rs) ++ rewritten Due.Entry (drop (partFrom Sheet.sheetMachine p rs) rs)
+unfolding rewritten behind-part
+part-form p [] = refl
+part-form p (r ∷ rs) = phase-step r rs p (part-form (Sheet.after p r) rs)
+
+-- ---- a header or an item: its first byte tells its layout, where its type is known
+
+elements : (a b c d e f g h : Bool) → (cond a E1 (cond b E2 (cond c E3 (cond d E4 (cond e E5 (cond f E6 (cond g E7 (cond h E8 other))))))) ≡ other → ⊥) → element ≡ typeColumns (cond a E1 (cond b E2 (cond c E3 (cond d E4 (cond e E5 (cond f E6 (cond g E7 (cond h E8 other))))))))
+elements true b c d e f g h n = refl
+elements false true c d e f g h n = refl
+elements false false true d e f g h n = refl
+elements false false false true e f g h n = refl
+elements false false false false true f g h n = refl
+elements false false false false false true g h n = refl
+elements false false false false false false true h n = refl
+elements false false false false false false false true n = refl
+elements false false false false false false false false n = absurd (n refl)
+
+letter-alone : (t : RecordType) (b : Bool) → (cond b t other ≡ other → ⊥) → typeColumns t ≡ typeColumns (cond b t other)
+letter-alone t true n = refl
+letter-alone t false n = absurd (n refl)
+
+letters-two : (a b : ℕ) (r : List ℕ) → (typeOf (a ∷ b ∷ r) ≡ other → ⊥) → letterColumns (a ∷ b ∷ r) ≡ typeColumns (typeOf (a ∷ b ∷ r))
+unfolding letterColumns typeOf begins bytes
+letters-two a b r n = go (eqb a 72) (eqb a 69) (eqb a 71) (eqb a 84) refl refl refl refl
+  where
+    go : (h e g t : Bool) → eqb a 72 ≡ h → eqb a 69 ≡ e → eqb a 71 ≡ g → eqb a 84 ≡ t → letterColumns (a ∷ b ∷ r) ≡ typeColumns (typeOf (a ∷ b ∷ r))
+    go true e g t p q x y = rw (eqb-true a 72 p) (letter-alone H (eqb b 32 && true) (rw (eqb-true a 72 p) at n))
+    go false true g t p q x y = rw (eqb-true a 69 q) (elements (eqb b 49 && true) (eqb b 50 && true) (eqb b 51 && true) (eqb b 52 && true) (eqb b 53 && true) (eqb b 54 && true) (eqb b 55 && true) (eqb b 56 && true) (rw (eqb-true a 69 q) at n))
+    go false false true t p q x y = rw (eqb-true a 71 x) (letter-alone G (eqb b 32 && true) (rw (eqb-true a 71 x) at n))
+    go false false false true p q x y = rw (eqb-true a 84 y) (letter-alone T (eqb b 32 && true) (rw (eqb-true a 84 y) at n))
+    go false false false false p q x y = absurd (n (simp (p, q, x, y)))
+
+letters : (l : List ℕ) → length l ≡ 84 → (typeOf l ≡ other → ⊥) → letterColumns l ≡ typeColumns (typeOf l)
+letters [] whole n = absurd (omega arith)
+letters (a ∷ []) whole n = absurd (omega arith)
+letters (a ∷ b ∷ l) whole n = letters-two a b l n
+
+-- what a record says by its type: a type that is not known has no count, and a header states no data records
+module _ (l : List ℕ) where
+  known-type : (t : RecordType) → leb (countIndex ((viewAs t l) .kind)) 9 ≡ true → t ≡ other → ⊥
+  unfolding otherView
+  known-type t h e = false≢true (rw e at h)
+
+  own-data : (t : RecordType) → Judge.dueOf ((viewAs t l) .kind) ((viewAs t l) .dataRecords) ≡ (viewAs t l) .dataRecords
+  unfolding headerView elementView gridView netView otherView
+  own-data H = refl
+  own-data E1 = refl
+  own-data E2 = refl
+  own-data E3 = refl
+  own-data E4 = refl
+  own-data E5 = refl
+  own-data E6 = refl
+  own-data E7 = refl
+  own-data E8 = refl
+  own-data G = refl
+  own-data T = refl
+  own-data other = refl
+
+-- a record without fault where a header or an item is due
+module _ (l : List ℕ) (whole : length l ≡ 84) (opened : ℕ) (held : Data) (passed : Judge.faultAt opened 0 held (view l) ≡ 0) where
+  no-fault : (entryOf l) .fault ≡ 0
+  no-fault = first-zero ((entryOf l) .fault) (first (unless (Judge.levelOk opened (view l)) 7) ((view l) .ruleFault)) (sym (fault-at l whole opened held) ∙ passed) .0
+
+  entry-columns : letterColumns l ≡ typeColumns (typeOf l)
+  unfolding view
+  entry-columns = letters l whole (known-type l (typeOf l) (entry-counted l whole no-fault))
+
+  entry-due : (entryOf l) .«data_records» ≡ Judge.dueAfter 0 (view l)
+  unfolding view
+  entry-due = entry-data-records l whole no-fault ∙ sym (own-data l (typeOf l))
+
+  entry-holds : toData ((entryOf l) .held) ≡ Judge.heldAfter 0 held (view l)
+  entry-holds = entry-held l whole no-fault
+
+-- ---- the body: what the code keeps is what the walk keeps
+
+body-form : (rs : List (List ℕ)) (opened due : ℕ) (held : Held) → Wide rs → Passes opened due (toData held) (map view rs) → rewritten (dueData held due) rs ≡ normalBody due (toData held) rs
+unfolding rewritten Wide dueAfter dueData columnsDue behindEntry
+body-form [] opened due held wide p = refl
+body-form (r ∷ rs) opened zero held wide p =
+    let e = entryOf r in
+    let d : e .«data_records» ≡ Judge.dueAfter 0 (view r) = entry-due r (wide .0) opened (toData held) (p .0) in
+    let h : toData (e .held) ≡ Judge.heldAfter 0 (toData held) (view r) = entry-holds r (wide .0) opened (toData held) (p .0) in
+    rw (entry-columns r (wide .0) opened (toData held) (p .0), ← d, ← h)
+    (ap (λ (x : List (List ℕ)). normalRecord (typeColumns (typeOf r)) r ∷ x) (body-form rs (Judge.openAfter opened 0 (view r)) (e .«data_records») (e .held) (wide .1) (rw (← d, ← h) at (p .1))))
+body-form (r ∷ rs) opened (suc due) held wide p =
+    ap (λ (x : List (List ℕ)). normalRecord (dataColumns (toData held) due) r ∷ x) (body-form rs opened due held (wide .1) (p .1))
+
+-- ---- an accepted file
+
+accepted-twice : (t : Bool) (a : Answer Judge.Counts) (counts : Judge.Counts) → Judge.afterStageOne t a ≡ given counts → (t ≡ true) × (a ≡ given counts)
+accepted-twice true a counts e = (refl, e)
+accepted-twice false a counts e = let x : _≡_ {A = ℕ} 0 1 = cc in absurd (omega arith)
+
+accepted-body : (f : Fault) (a : Answer Judge.Counts) (counts : Judge.Counts) → Judge.afterPart f a ≡ given counts → a ≡ given counts
+accepted-body none a counts e = e
+accepted-body (fault n r) a counts e = let x : _≡_ {A = ℕ} 0 1 = cc in absurd (omega arith)
+
+-- "used length .. above the buffer, not a multiple of 84" is refused
+stage-one : (used : ℕ) (buffer : List ℕ) → stageOneOk used buffer ≡ true → (used ≤ length buffer) × (used % 84 ≡ 0)
+stage-one used buffer h =
+    let p = and-true (ltb 0 used && leb used (length buffer) && eqb (used % 84) 0) (leb used (84 * 200000)) h in
+    let q = and-true (ltb 0 used && leb used (length buffer)) (eqb (used % 84) 0) (p .0) in
+    (leb-true used (length buffer) (and-true (ltb 0 used) (leb used (length buffer)) (q .0) .1), eqb-true (used % 84) 0 (q .1))
+
+accepted-room : (used : ℕ) (buffer : List ℕ) (a : Answer Judge.Counts) (counts : Judge.Counts) → Judge.afterStageOne (stageOneOk used buffer) a ≡ given counts → (used ≤ length buffer) × (used % 84 ≡ 0)
+accepted-room used buffer a counts e = stage-one used buffer (accepted-twice (stageOneOk used buffer) a counts e .0)
+
+sheet-form : (used : ℕ) (buffer : List ℕ) (counts : Judge.Counts) → Judge.judgeSheet used buffer ≡ given counts → rewritten Due.SheetA (chunks (used / 84) buffer) ≡ normalSheetRecords (chunks (used / 84) buffer)
+unfolding Judge.judgeSheet Judge.judgeRecords normalSheetRecords Sheet.partLength phaseDue dueData
+sheet-form used buffer counts e =
+    let rs = chunks (used / 84) buffer in
+    let one = accepted-twice (stageOneOk used buffer) (Judge.judgeRecords rs) counts e in
+    let two = accepted-body (Sheet.sheetFault rs) (Judge.judge (Judge.fileOf rs)) counts (one .1) in
+    let ok = accepted-ok (Judge.fileOf rs) (counts .records) (counts .items) two in
+    let room = stage-one used buffer (one .0) in
+    let n = partFrom Sheet.sheetMachine Sheet.due-a rs in
+    part-form Sheet.due-a rs
+    ∙ ap (λ (x : List (List ℕ)). normalPart Sheet.due-a (take n rs) ++ x) (body-form (drop n rs) 0 0 Held.Nothing (wide-drop n rs (wide-chunks (used / 84) buffer (omega (arith, room .0)))) (ok .walks .0))
+
+index-form : (rs : List (List ℕ)) → rewritten Due.IndexA rs ≡ normalIndexRecords rs
+unfolding normalIndexRecords stageDue
+index-form rs = stage-form Index.due-a rs
+
+-- ---- `write_file`
+
+module _ (used : ℕ) (records : List (List ℕ)) (second : List ℕ) where
+  pub too-short : length second < used → record { answer = writtenAnswer (Written.Refused 15 0); bytes = second } ≡ writtenTo used records second
+  unfolding writtenTo writtenAnswer
+  too-short h = rw (lt-leb used (length second) h)
+
+  pub file-written : (l′ : List ℕ) → used ≤ length second → used % 84 ≡ 0 → l′ ≡ flat records ++ drop (84 * (used / 84)) second → record { answer = writtenAnswer (Written.Bytes used); bytes = l′ } ≡ writtenTo used records second
+  unfolding writtenTo writtenAnswer
+  file-written l′ h z e = let n : 84 * (used / 84) ≡ used = omega arith in rw (le-leb used (length second) h, e, n)
+
+-- ---- `normal_sheet`, `normal_index`
+
+-- what judging answered
+module _ (used : ℕ) (j : Judged) (answer : Answer Judge.Counts) (told : judgedAnswer j ≡ answer) where
+  refused-form : (records : List (List ℕ)) (second : List ℕ) (n r : ℕ) → j ≡ Judged.Refused n r → record { answer = writtenAnswer (Written.Refused n r); bytes = second } ≡ normalTo answer used records second
+  unfolding judgedAnswer writtenAnswer
+  refused-form records second n r e = rw (← told, e)
+
+  module _ (n m : ℕ) (e : j ≡ Judged.Accepted n m) where
+    given-counts : answer ≡ given (record { records = n; items = m })
+    unfolding judgedAnswer
+    given-counts = sym told ∙ rw e
+
+    accepted-form : (records : List (List ℕ)) (second : List ℕ) → writtenTo used records second ≡ normalTo answer used records second
+    unfolding writtenTo
+    accepted-form records second = rw given-counts
+
+module _ (used : ℕ) (buffer : List ℕ) (j : Judged) where
+  module _ (told : judgedAnswer j ≡ Judge.judgeSheet used buffer) where
+    pub sheet-refused : (second : List ℕ) (n r : ℕ) → j ≡ Judged.Refused n r → record { answer = writtenAnswer (Written.Refused n r); bytes = second } ≡ normalSheet used buffer second
+    unfolding normalSheet
+    sheet-refused second n r e = refused-form used j (Judge.judgeSheet used buffer) told (normalSheetRecords (chunks (used / 84) buffer)) second n r e
+
+    module _ (n m : ℕ) (e : j ≡ Judged.Accepted n m) where
+      pub sheet-room : (used ≤ length buffer) × (used % 84 ≡ 0)
+      unfolding Judge.judgeSheet
+      sheet-room = accepted-room used buffer (Judge.judgeRecords (chunks (used / 84) buffer)) _ (given-counts used j (Judge.judgeSheet used buffer) told n m e)
+
+      pub sheet-written : (second : List ℕ) (r : Outcome ℕ) → r ≡ writtenTo used (rewritten Due.SheetA (chunks (used / 84) buffer)) second → r ≡ normalSheet used buffer second
+      unfolding normalSheet
+      sheet-written second r h =
+          h ∙ rw (sheet-form used buffer _ (given-counts used j (Judge.judgeSheet used buffer) told n m e)) (accepted-form used j (Judge.judgeSheet used buffer) told n m e (normalSheetRecords (chunks (used / 84) buffer)) second)
+
+  module _ (told : judgedAnswer j ≡ Judge.judgeIndex used buffer) where
+    pub index-refused : (second : List ℕ) (n r : ℕ) → j ≡ Judged.Refused n r → record { answer = writtenAnswer (Written.Refused n r); bytes = second } ≡ normalIndex used buffer second
+    unfolding normalIndex
+    index-refused second n r e = refused-form used j (Judge.judgeIndex used buffer) told (normalIndexRecords (chunks (used / 84) buffer)) second n r e
+
+    module _ (n m : ℕ) (e : j ≡ Judged.Accepted n m) where
+      pub index-room : (used ≤ length buffer) × (used % 84 ≡ 0)
+      unfolding Judge.judgeIndex
+      index-room = accepted-room used buffer (Judge.judgeIndexRecords (chunks (used / 84) buffer)) _ (given-counts used j (Judge.judgeIndex used buffer) told n m e)
+
+      pub index-written : (second : List ℕ) (r : Outcome ℕ) → r ≡ writtenTo used (rewritten Due.IndexA (chunks (used / 84) buffer)) second → r ≡ normalIndex used buffer second
+      unfolding normalIndex
+      index-written second r h =
+          h ∙ rw (index-form (chunks (used / 84) buffer)) (accepted-form used j (Judge.judgeIndex used buffer) told n m e (normalIndexRecords (chunks (used / 84) buffer)) second)

@@ -1,0 +1,150 @@
+-- `normal::due::due_after` meets its contract, by what was due. Assumes nothing.
+use Rattle.normal.proofs.DueSteps.{after-a, after-b, after-c, after-d, after-e, after-f, after-entry, after-data, after-index-a, after-index-b, after-index-c, after-nothing}
+use borrow.Author.Needs.{needs}
+use Rattle.normal.proofs.due.due_after.Statement.{statement}
+use Rattle.normal.proofs.due.due_after.Tie as tie
+
+enum-told : tie.Need-enum-told
+enum-told c = search needs
+
+number-requires : tie.Need-number-requires
+number-requires c κs = search needs
+
+enum-known-due : tie.Need-enum-known-due
+enum-known-due c = search needs
+
+enum-known-due-2 : tie.Need-enum-known-due-2
+enum-known-due-2 c = search needs
+
+enum-known-due-3 : tie.Need-enum-known-due-3
+enum-known-due-3 c = search needs
+
+number-requires-2 : tie.Need-number-requires-2
+number-requires-2 c κs = search needs
+
+enum-known-due-4 : tie.Need-enum-known-due-4
+enum-known-due-4 c = search needs
+
+due-f-requires : tie.Need-due-f-requires
+due-f-requires c κs = search needs
+
+enum-known-due-5 : tie.Need-enum-known-due-5
+enum-known-due-5 c = search needs
+
+due-f-requires-2 : tie.Need-due-f-requires-2
+due-f-requires-2 c κs = search needs
+
+enum-told-2 : tie.Need-enum-told-2
+enum-told-2 c = search needs
+
+behind-entry-requires : tie.Need-behind-entry-requires
+behind-entry-requires c κs = search needs
+
+enum-known-due-6 : tie.Need-enum-known-due-6
+enum-known-due-6 c = search needs
+
+due-data-requires : tie.Need-due-data-requires
+due-data-requires c κs = search needs
+
+enum-told-3 : tie.Need-enum-told-3
+enum-told-3 c = search needs
+
+number-requires-3 : tie.Need-number-requires-3
+number-requires-3 c κs = search needs
+
+number-requires-4 : tie.Need-number-requires-4
+number-requires-4 c κs = search needs
+
+due-b-requires : tie.Need-due-b-requires
+due-b-requires c κs = search needs
+
+enum-known-due-7 : tie.Need-enum-known-due-7
+enum-known-due-7 c = search needs
+
+due-b-requires-2 : tie.Need-due-b-requires-2
+due-b-requires-2 c κs = search needs
+
+enum-known-due-8 : tie.Need-enum-known-due-8
+enum-known-due-8 c = search needs
+
+due-c-requires : tie.Need-due-c-requires
+due-c-requires c κs = search needs
+
+enum-told-4 : tie.Need-enum-told-4
+enum-told-4 c = search needs
+
+returns : tie.Need-returns
+returns c = search after-a
+
+returns-2 : tie.Need-returns-2
+returns-2 c = search after-b
+
+returns-3 : tie.Need-returns-3
+returns-3 c = search after-c
+
+returns-4 : tie.Need-returns-4
+returns-4 c = search after-d
+
+returns-5 : tie.Need-returns-5
+returns-5 c = search after-e
+
+returns-6 : tie.Need-returns-6
+returns-6 c = search after-f
+
+returns-7 : tie.Need-returns-7
+returns-7 c = search after-entry
+
+returns-8 : tie.Need-returns-8
+returns-8 c = search after-data
+
+returns-9 : tie.Need-returns-9
+returns-9 c = search after-index-a
+
+returns-10 : tie.Need-returns-10
+returns-10 c = search after-index-b
+
+returns-11 : tie.Need-returns-11
+returns-11 c = search after-index-c
+
+returns-12 : tie.Need-returns-12
+returns-12 c = search after-nothing
+
+pub due-after-spec : {M : Type 1} → statement M
+due-after-spec =
+    tie.close
+    (tie.spec
+    enum-told
+    number-requires
+    enum-known-due
+    enum-known-due-2
+    enum-known-due-3
+    number-requires-2
+    enum-known-due-4
+    due-f-requires
+    enum-known-due-5
+    due-f-requires-2
+    enum-told-2
+    behind-entry-requires
+    enum-known-due-6
+    due-data-requires
+    enum-told-3
+    number-requires-3
+    number-requires-4
+    due-b-requires
+    enum-known-due-7
+    due-b-requires-2
+    enum-known-due-8
+    due-c-requires
+    enum-told-4
+    returns
+    returns-2
+    returns-3
+    returns-4
+    returns-5
+    returns-6
+    returns-7
+    returns-8
+    returns-9
+    returns-10
+    returns-11
+    returns-12)

@@ -1,0 +1,42 @@
+-- `normal::forms::element` meets its contract: its integers by the tables, then its value. Assumes nothing.
+use Rattle.normal.proofs.Layouts.{element-written}
+use borrow.Author.Needs.{needs}
+use Rattle.normal.proofs.forms.element.Statement.{statement}
+use Rattle.normal.proofs.forms.element.Tie as tie
+
+integer-starts-requires : tie.Need-integer-starts-requires
+integer-starts-requires c κs = search needs
+
+integer-widths-requires : tie.Need-integer-widths-requires
+integer-widths-requires c κs = search needs
+
+slice-aggregate-rewrite-columns : tie.Need-slice-aggregate-rewrite-columns
+slice-aggregate-rewrite-columns c = search needs
+
+slice-aggregate-rewrite-columns-2 : tie.Need-slice-aggregate-rewrite-columns-2
+slice-aggregate-rewrite-columns-2 c = search needs
+
+rewrite-columns-requires : tie.Need-rewrite-columns-requires
+rewrite-columns-requires c κs = search needs
+
+rewrite-value-requires : tie.Need-rewrite-value-requires
+rewrite-value-requires c κs = search needs
+
+same-length : tie.Need-same-length
+same-length c = search needs
+
+returns : tie.Need-returns
+returns c = search element-written
+
+pub element-spec : {M : Type 1} → statement M
+element-spec =
+    tie.close
+    (tie.spec
+    integer-starts-requires
+    integer-widths-requires
+    slice-aggregate-rewrite-columns
+    slice-aggregate-rewrite-columns-2
+    rewrite-columns-requires
+    rewrite-value-requires
+    same-length
+    returns)

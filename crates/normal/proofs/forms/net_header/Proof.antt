@@ -1,0 +1,39 @@
+-- `normal::forms::net_header` meets its contract: the tables are those of its layout. Assumes nothing.
+use Rattle.normal.proofs.Layouts.{form-written}
+use Rattle.normal.proofs.PlainLayouts.{plain-netHeader}
+use borrow.Author.Needs.{needs}
+use Rattle.normal.proofs.forms.net_header.Statement.{statement}
+use Rattle.normal.proofs.forms.net_header.Tie as tie
+
+integer-starts-requires : tie.Need-integer-starts-requires
+integer-starts-requires c κs = search needs
+
+integer-widths-requires : tie.Need-integer-widths-requires
+integer-widths-requires c κs = search needs
+
+slice-aggregate-rewrite-columns : tie.Need-slice-aggregate-rewrite-columns
+slice-aggregate-rewrite-columns c = search needs
+
+slice-aggregate-rewrite-columns-2 : tie.Need-slice-aggregate-rewrite-columns-2
+slice-aggregate-rewrite-columns-2 c = search needs
+
+rewrite-columns-requires : tie.Need-rewrite-columns-requires
+rewrite-columns-requires c κs = search needs
+
+same-length : tie.Need-same-length
+same-length c = search needs
+
+returns : tie.Need-returns
+returns c = search (form-written, plain-netHeader)
+
+pub net-header-spec : {M : Type 1} → statement M
+net-header-spec =
+    tie.close
+    (tie.spec
+    integer-starts-requires
+    integer-widths-requires
+    slice-aggregate-rewrite-columns
+    slice-aggregate-rewrite-columns-2
+    rewrite-columns-requires
+    same-length
+    returns)

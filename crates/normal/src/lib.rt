@@ -1,0 +1,126 @@
+// The normal form of a sheet file and of an index file: the same file with every judged integer in written form, in a second buffer.
+ghost use mathlib.Core.Path.{_≡_};
+ghost use mathlib.Core.List.{_++_};
+ghost use Prim.Native.Nat.{_+_, _*_, _/_, _%_, _≤_};
+ghost use lib.ListN.{length, drop};
+ghost use Rattle.format.specs.Basics.{chunks, flat};
+ghost use Rattle.format.specs.Normal.{normalRecord, normalSheet, normalIndex};
+ghost use Rattle.format.specs.Answers.{writtenAnswer};
+ghost use Rattle.normal.specs.Due.{letterColumns, columnsDue, rewritten, writtenTo};
+use due::Due;
+use format::Judged;
+use format::Written;
+
+mod data;
+mod due;
+mod forms;
+mod rewriting;
+
+// Bytes of a record.
+const RECORD: usize = 84;
+
+// A header or an item, by the letter that its type begins with.
+fn rewrite_entry(record: &mut [u8])
+    requires { ⌜ length (now «record») ≡ 84 ⌝ }
+    ensures { λ r. ⌜ now («record» .exit) ≡ normalRecord (letterColumns (now («record» .entry))) (now («record» .entry)) ⌝ }
+{
+    match record[0] {
+        b'H' => forms::header(record),
+        b'E' => forms::element(record),
+        b'G' => forms::grid_header(record),
+        b'T' => forms::net_header(record),
+        _ => {}
+    }
+}
+
+// The record that is due, by its layout.
+fn rewrite_due(record: &mut [u8], due: Due)
+    requires { ⌜ length (now «record») ≡ 84 ⌝ }
+    ensures { λ r. ⌜ now («record» .exit) ≡ normalRecord (columnsDue due (now («record» .entry))) (now («record» .entry)) ⌝ }
+{
+    match due {
+        Due::SheetA => forms::sheet_a(record),
+        Due::SheetB(_) => forms::sheet_b(record),
+        Due::SheetC(_) => {}
+        Due::SheetD(_) => forms::sheet_d(record),
+        Due::SheetE(_, _) => forms::sheet_e(record),
+        Due::SheetF(_, _) => forms::sheet_f(record),
+        Due::Entry => rewrite_entry(record),
+        Due::Data(held, behind) => data::data(record, held, behind),
+        Due::IndexA => forms::index_a(record),
+        Due::IndexB(_, _) => {}
+        Due::IndexC(_) => forms::index_c(record),
+        Due::Nothing => {}
+    }
+}
+
+fn copy(source: &[u8], target: &mut [u8])
+    requires { ⌜ length (now target) ≡ length (now source) ⌝ }
+    ensures { λ r. ⌜ now (target .exit) ≡ now (source .entry) ⌝ }
+{
+    let mut i = 0;
+    while i < source.len() {
+        target[i] = source[i];
+        i += 1;
+    }
+}
+
+// The records of the buffer, n of them, to the second one, from the record that is due first.
+fn write_records(buffer: &[u8], n: usize, first: Due, second: &mut [u8])
+    requires { ⌜ (84 * n ≤ length (now buffer)) × (84 * n ≤ length (now second)) ⌝ }
+    ensures { λ r. ⌜ now (second .exit) ≡ flat (rewritten first (chunks n (now (buffer .entry)))) ++ drop (84 * n) (now (second .entry)) ⌝ }
+{
+    let mut due = first;
+    let mut k = 0;
+    while k < n {
+        let start = RECORD * k;
+        let end = start + RECORD;
+        let record = &buffer[start..end];
+        write_record(record, due, &mut second[start..end]);
+        due = due::due_after(due, record);
+        k += 1;
+    }
+}
+
+// One record, copied and then written again.
+fn write_record(source: &[u8], due: Due, target: &mut [u8])
+    requires { ⌜ (length (now source) ≡ 84) × (length (now target) ≡ 84) ⌝ }
+    ensures { λ r. ⌜ now (target .exit) ≡ normalRecord (columnsDue due (now (source .entry))) (now (source .entry)) ⌝ }
+{
+    copy(source, target);
+    rewrite_due(target, due);
+}
+
+// An accepted file: "writes to a second buffer (else 15)".
+fn write_file(buffer: &[u8], used: usize, first: Due, second: &mut [u8]) -> Written
+    requires { ⌜ (used ≤ length (now buffer)) × (used % 84 ≡ 0) ⌝ }
+    ensures { λ r. ⌜ record { answer = writtenAnswer r; bytes = now (second .exit) } ≡ writtenTo used (rewritten first (chunks (used / 84) (now (buffer .entry)))) (now (second .entry)) ⌝ }
+{
+    if second.len() < used {
+        return Written::Refused(15, 0);
+    }
+    write_records(buffer, used / RECORD, first, second);
+    Written::Bytes(used)
+}
+
+// The normal form of the sheet file in the first `used` bytes of the buffer.
+pub fn normal_sheet(buffer: &[u8], used: usize, second: &mut [u8]) -> Written
+    ensures { λ r. ⌜ record { answer = writtenAnswer r; bytes = now (second .exit) } ≡ normalSheet used (now (buffer .entry)) (now (second .entry)) ⌝ }
+{
+    let judged = judge::judge_sheet(buffer, used);
+    match judged {
+        Judged::Refused(number, at) => Written::Refused(number, at),
+        Judged::Accepted(_, _) => write_file(buffer, used, Due::SheetA, second),
+    }
+}
+
+// The normal form of the index file in the first `used` bytes of the buffer.
+pub fn normal_index(buffer: &[u8], used: usize, second: &mut [u8]) -> Written
+    ensures { λ r. ⌜ record { answer = writtenAnswer r; bytes = now (second .exit) } ≡ normalIndex used (now (buffer .entry)) (now (second .entry)) ⌝ }
+{
+    let judged = judge::judge_index(buffer, used);
+    match judged {
+        Judged::Refused(number, at) => Written::Refused(number, at),
+        Judged::Accepted(_, _) => write_file(buffer, used, Due::IndexA, second),
+    }
+}

@@ -1,0 +1,93 @@
+-- `locate` comes to what format's folds come to. The loop keeps that the folds from its index come to the same as those from the start; each turn
+-- leaves fewer records before the place. Assumes nothing.
+use mathlib.Core.Logic.{⊎-elim}
+use Prim.Native.Nat.{_-_, _<_}
+use native.Mathlib.Omega.{arith}
+use lib.ListN.{take}
+use Rattle.places.specs.Place.{bodyOf}
+use Rattle.places.proofs.Walked.{Walked, walk-start}
+use Rattle.places.proofs.Laws.{cannot-read, next-fits, goes-keeping, goes-past, goes-forward, level-inside, came-to-place}
+use borrow.Author.Needs.{needs}
+use Rattle.places.proofs.locate.Statement.{statement}
+use Rattle.places.proofs.locate.Tie as tie
+
+abbrev Inv-loop : tie.InvT-loop
+Inv-loop file part at limit index₀ opened₀ start₀ headers₀ index opened start headers = Walked (take at (bodyOf file part)) index opened start headers
+
+abbrev μ-loop : tie.MeasureT-loop
+μ-loop file part at limit index₀ opened₀ start₀ headers₀ index opened start headers = limit - index
+
+limit-of-requires : tie.Need-limit-of-requires Inv-loop μ-loop
+limit-of-requires c κs = search needs
+
+loop-holds : tie.Need-loop-holds Inv-loop μ-loop
+loop-holds c = search walk-start
+
+add-record-at : tie.Need-add-record-at Inv-loop μ-loop
+add-record-at c = search needs
+
+record-at-requires : tie.Need-record-at-requires Inv-loop μ-loop
+record-at-requires c κs = search needs
+
+entry-requires : tie.Need-entry-requires Inv-loop μ-loop
+entry-requires c κs = search needs
+
+nowhere-requires : tie.Need-nowhere-requires Inv-loop μ-loop
+nowhere-requires c κs = search needs
+
+returns : tie.Need-returns Inv-loop μ-loop
+returns c = search cannot-read
+
+is-kept-requires : tie.Need-is-kept-requires Inv-loop μ-loop
+is-kept-requires c κs = search needs
+
+add-headers : tie.Need-add-headers Inv-loop μ-loop
+add-headers c = search needs
+
+mul-headers : tie.Need-mul-headers Inv-loop μ-loop
+mul-headers c = let h : c .before .before .before .before .entry .result .level < 9 = search level-inside in omega arith
+
+array-write-headers : tie.Need-array-write-headers Inv-loop μ-loop
+array-write-headers c = search level-inside
+
+add-start : tie.Need-add-start Inv-loop μ-loop
+add-start c = search needs
+
+opened-by-requires : tie.Need-opened-by-requires Inv-loop μ-loop
+opened-by-requires c κs = search needs
+
+next-index-requires : tie.Need-next-index-requires Inv-loop μ-loop
+next-index-requires c κs = search next-fits
+
+loop-less : tie.Need-loop-less Inv-loop μ-loop
+loop-less c = search goes-forward
+
+loop-again : tie.Need-loop-again Inv-loop μ-loop
+loop-again c = ⊎-elim (λ w. rw (w .1) (search goes-keeping)) (λ w. rw (w .1) (search goes-past)) (c .before .before .if2 .came)
+
+returns-2 : tie.Need-returns-2 Inv-loop μ-loop
+returns-2 c = search came-to-place
+
+pub locate-spec : {M : Type 1} → statement M
+locate-spec =
+    tie.close
+    (tie.spec
+    Inv-loop
+    μ-loop
+    limit-of-requires
+    loop-holds
+    add-record-at
+    record-at-requires
+    entry-requires
+    nowhere-requires
+    returns
+    is-kept-requires
+    add-headers
+    mul-headers
+    array-write-headers
+    add-start
+    opened-by-requires
+    next-index-requires
+    loop-less
+    loop-again
+    returns-2)

@@ -1,0 +1,16 @@
+//! Finds the archive of the proved library, or says how to make it.
+
+use std::path::Path;
+
+fn main() {
+    let root = Path::new(env!("CARGO_MANIFEST_DIR")).join("../..");
+    let folder = root.join("target/staticlib");
+    let archive = folder.join("libexports.a");
+    println!("cargo:rerun-if-changed={}", archive.display());
+    if !archive.exists() {
+        eprintln!("target/staticlib/libexports.a is missing: run `rt staticlib exports` at the repository's root first");
+        std::process::exit(1);
+    }
+    println!("cargo:rustc-link-search=native={}", folder.display());
+    println!("cargo:rustc-link-lib=static=exports");
+}
