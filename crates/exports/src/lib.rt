@@ -7,6 +7,7 @@ ghost use Rattle.format.specs.Column.{readAlone, writeAlone};
 ghost use Rattle.format.specs.Corner.{join, split};
 ghost use Rattle.format.specs.Judge.{judgeSheet, judgeIndex};
 ghost use Rattle.format.specs.Above.{up};
+ghost use Rattle.format.specs.Normal.{normalSheet, normalIndex};
 ghost use Rattle.format.specs.Answers.{numberAnswer, writtenAnswer, partsAnswer, judgedAnswer, wayUpAnswer};
 ghost use Rattle.exports.specs.Interface.{numberOf, cornerOf, countsOf, lengthOf, wayOf, Wrote, wroteOf};
 use format::Judged;
@@ -205,4 +206,19 @@ pub extern "C" fn zv_way_up(buffer: &[u8], used: usize, number: usize) -> ZvWay
     ensures { λ r. ⌜ r ≡ wayOf (up used (now (buffer .entry)) number) ⌝ }
 {
     way(above::way_up(buffer, used, number))
+}
+
+// The normal form of a sheet, and of an index, written to a second buffer: the answer's length is the file's.
+#[no_mangle]
+pub extern "C" fn zv_normal_sheet(buffer: &[u8], used: usize, second: &mut [u8]) -> ZvLength
+    ensures { λ r. ⌜ record { result = r; bytes = now (second .exit) } ≡ wroteOf (normalSheet used (now (buffer .entry)) (now (second .entry))) ⌝ }
+{
+    length(normal::normal_sheet(buffer, used, second))
+}
+
+#[no_mangle]
+pub extern "C" fn zv_normal_index(buffer: &[u8], used: usize, second: &mut [u8]) -> ZvLength
+    ensures { λ r. ⌜ record { result = r; bytes = now (second .exit) } ≡ wroteOf (normalIndex used (now (buffer .entry)) (now (second .entry))) ⌝ }
+{
+    length(normal::normal_index(buffer, used, second))
 }

@@ -1,6 +1,6 @@
 -- The pass in the code's own words, and what callers cite: where an accepted sheet is read, the place says what format's folds say. Assumes nothing.
 use mathlib.Core.Path.{_≡_, refl, ap, sym, _∙_}
-use mathlib.Core.Bool.{Bool, true, false, cond, _&&_, true≢false, false≢true}
+use mathlib.Core.Bool.{Bool, true, false, cond, _&&_, true≢false}
 use mathlib.Core.List.{List, [], _∷_}
 use Prim.Native.Nat.{ℕ, zero, suc, pred, _+_, _-_, _/_, _^_, _≤_, _<_, min}
 use native.Mathlib.Nat.{min-le-left}
@@ -8,22 +8,22 @@ use native.Mathlib.Numerals.{add-one}
 use native.Mathlib.Omega.{arith}
 use borrow.Author.Tests.{eq-eqb, ne-eqb, eqb-true, eqb-false, lt-ltb, ltb-true, le-leb}
 use lib.Dec.{eqb, ltb}
-use lib.ListN.{length, take, drop, getD, set, length-set}
+use lib.ListN.{length, take, getD, set, length-set}
 use lib.Seq.{getD-take, getD-set-same, getD-set-other}
-use Rattle.format.specs.Record.{Kind, head, item, isHead, countIndex, Data, View, view}
+use Rattle.format.specs.Record.{Kind, head, item, countIndex, Data, View, view}
 use Rattle.format.specs.Judge.{dueOf, openOf, dueAfter, openAfter, heldAfter, isHeaderAt}
 use Rattle.format.specs.Edit.{dueBehind, openBehind, lastHeader, absent}
 use Rattle.format.specs.Above.{lastStart}
 use Rattle.format.proofs.Basics.{and-true}
-use Rattle.format.proofs.JudgeWalks.{Passes, Good, good}
+use Rattle.format.proofs.JudgeWalks.{Passes, good}
 use Rattle.records.specs.declared.items.Entry.{Entry}
 use Rattle.records.specs.Entry.{viewFault, entryOf}
 use Rattle.records.proofs.Laws.{entry-fault, entry-kind, entry-level, entry-data-records, entry-head, data-records-most}
 use Rattle.places.specs.declared.Place.{Place}
-use Rattle.places.specs.Place.{recordsOf, bodyOf, readable, values, lastOf, lastHeaders, noPlace, placeIn, placeOf}
+use Rattle.places.specs.Place.{recordsOf, bodyOf, readable, lastOf, lastHeaders, noPlace, placeOf}
 use Rattle.places.specs.Steps.{nextIndex, openedBy, isKept}
-use Rattle.places.proofs.Reading.{length-records, record-wide, length-body, body-at, length-before}
-use Rattle.places.proofs.Walked.{Walked, walk-start, walk-on, walk-stops, walk-ends, getD-values}
+use Rattle.places.proofs.Reading.{record-wide, body-at, length-before}
+use Rattle.places.proofs.Walked.{Walked, walk-on, walk-stops, walk-ends, getD-values}
 
 -- ---- the steps, by the kind of a record
 

@@ -5,9 +5,9 @@ use Prim.Native.Nat.{ℕ, zero, suc, _+_, _-_, _*_, _/_, _≤_, _<_, min}
 use native.Mathlib.Nat.{add-sub-cancel-left}
 use native.Mathlib.Omega.{arith}
 use lib.ListN.{length, take, drop, getD, length-take, length-drop, length-map, List·getD-eq-default}
-use lib.Seq.{drop-drop, getD-take, getD-drop}
+use lib.Seq.{drop-drop, getD-drop}
 use Rattle.format.specs.Basics.{chunks}
-use Rattle.format.specs.Record.{View, view}
+use Rattle.format.specs.Record.{view}
 use Rattle.format.specs.Edit.{absent}
 use Rattle.format.proofs.Lists.{length-chunks, wide-chunks, wide-get}
 use Rattle.places.specs.Place.{recordsOf, bodyOf}

@@ -1,19 +1,17 @@
 -- A pass over headers and items that jumps over their data records comes to what format's folds over all records come to. Assumes nothing.
 use mathlib.Core.Path.{_≡_, refl, ap, sym, _∙_}
-use mathlib.Core.Bool.{Bool, true, false, cond, _&&_}
+use mathlib.Core.Bool.{true, false, cond}
 use mathlib.Core.List.{List, [], _∷_}
-use Prim.Native.Nat.{ℕ, zero, suc, pred, _+_, _-_, _≤_, _<_}
+use Prim.Native.Nat.{ℕ, zero, suc, _+_, _-_, _≤_, _<_}
 use native.Mathlib.Omega.{arith}
-use borrow.Author.Tests.{eq-eqb, ne-eqb, eqb-true, eqb-false}
-use lib.Dec.{eqb}
-use lib.ListN.{length, take, drop, getD, length-drop, drop-of-length-le}
+use borrow.Author.Tests.{eq-eqb, ne-eqb}
+use lib.ListN.{length, drop, getD, length-drop, drop-of-length-le}
 use lib.Seq.{drop-drop, drop-cons, ext-getD}
 use Rattle.format.specs.Record.{View}
 use Rattle.format.specs.Judge.{dueAfter, openAfter, isHeaderAt}
 use Rattle.format.specs.Edit.{dueBehind, openBehind, lastHeader, absent}
 use Rattle.format.specs.Above.{lastStart}
 use Rattle.records.specs.Entry.{viewFault}
-use Rattle.places.specs.declared.Place.{Place}
 use Rattle.places.specs.Place.{readable, values, lastOf, lastHeaders, noPlace, placeIn}
 
 -- ---- a fold that looks at no data record may jump over those that are due; the records have numbers from `number` on
@@ -52,9 +50,6 @@ getD-values zero from f i h = absurd (omega arith)
 getD-values (suc count) from f zero h = ap f (let e : from ≡ from + 0 = omega arith in e)
 getD-values (suc count) from f (suc i) h = getD-values count (suc from) f i (omega arith) ∙ ap f (let e : suc from + i ≡ from + suc i = omega arith in e)
 
-from-zero : (n : ℕ) → n - n ≡ 0
-from-zero n = omega arith
-
 pub walk-start : (before : List View) → Walked before 0 0 0 (values 9 0 (λ level. 0))
 walk-start before = record {
   readable-kept = rw zero-left;
@@ -71,9 +66,6 @@ walk-start before = record {
 module _ (before : List View) (index opened start : ℕ) (headers : List ℕ) (w : Walked before index opened start headers) where
   -- one header or item more
   module _ (inside : index < length before) where
-    r : View
-    r = getD before index absent
-
     pub walk-on : (next opened′ : ℕ) (headers′ : List ℕ) → viewFault (getD before index absent) ≡ 0 → next ≡ suc index + dueAfter 0 (getD before index absent) → opened′ ≡ openAfter opened 0 (getD before index absent) → length headers′ ≡ 9 → ((level : ℕ) → level ≤ 8 → getD headers′ level 0 ≡ cond (isHeaderAt level (getD before index absent)) (suc index) (getD headers level 0)) → Walked before next opened′ (suc index) headers′
     walk-on next opened′ headers′ none n o nine kept = record {
       readable-kept = w .readable-kept ∙ here (λ d m rs. readable d rs) (λ d m x rs. refl) (λ d a b. refl) before index 0 inside ∙ rw (eq-eqb (viewFault (getD before index absent)) 0 none) (jump (λ d m rs. readable d rs) (λ d m x rs. refl) (λ d a b. refl) before index _ next inside n);

@@ -1,29 +1,11 @@
 //! Measures the proved judge: the cost of a record as the file grows, and speed beside a plain copy of the
 //! bytes. Each figure is the best of several rounds, all files in turn in each round, so that ratios compare.
 
+use bench::judge_sheet;
 use reference::random::Random;
 use reference::sheets;
 use std::hint::black_box;
 use std::time::Instant;
-
-/// The C interface's answer of a judgement.
-#[repr(C)]
-#[derive(Clone, Copy, Debug)]
-struct Counts {
-    refusal: u64,
-    at: usize,
-    records: usize,
-    items: usize,
-}
-
-extern "C" {
-    fn zv_judge_sheet(buffer: *const u8, length: usize, used: usize) -> Counts;
-}
-
-fn judge(file: &[u8]) -> Counts {
-    // The function reads `length` bytes from `buffer` and keeps nothing.
-    unsafe { zv_judge_sheet(file.as_ptr(), file.len(), file.len()) }
-}
 
 /// A sheet of one layer with grids of 1,000 columns, of at most 66,000 data records each.
 fn grids(records: usize) -> Vec<u8> {
@@ -61,7 +43,7 @@ struct Measured {
 /// Judges one file once, for a tool that counts instructions: `bench once grids|elements RECORDS`.
 fn once(kind: &str, records: usize) {
     let file = if kind == "grids" { grids(records) } else { elements(records) };
-    println!("{:?}", judge(&file));
+    println!("{:?}", judge_sheet(&file, file.len()));
 }
 
 fn main() {
@@ -75,8 +57,7 @@ fn main() {
     for (name, make) in [("grids", grids as fn(usize) -> Vec<u8>), ("small elements", elements)] {
         for records in [2_000, 20_000, 199_000] {
             let file = make(records);
-            let counts = judge(&file);
-            assert_eq!(counts.refusal, 0, "{name} {records}: {counts:?}");
+            let counts = judge_sheet(&file, file.len()).expect("an accepted sheet");
             let name = format!("{name}, {} records", counts.records);
             all.push(Measured { name, file, judged: f64::MAX, copied: f64::MAX });
         }
@@ -87,7 +68,7 @@ fn main() {
             let turns = 20_000_000 / m.file.len() + 1;
             let start = Instant::now();
             for _ in 0..turns {
-                black_box(judge(black_box(&m.file)));
+                black_box(judge_sheet(black_box(&m.file), m.file.len())).ok();
             }
             m.judged = m.judged.min(start.elapsed().as_secs_f64() / turns as f64);
             let start = Instant::now();

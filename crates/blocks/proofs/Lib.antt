@@ -1,0 +1,3 @@
+pub mod Data
+pub mod Items
+pub mod Laws

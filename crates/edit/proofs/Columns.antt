@@ -1,0 +1,139 @@
+-- The counts of a header and of record 2, in the code's own words: where they stand, what is read of them, and how they are written. Assumes nothing.
+use mathlib.Core.Path.{_≡_, refl, ap, sym, _∙_}
+use mathlib.Core.Bool.{Bool, true, false}
+use mathlib.Core.List.{List}
+use Prim.Native.Nat.{ℕ, zero, suc, _+_, _-_, _*_, _^_, _≤_, _<_}
+use native.Mathlib.Nat.{pow-le-pow-right}
+use native.Mathlib.Omega.{arith}
+use borrow.Author.Tests.{lt-ltb, ltb-true, ltb-false}
+use lib.Dec.{ltb}
+use lib.IntN.{pos}
+use lib.ListN.{length}
+use mir.Syntax.{w64}
+use mir.Val.{SFits, toZ, ofZ}
+use mir.ValLaws.{toZ-ofZ}
+use Rattle.format.specs.Column.{columnOf, numberOf, written}
+use Rattle.format.specs.Layout.{column, splice, find, numberAt, header}
+use Rattle.format.specs.Record.{countName, countIn}
+use Rattle.format.proofs.Columns.{length-column, number-below, length-splice, length-written}
+use Rattle.format.proofs.ColumnFits.{fits-plus}
+use Rattle.format.proofs.RecordHeaders.{number-total, number-count}
+use Rattle.columns.specs.InRecord.{writeAt}
+use Rattle.columns.proofs.Laws.{write-at-bytes}
+use Rattle.edit.specs.declared.counts.Change.{Change}
+use Rattle.edit.specs.Counts.{countStart, countWidth, withCounts, Fitting}
+
+-- ---- where the ten counts stand
+
+nine : (kind : ℕ) → kind < 9 → (23 + kind * 5 ≡ countStart kind) × (5 ≡ countWidth kind)
+unfolding countStart countWidth countName find header
+nine zero h = (refl, refl)
+nine (suc zero) h = (refl, refl)
+nine (suc (suc zero)) h = (refl, refl)
+nine (suc (suc (suc zero))) h = (refl, refl)
+nine (suc (suc (suc (suc zero)))) h = (refl, refl)
+nine (suc (suc (suc (suc (suc zero))))) h = (refl, refl)
+nine (suc (suc (suc (suc (suc (suc zero)))))) h = (refl, refl)
+nine (suc (suc (suc (suc (suc (suc (suc zero))))))) h = (refl, refl)
+nine (suc (suc (suc (suc (suc (suc (suc (suc zero)))))))) h = (refl, refl)
+nine (suc (suc (suc (suc (suc (suc (suc (suc (suc k))))))))) h = absurd (omega arith)
+
+tenth : (kind : ℕ) → 9 ≤ kind → kind ≤ 9 → (68 ≡ countStart kind) × (1 ≡ countWidth kind)
+unfolding countStart countWidth countName find header
+tenth kind h k = let n : kind ≡ 9 = omega arith in rw n (refl, refl)
+
+module _ (kind : ℕ) where
+  pub nine-start : kind < 9 → 23 + kind * 5 ≡ countStart kind
+  nine-start h = (nine kind h) .0
+
+  pub nine-width : kind < 9 → 5 ≡ countWidth kind
+  nine-width h = (nine kind h) .1
+
+  pub grid-start : 9 ≤ kind → kind ≤ 9 → 68 ≡ countStart kind
+  grid-start h k = (tenth kind h k) .0
+
+  pub grid-width : 9 ≤ kind → kind ≤ 9 → 1 ≡ countWidth kind
+  grid-width h k = (tenth kind h k) .1
+
+  -- inside the record
+  pub count-place : kind ≤ 9 → (countStart kind + countWidth kind ≤ 84) × (1 ≤ countWidth kind) × (countWidth kind ≤ 5)
+  count-place h = go (ltb kind 9) refl
+    where
+      go : (t : Bool) → ltb kind 9 ≡ t → (countStart kind + countWidth kind ≤ 84) × (1 ≤ countWidth kind) × (countWidth kind ≤ 5)
+      go true e = let p = nine kind (ltb-true kind 9 e) in let l : kind < 9 = ltb-true kind 9 e in (omega (arith, p .0, p .1), omega (arith, p .1), omega (arith, p .1))
+      go false e = let p = tenth kind (ltb-false kind 9 e) h in (omega (arith, p .0, p .1), omega (arith, p .1), omega (arith, p .1))
+
+-- ---- reading
+
+pub column-below : (r : List ℕ) (start width n : ℕ) → n ≡ numberOf (columnOf (column start width r)) → start + width ≤ length r → width ≤ 5 → n < 100000
+column-below r start width n e h k = omega (arith, e, rw (length-column start width r h) at (number-below (column start width r)), pow-le-pow-right {n = 10} (omega arith) {i = width} {j = 5} k)
+
+module _ (r : List ℕ) (n : ℕ) (wide : length r ≡ 84) where
+  pub total-read : n ≡ numberOf (columnOf (column 18 5 r)) → n ≡ numberAt header "total" r
+  total-read e = e ∙ sym (number-total r)
+
+  pub total-small : n ≡ numberOf (columnOf (column 18 5 r)) → n < 100000
+  total-small e = column-below r 18 5 n e (omega arith) (omega arith)
+
+module _ (kind start width : ℕ) (h : kind ≤ 9) (s : start ≡ countStart kind) (w : width ≡ countWidth kind) where
+  -- the column of a count lies inside the record
+  pub count-inside : start + width ≤ 84
+  count-inside = omega (arith, (count-place kind h) .0)
+
+  pub count-narrow : width ≤ 18
+  count-narrow = omega (arith, (count-place kind h) .2)
+
+  module _ (r : List ℕ) (n : ℕ) (wide : length r ≡ 84) (e : n ≡ numberOf (columnOf (column start width r))) where
+    pub count-read : n ≡ countIn r kind
+    unfolding countStart countWidth
+    count-read = e ∙ rw (s, w) (sym (number-count kind r))
+
+    pub count-small : n < 100000
+    count-small = column-below r start width n e (omega (arith, count-inside)) (omega (arith, (count-place kind h) .2))
+
+-- ---- writing
+
+module _ (width n : ℕ) (most : width ≤ 7) (small : n < 10 ^ width) where
+  pub number-fits : SFits w64 (pos n)
+  number-fits = record { sfits = omega (arith, pow-le-pow-right {n = 10} (omega arith) {i = width} {j = 7} most) }
+
+  pub number-written : (l l′ : List ℕ) (start : ℕ) (done : Bool) → start + width ≤ length l → 1 ≤ width → record { done = done; bytes = l′ } ≡ writeAt l start width (toZ w64 (ofZ w64 (pos n))) → l′ ≡ splice start width (written width (pos n)) l
+  number-written l l′ start done room some e =
+      write-at-bytes l start width (pos n) room some (omega arith) (fits-plus width n some (omega arith) ∙ lt-ltb n (10 ^ width) small) done l′ (e ∙ ap (writeAt l start width) (toZ-ofZ w64 (pos n) number-fits))
+
+-- ---- `write_counts`
+
+pub start-small : (kind start : ℕ) → kind ≤ 9 → start ≡ countStart kind → start ≤ 84
+start-small kind start h s = omega (arith, (count-place kind h) .0)
+
+module _ (c : Change) (l : List ℕ) (f : Fitting c (length l)) (start width : ℕ) (s : start ≡ countStart (c .kind)) (w : width ≡ countWidth (c .kind)) (l₁ : List ℕ) (first : l₁ ≡ splice (84 * c .header + 18) 5 (written 5 (pos (c .total))) l) where
+  length-first : length l₁ ≡ length l
+  length-first = ap length first ∙ length-splice (84 * c .header + 18) 5 (written 5 (pos (c .total))) l (length-written 5 (pos (c .total))) (omega (arith, f .header-in))
+
+  pub count-room : 84 * c .header + start + width ≤ length l₁
+  count-room = omega (arith, (count-place (c .kind) (f .kind-most)) .0, length-first, f .header-in)
+
+  pub count-some : 1 ≤ width
+  count-some = omega (arith, (count-place (c .kind) (f .kind-most)) .1)
+
+  pub count-most : width ≤ 7
+  count-most = omega (arith, (count-place (c .kind) (f .kind-most)) .2)
+
+  pub count-below : c .count < 10 ^ width
+  count-below = rw w (f .count-fits)
+
+  pub all-written : (l₂ l₃ l₄ : List ℕ) → l₂ ≡ splice (84 * c .header + start) width (written width (pos (c .count))) l₁ → l₃ ≡ splice 115 6 (written 6 (pos (c .elements))) l₂ → l₄ ≡ splice 121 7 (written 7 (pos (c .records))) l₃ → l₄ ≡ withCounts c l
+  unfolding withCounts
+  all-written l₂ l₃ l₄ second third fourth = fourth ∙ rw (third, second, first, s, w)
+
+-- ---- one more still fits: a count is no larger than the total, and that of grids and nets has one digit
+pub one-more-fits : (kind n total : ℕ) → kind ≤ 9 → (kind ≡ 9 → n + 1 ≤ 9) → n ≤ total → total + 1 ≤ 99999 → n + 1 < 10 ^ countWidth kind
+one-more-fits kind n total h nine-most le most = go (ltb kind 9) refl
+  where
+    go : (t : Bool) → ltb kind 9 ≡ t → n + 1 < 10 ^ countWidth kind
+    go true e = rw (← (nine-width kind (ltb-true kind 9 e))) (omega arith)
+    go false e = let z : kind ≡ 9 = omega (arith, ltb-false kind 9 e) in rw (← (grid-width kind (ltb-false kind 9 e) h)) (omega (arith, nine-most z))
+
+pub one-less-fits : (r : List ℕ) (kind : ℕ) → length r ≡ 84 → kind ≤ 9 → countIn r kind - 1 < 10 ^ countWidth kind
+unfolding countStart countWidth
+one-less-fits r kind w h = omega (arith, number-count kind r, rw (length-column (countStart kind) (countWidth kind) r (omega (arith, (count-place kind h) .0))) at (number-below (column (countStart kind) (countWidth kind) r)))

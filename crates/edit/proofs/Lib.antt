@@ -1,0 +1,11 @@
+pub mod Bytes
+pub mod Columns
+pub mod Rewrites
+pub mod Targets
+pub mod Accepted
+pub mod AtPlace
+pub mod Inserted
+pub mod Insertion
+pub mod Removed
+pub mod Removal
+pub mod Outcomes

@@ -1,0 +1,37 @@
+-- The four columns that an edit rewrites, as columns of the whole buffer. Private functions alone cite these. Assumes nothing.
+use mathlib.Core.List.{List}
+use Prim.Native.Nat.{ℕ, _+_, _*_, _^_, _≤_, _<_}
+use lib.IntN.{pos}
+use Rattle.format.specs.Column.{written}
+use Rattle.format.specs.Layout.{splice, find, header}
+use Rattle.format.specs.Record.{countName}
+use Rattle.edit.specs.declared.counts.Change.{Change}
+
+-- where the count of a kind stands in a header, and how wide it is
+unfoldable pub countStart : ℕ → ℕ
+countStart kind = (find (countName kind) header) .start
+
+unfoldable pub countWidth : ℕ → ℕ
+countWidth kind = (find (countName kind) header) .width
+
+-- the buffer with a number in a column of the record at an index, in written form
+abbrev pub put : (index start width number : ℕ) → List ℕ → List ℕ
+put index start width number bytes = splice (84 * index + start) width (written width (pos number)) bytes
+
+-- "rewrites four columns in written form (total and own kind in the header above, both sheet counts)"
+unfoldable pub withCounts : Change → List ℕ → List ℕ
+withCounts c bytes =
+    put 1 37 7 (c .records) (
+    put 1 31 6 (c .elements) (
+    put (c .header) (countStart (c .kind)) (countWidth (c .kind)) (c .count) (
+    put (c .header) 18 5 (c .total) bytes)))
+
+-- the two records stand in a buffer of so many bytes, and the four numbers fit their columns
+pub record Fitting (c : Change) (room : ℕ) : Type 0 where
+  pub header-in : 84 * c .header + 84 ≤ room
+  pub two-in : 168 ≤ room
+  pub kind-most : c .kind ≤ 9
+  pub total-fits : c .total < 10 ^ 5
+  pub count-fits : c .count < 10 ^ countWidth (c .kind)
+  pub elements-fit : c .elements < 10 ^ 6
+  pub records-fit : c .records < 10 ^ 7

@@ -1,0 +1,125 @@
+// The counts that an edit changes: those of a header read, and all four written.
+ghost use mathlib.Core.Path.{_≡_};
+ghost use Prim.Native.Nat.{_+_, _^_, _≤_, _<_};
+ghost use lib.IntN.{pos};
+ghost use lib.ListN.{length};
+ghost use Rattle.format.specs.Column.{columnOf, integer, numberOf, written};
+ghost use Rattle.format.specs.Layout.{column, splice, numberAt, header};
+ghost use Rattle.format.specs.Record.{countIn};
+ghost use Rattle.edit.specs.Counts.{countStart, countWidth, Fitting, withCounts};
+use format::Column;
+use layouts::Header;
+use layouts::SheetB;
+
+// Bytes of a record.
+const RECORD: usize = 84;
+
+// What an edit changes. `header` is the index of the header above, counted from 0; `kind` is the count that the item belongs to; then the
+// header's total and that count, and the element count and the record count of the sheet, as they are to be written. The item's
+// bytes go in or out at `start`, `length` of them.
+pub(crate) struct Change {
+    pub header: usize,
+    pub kind: usize,
+    pub total: usize,
+    pub count: usize,
+    pub elements: usize,
+    pub records: usize,
+    pub start: usize,
+    pub length: usize,
+}
+
+// Where the count of a kind stands in a header: nine I5 in a row, and I1 for grid and net.
+fn count_start(kind: usize) -> usize
+    requires { ⌜ kind ≤ 9 ⌝ }
+    ensures { λ r. ⌜ r ≡ countStart kind ⌝ }
+{
+    if kind < 9 {
+        return Header::GROUPS_START + kind * Header::GROUPS_WIDTH;
+    }
+    Header::GRID_AND_NET_START
+}
+
+fn count_width(kind: usize) -> usize
+    requires { ⌜ kind ≤ 9 ⌝ }
+    ensures { λ r. ⌜ r ≡ countWidth kind ⌝ }
+{
+    if kind < 9 {
+        return Header::GROUPS_WIDTH;
+    }
+    Header::GRID_AND_NET_WIDTH
+}
+
+// The number in a column; 0 where it has none.
+fn integer_at(record: &[u8], start: usize, width: usize) -> i64
+    requires { ⌜ (length (now «record») ≡ 84) × (start + width ≤ 84) × (width ≤ 18) ⌝ }
+    ensures { λ r. ⌜ r ≡ integer (columnOf (column start width (now («record» .entry)))) ⌝ }
+{
+    match columns::column_at(record, start, width) {
+        Column::Value(number) => number,
+        _ => 0,
+    }
+}
+
+// The same of at least 0; 0 for a negative one.
+fn number_at(record: &[u8], start: usize, width: usize) -> usize
+    requires { ⌜ (length (now «record») ≡ 84) × (start + width ≤ 84) × (width ≤ 18) ⌝ }
+    ensures { λ r. ⌜ (r ≡ numberOf (columnOf (column start width (now («record» .entry))))) × (r < 2 ^ 63) ⌝ }
+{
+    let number = integer_at(record, start, width);
+    if number < 0 { 0 } else { number as usize }
+}
+
+// The total that a header states.
+pub(crate) fn stated_total(record: &[u8]) -> usize
+    requires { ⌜ length (now «record») ≡ 84 ⌝ }
+    ensures { λ r. ⌜ (r ≡ numberAt header "total" (now («record» .entry))) × (r < 100000) ⌝ }
+{
+    number_at(record, Header::TOTAL_START, Header::TOTAL_WIDTH)
+}
+
+// Its count of a kind.
+pub(crate) fn stated_count(record: &[u8], kind: usize) -> usize
+    requires { ⌜ (length (now «record») ≡ 84) × (kind ≤ 9) ⌝ }
+    ensures { λ r. ⌜ (r ≡ countIn (now («record» .entry)) kind) × (r < 100000) ⌝ }
+{
+    let start = count_start(kind);
+    let width = count_width(kind);
+    number_at(record, start, width)
+}
+
+// A number in a column of the buffer, in written form.
+fn write_number(buffer: &mut [u8], start: usize, width: usize, number: usize)
+    requires { ⌜ (start + width ≤ length (now buffer)) × (1 ≤ width) × (width ≤ 7) × (number < 10 ^ width) ⌝ }
+    ensures { λ _. ⌜ now (buffer .exit) ≡ splice start width (written width (pos number)) (now (buffer .entry)) ⌝ }
+{
+    columns::write_at(buffer, start, width, number as i64);
+}
+
+// Total and own kind in the header above, element count and record count in record 2.
+pub(crate) fn write_counts(buffer: &mut [u8], change: Change)
+    requires { ⌜ Fitting change (length (now buffer)) ⌝ }
+    ensures { λ _. ⌜ now (buffer .exit) ≡ withCounts change (now (buffer .entry)) ⌝ }
+{
+    let header = RECORD * change.header;
+    let start = header + count_start(change.kind);
+    let width = count_width(change.kind);
+    write_number(
+        buffer,
+        header + Header::TOTAL_START,
+        Header::TOTAL_WIDTH,
+        change.total,
+    );
+    write_number(buffer, start, width, change.count);
+    write_number(
+        buffer,
+        RECORD + SheetB::ELEMENT_COUNT_START,
+        SheetB::ELEMENT_COUNT_WIDTH,
+        change.elements,
+    );
+    write_number(
+        buffer,
+        RECORD + SheetB::RECORD_COUNT_START,
+        SheetB::RECORD_COUNT_WIDTH,
+        change.records,
+    );
+}

@@ -1,0 +1,59 @@
+//! The proved library through its C interface, for measurements and for tests against the reference.
+
+use reference::judge::Counts;
+use reference::Refusal;
+
+#[repr(C)]
+struct RawCounts {
+    refusal: u64,
+    at: usize,
+    records: usize,
+    items: usize,
+}
+
+#[repr(C)]
+struct RawWay {
+    refusal: u64,
+    at: usize,
+    header: usize,
+    passed: usize,
+}
+
+extern "C" {
+    fn zv_judge_sheet(buffer: *const u8, length: usize, used: usize) -> RawCounts;
+    fn zv_judge_index(buffer: *const u8, length: usize, used: usize) -> RawCounts;
+    fn zv_way_up(buffer: *const u8, length: usize, used: usize, number: usize) -> RawWay;
+}
+
+fn refusal(number: u64, record: usize) -> Refusal {
+    Refusal { number: number as u8, record }
+}
+
+fn counts(raw: RawCounts) -> Result<Counts, Refusal> {
+    if raw.refusal == 0 {
+        Ok(Counts { records: raw.records, items: raw.items })
+    } else {
+        Err(refusal(raw.refusal, raw.at))
+    }
+}
+
+/// Judges a sheet by the proved library.
+pub fn judge_sheet(buffer: &[u8], used: usize) -> Result<Counts, Refusal> {
+    // The function reads `length` bytes from `buffer` and keeps nothing.
+    counts(unsafe { zv_judge_sheet(buffer.as_ptr(), buffer.len(), used) })
+}
+
+/// Judges an index by the proved library.
+pub fn judge_index(buffer: &[u8], used: usize) -> Result<Counts, Refusal> {
+    counts(unsafe { zv_judge_index(buffer.as_ptr(), buffer.len(), used) })
+}
+
+/// The way up by the proved library: the header above, if there is one, and the headers passed.
+pub fn way_up(buffer: &[u8], used: usize, number: usize) -> Result<(Option<usize>, usize), Refusal> {
+    let raw = unsafe { zv_way_up(buffer.as_ptr(), buffer.len(), used, number) };
+    if raw.refusal == 0 {
+        Ok(((raw.header != 0).then_some(raw.header), raw.passed))
+    } else {
+        Err(refusal(raw.refusal, raw.at))
+    }
+}
