@@ -10,7 +10,7 @@ use mir.Syntax.{w64}
 use mir.Val.{SFits, toZ, ofZ}
 use mir.ValLaws.{toZ-ofZ}
 use Rattle.format.specs.Judge.{Counts}
-use Rattle.format.specs.Answers.{numberAnswer, writtenAnswer, partsAnswer, judgedAnswer, wayUpAnswer}
+use Rattle.format.specs.Answers.{numberAnswer, writtenAnswer, partsAnswer, judgedAnswer, wayUpAnswer, editedAnswer}
 use Rattle.format.specs.declared.Number.{Number}
 use Rattle.format.specs.declared.Number.the-variants as Number
 use Rattle.format.specs.declared.Written.{Written}
@@ -20,6 +20,10 @@ use Rattle.format.specs.declared.Parts.the-variants as Parts
 use Rattle.format.specs.declared.Judged.{Judged}
 use Rattle.format.specs.declared.Judged.the-variants as Judged
 use Rattle.format.specs.Above.{Way}
+use Rattle.format.specs.Run.{Step}
+use Rattle.format.specs.declared.Edited.{Edited}
+use Rattle.format.specs.declared.Edited.the-variants as Edited
+use Rattle.edit.specs.Step.{stepFor}
 use Rattle.format.specs.declared.WayUp.{WayUp}
 use Rattle.format.specs.declared.WayUp.the-variants as WayUp
 use Rattle.exports.specs.declared.ZvWay.{ZvWay}
@@ -27,7 +31,7 @@ use Rattle.exports.specs.declared.ZvNumber.{ZvNumber}
 use Rattle.exports.specs.declared.ZvCorner.{ZvCorner}
 use Rattle.exports.specs.declared.ZvCounts.{ZvCounts}
 use Rattle.exports.specs.declared.ZvLength.{ZvLength}
-use Rattle.exports.specs.Interface.{numberOf, cornerOf, countsOf, lengthOf, wayOf, Wrote, wroteOf}
+use Rattle.exports.specs.Interface.{numberOf, cornerOf, countsOf, lengthOf, wayOf, Wrote, wroteOf, editedOf}
 
 pub is-number : {a : Number} {v z : ℤ} → a ≡ Number.Is v → z ≡ v → _≡_ {A = ZvNumber} (record { refusal = 0; at = 0; value = z }) (numberOf (numberAnswer a))
 unfolding numberAnswer
@@ -98,3 +102,20 @@ divided a unit z f e h = let k : a ≡ split unit z = rw (toZ-ofZ w64 z f) at e 
 
 pub column-written : {r : ZvLength} {bytes : List ℕ} {a : Answer ℕ} (column : List ℕ) (z : ℤ) → SFits w64 z → record { answer = a; bytes = bytes } ≡ writeAlone column (toZ w64 (ofZ w64 z)) → r ≡ lengthOf a → _≡_ {A = Wrote} (record { result = r; bytes = bytes }) (wroteOf (writeAlone column z))
 column-written column z f e h = rw h (ap wroteOf (e ∙ ap (writeAlone column) (toZ-ofZ w64 z f)))
+
+-- ---- edits
+pub is-edit : {a : Edited} {n : ℕ} → a ≡ Edited.Used n → _≡_ {A = ZvLength} (record { refusal = 0; at = 0; length = n }) (lengthOf (editedAnswer a))
+unfolding editedAnswer
+is-edit e = rw e
+
+pub no-edit : {a : Edited} {n r : ℕ} → a ≡ Edited.Refused n r → _≡_ {A = ZvLength} (record { refusal = n; at = r; length = 0 }) (lengthOf (editedAnswer a))
+unfolding editedAnswer
+no-edit e = rw e
+
+step-is : (a : Edited) (used : ℕ) (bytes : List ℕ) → _≡_ {A = Wrote} (record { result = lengthOf (editedAnswer a); bytes = bytes }) (editedOf (stepFor a used bytes))
+unfolding stepFor
+step-is (Edited.Used n) used bytes = refl
+step-is (Edited.Refused n r) used bytes = refl
+
+pub edits : {r : ZvLength} {bytes : List ℕ} {s : Step} (a : Edited) (used : ℕ) → r ≡ lengthOf (editedAnswer a) → stepFor a used bytes ≡ s → _≡_ {A = Wrote} (record { result = r; bytes = bytes }) (editedOf s)
+edits {bytes = bytes} a used e f = rw e (step-is a used bytes ∙ ap editedOf f)

@@ -6,6 +6,7 @@ use Rattle.format.specs.Basics.{Answer, given, refused, Outcome}
 use Rattle.format.specs.Corner.{Corner}
 use Rattle.format.specs.Judge.{Counts}
 use Rattle.format.specs.Above.{Way}
+use Rattle.format.specs.Run.{Step}
 use Rattle.exports.specs.declared.ZvWay.{ZvWay}
 use Rattle.exports.specs.declared.ZvNumber.{ZvNumber}
 use Rattle.exports.specs.declared.ZvCorner.{ZvCorner}
@@ -39,3 +40,7 @@ pub record Wrote : Type 0 where
 
 abbrev pub wroteOf : Outcome ℕ → Wrote
 wroteOf o = record { result = lengthOf (o .answer); bytes = o .bytes }
+
+-- an edit: its answer, and all bytes of the lent buffer afterwards
+abbrev pub editedOf : Step → Wrote
+editedOf s = record { result = lengthOf (s .reply); bytes = s .buffer .bytes }

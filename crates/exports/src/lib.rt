@@ -7,9 +7,12 @@ ghost use Rattle.format.specs.Column.{readAlone, writeAlone};
 ghost use Rattle.format.specs.Corner.{join, split};
 ghost use Rattle.format.specs.Judge.{judgeSheet, judgeIndex};
 ghost use Rattle.format.specs.Above.{up};
+ghost use Rattle.format.specs.Edit.{insert, remove};
+ghost use Rattle.format.specs.Run.{call};
 ghost use Rattle.format.specs.Normal.{normalSheet, normalIndex};
-ghost use Rattle.format.specs.Answers.{numberAnswer, writtenAnswer, partsAnswer, judgedAnswer, wayUpAnswer};
-ghost use Rattle.exports.specs.Interface.{numberOf, cornerOf, countsOf, lengthOf, wayOf, Wrote, wroteOf};
+ghost use Rattle.format.specs.Answers.{numberAnswer, writtenAnswer, partsAnswer, judgedAnswer, wayUpAnswer, editedAnswer};
+ghost use Rattle.exports.specs.Interface.{numberOf, cornerOf, countsOf, lengthOf, wayOf, Wrote, wroteOf, editedOf};
+use format::Edited;
 use format::Judged;
 use format::Number;
 use format::Parts;
@@ -221,4 +224,36 @@ pub extern "C" fn zv_normal_index(buffer: &[u8], used: usize, second: &mut [u8])
     ensures { λ r. ⌜ record { result = r; bytes = now (second .exit) } ≡ wroteOf (normalIndex used (now (buffer .entry)) (now (second .entry))) ⌝ }
 {
     length(normal::normal_index(buffer, used, second))
+}
+
+fn edited(answer: Edited) -> ZvLength
+    ensures { λ r. ⌜ r ≡ lengthOf (editedAnswer answer) ⌝ }
+{
+    match answer {
+        Edited::Used(length) => ZvLength {
+            refusal: 0,
+            at: 0,
+            length,
+        },
+        Edited::Refused(refusal, at) => ZvLength {
+            refusal: refusal as u64,
+            at,
+            length: 0,
+        },
+    }
+}
+
+// A block inserted into a sheet before a record, or at its end; and the item at a record removed. The answer's length is the new used length.
+#[no_mangle]
+pub extern "C" fn zv_insert(buffer: &mut [u8], used: usize, place: usize, block: &[u8]) -> ZvLength
+    ensures { λ r. ⌜ record { result = r; bytes = now (buffer .exit) } ≡ editedOf (call (insert place (now (block .entry))) (record { bytes = now (buffer .entry); used = used })) ⌝ }
+{
+    edited(edit::insert(buffer, used, place, block))
+}
+
+#[no_mangle]
+pub extern "C" fn zv_remove(buffer: &mut [u8], used: usize, place: usize) -> ZvLength
+    ensures { λ r. ⌜ record { result = r; bytes = now (buffer .exit) } ≡ editedOf (call (remove place) (record { bytes = now (buffer .entry); used = used })) ⌝ }
+{
+    edited(edit::remove(buffer, used, place))
 }

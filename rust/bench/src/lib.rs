@@ -57,3 +57,34 @@ pub fn way_up(buffer: &[u8], used: usize, number: usize) -> Result<(Option<usize
         Err(refusal(raw.refusal, raw.at))
     }
 }
+
+#[repr(C)]
+struct RawLength {
+    refusal: u64,
+    at: usize,
+    length: usize,
+}
+
+extern "C" {
+    fn zv_insert(buffer: *mut u8, length: usize, used: usize, place: usize, block: *const u8, block_length: usize) -> RawLength;
+    fn zv_remove(buffer: *mut u8, length: usize, used: usize, place: usize) -> RawLength;
+}
+
+fn length(raw: RawLength) -> Result<usize, Refusal> {
+    if raw.refusal == 0 {
+        Ok(raw.length)
+    } else {
+        Err(refusal(raw.refusal, raw.at))
+    }
+}
+
+/// Inserts a block by the proved library; answers the new used length.
+pub fn insert(buffer: &mut [u8], used: usize, place: usize, block: &[u8]) -> Result<usize, Refusal> {
+    // The function reads the block, and reads and writes `length` bytes from `buffer`; it keeps nothing.
+    length(unsafe { zv_insert(buffer.as_mut_ptr(), buffer.len(), used, place, block.as_ptr(), block.len()) })
+}
+
+/// Removes the item at a place by the proved library; answers the new used length.
+pub fn remove(buffer: &mut [u8], used: usize, place: usize) -> Result<usize, Refusal> {
+    length(unsafe { zv_remove(buffer.as_mut_ptr(), buffer.len(), used, place) })
+}

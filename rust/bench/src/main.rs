@@ -1,9 +1,9 @@
 //! Measures the proved judge: the cost of a record as the file grows, and speed beside a plain copy of the
 //! bytes. Each figure is the best of several rounds, all files in turn in each round, so that ratios compare.
 
-use bench::judge_sheet;
+use bench::{insert, judge_sheet, remove};
 use reference::random::Random;
-use reference::sheets;
+use reference::{sheets, RECORD};
 use std::hint::black_box;
 use std::time::Instant;
 
@@ -40,10 +40,23 @@ struct Measured {
     copied: f64,
 }
 
-/// Judges one file once, for a tool that counts instructions: `bench once grids|elements RECORDS`.
+/// One call, for a tool that counts instructions: `bench once grids|elements|insert|remove RECORDS` judges a sheet of
+/// grids or of small elements, or edits the latter before its first item.
 fn once(kind: &str, records: usize) {
-    let file = if kind == "grids" { grids(records) } else { elements(records) };
-    println!("{:?}", judge_sheet(&file, file.len()));
+    let mut file = if kind == "grids" { grids(records) } else { elements(records) };
+    let used = file.len();
+    if kind == "grids" || kind == "elements" {
+        println!("{:?}", judge_sheet(&file, used));
+        return;
+    }
+    let first = (0..).find(|n| file[n * RECORD..].starts_with(b"E")).expect("an element");
+    file.extend(vec![b' '; 100 * RECORD]);
+    if kind == "insert" {
+        let block = sheets::item(&mut Random(5), 2, 2).concat();
+        println!("{:?}", insert(&mut file, used, first + 1, &block));
+    } else {
+        println!("{:?}", remove(&mut file, used, first + 1));
+    }
 }
 
 fn main() {
