@@ -16,7 +16,7 @@ use Rattle.format.specs.Answers.{wayUpAnswer}
 use Rattle.format.specs.declared.WayUp.the-variants.{Header, LayerHeader, Refused}
 use Rattle.format.proofs.JudgeWalks.{Passes, passes-split}
 use Rattle.format.proofs.JudgeAccepted.{accepted-ok}
-use Rattle.format.proofs.AboveWayUp.{way-up}
+use Rattle.format.proofs.AboveWayUp.{Answered, way-up}
 use Rattle.records.specs.declared.items.Entry.{Entry}
 use Rattle.records.specs.Entry.{viewFault, entryOf}
 use Rattle.records.proofs.Laws.{entry-fault, entry-level}
@@ -92,7 +92,10 @@ module _ (file : List ℕ) (number : ℕ) (accepted : AcceptedSheet file) (part 
     within = omega (arith, length-body file (part .length), sound .inside)
 
     answer : wayIn file number ≡ given (record { header = numbered (part .length) (aboveAt body at); passed = levelAt body at - 1 })
-    answer = way-is ∙ (way-up sheet (accepted .counts .records) (accepted .counts .items) number judged behind within) .answer
+    answer = way-is ∙ answered .answer ∙ ap (λ (n : ℕ). given (record { header = numbered (part .length) (aboveAt body at); passed = n })) (answered .levelLessOne)
+      where
+        answered : Answered sheet number
+        answered = way-up sheet (accepted .counts .records) (accepted .counts .items) number judged behind within
 
     o : OwnRecord body at
     o = own-record body passes at (omega arith) (omega (arith, within))

@@ -13,9 +13,8 @@ use Rattle.format.specs.Judge.{File, fileOf}
 use Rattle.format.specs.Edit.{insert, plain, insertFault, insert11, from12, from13, aboveBlock, inserted, blockOf, alterAt, absent, aboveIn, openBehind, before, at}
 use Rattle.format.specs.Run.{listOf, call}
 use Rattle.format.proofs.Basics.{first-zero}
-use Rattle.format.proofs.Run.{block-wide}
 use Rattle.format.proofs.EditInsert.{fits, sp, above-is, above-counts}
-use Rattle.format.proofs.Lists.{Wide, wide-append, wide-take, wide-drop, length-alterAt}
+use Rattle.format.proofs.Lists.{Wide, block-wide, wide-append, wide-take, wide-drop, length-alterAt}
 use Rattle.format.proofs.EditMoves.{as-records}
 use Rattle.edit.specs.declared.counts.Change.{Change}
 use Rattle.edit.specs.Counts.{withCounts}

@@ -3,7 +3,7 @@ use mathlib.Core.Path.{_≡_, ap, sym, _∙_}
 use mathlib.Core.Bool.{true}
 use mathlib.Core.Logic.{_⊎_, _↔_}
 use mathlib.Core.List.{List, [], _∷_, _++_}
-use Prim.Native.Nat.{ℕ, suc, _+_, _-_, _/_, _≤_, _<_}
+use Prim.Native.Nat.{ℕ, suc, _/_, _<_}
 use lib.IntN.{ℤ}
 use lib.ListN.{length}
 use borrow.Author.Tests.{lt-leb}
@@ -15,8 +15,8 @@ use Rattle.format.specs.Column.{readAlone, writeAlone}
 use Rattle.format.specs.Corner.{Corner, join, split}
 use Rattle.format.specs.Judge.{File, fileOf, headersAndItems, accepted, judge, judgeSheet}
 use Rattle.format.specs.Edit.{Edit, dueBehind}
-use Rattle.format.specs.Run.{Buffer, Runs}
-use Rattle.format.specs.Above.{numbered, aboveAt, levelAt, literal, up}
+use Rattle.format.specs.Run.{Buffer, Runs, Sound}
+use Rattle.format.specs.Above.{literal}
 use Rattle.format.proofs.JudgeWalks.{headersAndItems-append}
 use Rattle.format.proofs.JudgeCounts.{Agree, counted-at}
 use Rattle.format.proofs.Above.{dataRecords-head}
@@ -24,8 +24,7 @@ use Rattle.format.proofs.JudgeAccepted.{Ok, accepted-ok}
 use Rattle.format.proofs.JudgeMeaning.{meaning}
 use Rattle.format.proofs.ColumnRoundTrip.{round-trip}
 use Rattle.format.proofs.Corners.{split-only, split-joins, split-answers, refused-unjoined, unjoined-refused}
-use Rattle.format.proofs.Run.{Opened, accepted-opened, held-judged, demand3}
-use Rattle.format.proofs.AboveWayUp.{way-up}
+use Rattle.format.proofs.Run.{Opened, accepted-opened, held-judged, sound, demand3}
 use Rattle.format.proofs.SheetCounts.{theLaws}
 
 -- what was written reads as that number, for every width and number
@@ -44,9 +43,14 @@ no-pair unit z = (refused-unjoined unit z, unjoined-refused unit z)
 pub pair-or-16 : (unit : ℕ) (z : ℤ) → ((c : Corner) × (split unit z ≡ given c)) ⊎ (split unit z ≡ refused 16 0)
 pair-or-16 = split-answers
 
--- DEMAND 3: a whole list of calls, from an accepted sheet
+-- DEMAND 3: a whole list of calls, refused ones included, from any accepted sheet in any buffer
 pub runs : (cs : List Edit) (b : Buffer) (n m : ℕ) → judgeSheet (b .used) (b .bytes) ≡ accepted n m → Runs cs b
 runs = demand3 theLaws
+
+-- what it says of the sheet after the list holds of every accepted sheet: its counts are exact, the way up from any record after the sheet part
+-- answers the header above with the number of headers met, and the next call keeps every byte but those of four columns
+pub any-sheet : (b : Buffer) (n m : ℕ) → judgeSheet (b .used) (b .bytes) ≡ accepted n m → Sound b
+any-sheet = sound theLaws
 
 -- the body of an accepted sheet is accepted by itself
 pub body-judged : (b : Buffer) (n m : ℕ) → judgeSheet (b .used) (b .bytes) ≡ accepted n m → judge (fileOf (chunks (b .used / 84) (b .bytes))) ≡ accepted n m
@@ -54,11 +58,6 @@ body-judged b n m e = sym (held-judged theLaws _ (o .held)) ∙ ap (λ (x : Buff
   where
     o : Opened theLaws b
     o = accepted-opened theLaws b n m e
-
--- the way up from any record behind the sheet part: "how many headers it passed: level less 1", at most eight
-pub way-up-counts : (b : Buffer) (n m p : ℕ) → judgeSheet (b .used) (b .bytes) ≡ accepted n m → let f = fileOf (chunks (b .used / 84) (b .bytes)) in f .partLength < p → p ≤ f .partLength + length (f .body) → (up (b .used) (b .bytes) p ≡ given (record { header = numbered (f .partLength) (aboveAt (f .body) (p - f .partLength)); passed = levelAt (f .body) (p - f .partLength) - 1 })) × (levelAt (f .body) (p - f .partLength) - 1 ≤ 8)
-unfolding up
-way-up-counts b n m p e l u = let a = way-up (fileOf (chunks (b .used / 84) (b .bytes))) n m p (body-judged b n m e) l u in (rw e (a .answer), a .most)
 
 -- the counts of an accepted sheet, in document 01's own words: what a header states of a kind is the number of headers and items of that kind
 -- whose header above it is

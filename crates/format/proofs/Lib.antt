@@ -22,5 +22,6 @@ pub mod EditRemove
 pub mod EditRecords
 pub mod EditMoves
 pub mod SheetCounts
+pub mod RunKept
 pub mod Run
 pub mod Claims

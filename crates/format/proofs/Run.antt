@@ -2,14 +2,15 @@
 use mathlib.Core.Path.{_≡_, refl, ap, ap₂, sym, _∙_}
 use mathlib.Core.Bool.{Bool, true, false, cond, _&&_}
 use mathlib.Core.List.{List, [], _∷_, _++_, map}
-use Prim.Native.Nat.{ℕ, zero, suc, _+_, _*_, _/_, _%_, _≤_}
+use Prim.Native.Nat.{ℕ, zero, suc, _+_, _*_, _/_, _%_, _≤_, _<_}
 use native.Mathlib.Omega.{arith}
 use lib.Dec.{leb, ltb, eqb}
 use borrow.Author.Tests.{leb-true, le-leb, eqb-true, eq-eqb, lt-ltb}
 use lib.ListN.{length, length-append, length-map, length-drop, drop, getD}
 use lib.Seq.{drop-at}
-use Rattle.format.specs.Basics.{Fault, none, fault, Answer, chunks, flat, stageOneOk}
-use Rattle.format.specs.Run.{Buffer, call, bufferOf, listOf, insertions, repliesBuffer, repliesPlain, runBuffer, runPlain, sum-of, removals, Runs, elementCount}
+use Rattle.format.specs.Basics.{Fault, none, fault, Answer, given, refused, chunks, flat, stageOneOk}
+use Rattle.format.specs.Run.{Buffer, call, bufferOf, listOf, insertions, repliesBuffer, repliesPlain, runBuffer, runPlain, sum-of, removals, Runs, Sound, Keeps, WayAnswered, elementCount, sheetOf, placeOf, itemOf, headerAbove, inFour, moved}
+use Rattle.format.specs.Above.{up}
 use Rattle.format.specs.Judge.{File, accepted, fileOf, judge, judgeRecords, judgeSheet, afterPart, afterStageOne}
 use Rattle.format.specs.Record.{nothing, view}
 use Rattle.format.specs.Edit.{Edit, RecordList, blockOf, conclude, remove11, removed, from12, from13, insert, plain, insert11, inserted, insertFault, remove}
@@ -18,7 +19,9 @@ use Rattle.format.proofs.Basics.{first-zero, and-true, true-and}
 use Rattle.format.proofs.JudgeAccepted.{accepted-ok, ok-accepted}
 use Rattle.format.proofs.EditInsert.{fits, fine-none}
 use Rattle.format.proofs.EditRemove.{cuts, cut-ok}
-use Rattle.format.proofs.Lists.{Wide, wide-chunks, chunks-flat, flat-chunks, length-flat, length-chunks}
+use Rattle.format.proofs.Lists.{Wide, block-wide, wide-chunks, chunks-flat, flat-chunks, length-flat, length-chunks}
+use Rattle.format.proofs.AboveWayUp.{way-up}
+use Rattle.format.proofs.RunKept.{KeepsList, plain-keeps}
 use Rattle.format.proofs.EditRecords.{Lawful, Held, put-held, cut-held, put-file, cut-file}
 
 list-path : (a b : RecordList) → a .records ≡ b .records → a .tail ≡ b .tail → a ≡ b
@@ -33,18 +36,6 @@ open-bufferOf g w = list-path _ _ (rw count (chunks-flat (g .records) (g .tail) 
   where
     count : 84 * length (g .records) / 84 ≡ length (g .records)
     count = omega arith
-
--- a block's records
-nil-wide : Wide []
-unfolding Wide
-nil-wide = tt
-
-pub block-wide : (bs : List ℕ) → Wide (blockOf bs)
-block-wide bs = go (eqb (length bs % 84) 0) refl
-  where
-    go : (t : Bool) → eqb (length bs % 84) 0 ≡ t → Wide (cond t (chunks (length bs / 84) bs) [])
-    go true e = wide-chunks (length bs / 84) bs (omega (arith, eqb-true (length bs % 84) 0 e))
-    go false e = nil-wide
 
 module _ (L : Lawful) where
   step-put : (g : RecordList) (p : ℕ) (blk : List (List ℕ)) → Held g → Wide blk → (n : ℕ) → insertFault (fileOf (g .records)) (g .tail) p (map view blk) ≡ n → Held ((conclude n g (inserted g p blk)) .list)
@@ -149,12 +140,45 @@ module _ (L : Lawful) where
       whole : partLength (g .records) + length (map view (drop (partLength (g .records)) (g .records))) ≡ length (g .records)
       whole = rw (length-map (drop (partLength (g .records)) (g .records)) view, length-drop (partLength (g .records)) (g .records)) (omega (arith, L .inside (g .records) (k .sheet)))
 
+  -- what holds of an accepted sheet
+  pub sound : (b : Buffer) (n m : ℕ) → judgeSheet (b .used) (b .bytes) ≡ accepted n m → Sound b
+  unfolding up
+  sound b n m e = record { accepts = accepts; ways = ways; keeps = keeps }
+    where
+      o : Opened b
+      o = accepted-opened b n m e
+
+      count : length ((listOf b) .records) ≡ b .used / 84
+      count = length-chunks (b .used / 84) (b .bytes)
+
+      judged : judgeSheet (b .used) (b .bytes) ≡ judge (sheetOf b)
+      judged = sym (ap (λ (x : Buffer). judgeSheet (x .used) (x .bytes)) (o .same)) ∙ held-judged (listOf b) (o .held)
+
+      accepts : judgeSheet (b .used) (b .bytes) ≡ accepted (b .used / 84) (elementCount b)
+      accepts = sym (ap (λ (x : Buffer). judgeSheet (x .used) (x .bytes)) (o .same)) ∙ held-accepted (listOf b) (o .held) ∙ ap (λ (x : ℕ). accepted x (elementCount b)) count
+
+      whole : (sheetOf b) .partLength + length ((sheetOf b) .body) ≡ b .used / 84
+      whole = rw (length-map (drop (partLength ((listOf b) .records)) ((listOf b) .records)) view, length-drop (partLength ((listOf b) .records)) ((listOf b) .records)) (omega (arith, count, L .inside ((listOf b) .records) (o .held .sheet)))
+
+      ways : (number : ℕ) → (sheetOf b) .partLength < number → number ≤ b .used / 84 → WayAnswered b number
+      ways number l u = let a = way-up (sheetOf b) n m number (sym judged ∙ e) l (omega (arith, whole)) in record { answer = rw e (a .answer); levelLessOne = a .levelLessOne; most = a .most }
+
+      keeps : (edit : Edit) → Keeps ((call edit b) .reply) edit b ((call edit b) .buffer)
+      keeps edit = rw is (go ((plain edit (listOf b)) .reply) (plain-keeps L edit (listOf b) (o .held)))
+        where
+          is : call edit b ≡ record { reply = (plain edit (listOf b)) .reply; buffer = bufferOf ((plain edit (listOf b)) .list) }
+          is = ap (call edit) (sym (o .same)) ∙ call-plain edit (listOf b) (o .held)
+
+          go : (r : Answer ℕ) → KeepsList r (inFour (headerAbove (listOf b) (placeOf edit) (itemOf edit (listOf b))) (itemOf edit (listOf b))) (listOf b) (moved edit (listOf b)) ((plain edit (listOf b)) .list) → Keeps r edit b (bufferOf ((plain edit (listOf b)) .list))
+          go (given u) h = h
+          go (refused x y) h = ap bufferOf h ∙ o .same
+
   -- DEMAND 3
   pub demand3 : (cs : List Edit) (b : Buffer) (n m : ℕ) → judgeSheet (b .used) (b .bytes) ≡ accepted n m → Runs cs b
   demand3 cs b n m e = record {
     replies = same-replies;
     buffer = same-buffer;
-    accepts = ap (λ (x : Buffer). judgeSheet (x .used) (x .bytes)) same-buffer ∙ held-accepted end last ∙ ap₂ accepted (sym (ap (λ (x : Buffer). x .used / 84) same-buffer ∙ whole)) (sym same-count);
+    sound = sound (runBuffer cs b) _ _ (ap (λ (x : Buffer). judgeSheet (x .used) (x .bytes)) same-buffer ∙ held-accepted end last);
     counts = ap₂ (λ (x : ℕ) (rs : List (Answer ℕ)). x + sum-of removals cs rs) same-count same-replies ∙ run-count cs (listOf b) (o .held) ∙ ap (λ (rs : List (Answer ℕ)). elementCount b + sum-of insertions cs rs) (sym same-replies);
   }
     where
@@ -175,6 +199,3 @@ module _ (L : Lawful) where
 
       same-count : elementCount (runBuffer cs b) ≡ statedElements (getD ((runPlain cs (listOf b)) .records) 1 [])
       same-count = ap elementCount same-buffer ∙ ap (λ (g : RecordList). statedElements (getD (g .records) 1 [])) (open-bufferOf end (last .wide))
-
-      whole : 84 * length ((runPlain cs (listOf b)) .records) / 84 ≡ length ((runPlain cs (listOf b)) .records)
-      whole = omega arith

@@ -1,12 +1,17 @@
 -- The public edit on a buffer, and lists of edits, on a buffer and on the plain record list. Assumes nothing.
 use mathlib.Core.Path.{_≡_}
+use mathlib.Core.Bool.{Bool, false, _&&_, _||_}
 use mathlib.Core.List.{List, [], _∷_, _++_}
-use Prim.Native.Nat.{ℕ, _+_, _*_, _/_}
-use lib.ListN.{length, drop, getD}
+use Prim.Native.Nat.{ℕ, suc, pred, _+_, _-_, _*_, _/_, _≤_, _<_}
+use lib.Dec.{leb, ltb}
+use lib.ListN.{length, take, drop, getD, replicate}
 use Rattle.format.specs.Basics.{Answer, given, refused, chunks, flat}
+use Rattle.format.specs.Layout.{Col, find, header, sheetB}
+use Rattle.format.specs.Record.{View, countIndex, countName}
 use Rattle.format.specs.Sheet.{statedElements}
-use Rattle.format.specs.Judge.{Counts, accepted, judgeSheet}
-use Rattle.format.specs.Edit.{RecordList, Edit, insert, remove, PlainStep, plain}
+use Rattle.format.specs.Judge.{Counts, File, fileOf, accepted, judgeSheet}
+use Rattle.format.specs.Edit.{RecordList, Edit, insert, remove, PlainStep, plain, aboveIn, bodyPlace, blockOf, firstView, removedItem}
+use Rattle.format.specs.Above.{levelAt, numbered, up, wayFrom}
 
 -- a lent buffer and the used length
 pub record Buffer : Type 0 where
@@ -75,11 +80,79 @@ sum-of g (c ∷ cs) (r ∷ rs) = g c r + sum-of g cs rs
 abbrev pub elementCount : Buffer → ℕ
 elementCount b = statedElements (getD ((listOf b) .records) 1 [])
 
--- DEMAND 3, of a list of calls from an accepted sheet. "Each answer equals its answer; at the end the buffer equals its records
--- followed by its tail"; the sheet is then accepted, with the records and items that its length and record 2 state; and the element
--- count is the first one, with the accepted insertions and without the accepted removals
+-- ---- "moves the rest unchanged": every byte is kept but those of four columns
+-- the item that an edit puts in or takes out, at its place
+abbrev pub placeOf : Edit → ℕ
+placeOf (insert place block) = place
+placeOf (remove place) = place
+
+abbrev pub itemOf : Edit → RecordList → View
+itemOf (insert place block) list = firstView list place (blockOf block)
+itemOf (remove place) list = removedItem list place
+
+-- the record number of the header above an item there
+abbrev pub headerAbove : RecordList → (place : ℕ) → (itemView : View) → ℕ
+headerAbove list place itemView =
+    numbered ((fileOf (list .records)) .partLength) (aboveIn (itemView .level) (take (bodyPlace list place) ((fileOf (list .records)) .body)))
+
+-- byte i of a buffer lies in this column of this record
+abbrev pub inColumn : (number : ℕ) → Col → (i : ℕ) → Bool
+inColumn number column i = leb (84 * pred number + column .start) i && ltb i (84 * pred number + column .start + column .width)
+
+-- "rewrites four columns .. (total and own kind in the header above, both sheet counts)"
+abbrev pub inFour : (above : ℕ) → (itemView : View) → (i : ℕ) → Bool
+inFour above itemView i =
+    (inColumn above (find "total" header) i || inColumn above (find (countName (countIndex (itemView .kind))) header) i)
+    || (inColumn 2 (find "element count" sheetB) i || inColumn 2 (find "record count" sheetB) i)
+
+-- the block put in at a place, or the item there taken out, and nothing else
+abbrev pub withBlock : RecordList → (place : ℕ) → (block : List (List ℕ)) → RecordList
+withBlock list place block = record {
+  records = take (pred place) (list .records) ++ (block ++ drop (pred place) (list .records));
+  tail = drop (84 * length block) (list .tail);
+}
+
+abbrev pub withoutItem : RecordList → (place : ℕ) → RecordList
+withoutItem list place = record {
+  records = take (pred place) (list .records) ++ drop (suc ((removedItem list place) .dataRecords)) (drop (pred place) (list .records));
+  tail = replicate (84 * suc ((removedItem list place) .dataRecords)) 32 ++ list .tail;
+}
+
+abbrev pub moved : Edit → RecordList → RecordList
+moved (insert place block) list = withBlock list place (blockOf block)
+moved (remove place) list = withoutItem list place
+
+-- what a call that answered so keeps of the buffer: a refused one all of it
+abbrev pub Keeps : Answer ℕ → Edit → (old new : Buffer) → Type 0
+Keeps (given used) edit old new = (i : ℕ) → inFour (headerAbove (listOf old) (placeOf edit) (itemOf edit (listOf old))) (itemOf edit (listOf old)) i ≡ false → getD (new .bytes) i 0 ≡ getD ((bufferOf (moved edit (listOf old))) .bytes) i 0
+Keeps (refused number at) edit old new = new ≡ old
+
+-- ---- "the way up answers the header above with the number of headers met": `wayFrom` is those two by definition. The number is level
+-- less one, at most eight
+abbrev pub sheetOf : Buffer → File
+sheetOf b = fileOf ((listOf b) .records)
+
+pub record WayAnswered (b : Buffer) (number : ℕ) : Type 0 where
+  pub answer : up (b .used) (b .bytes) number ≡ given (wayFrom (sheetOf b) number)
+  pub levelLessOne : (wayFrom (sheetOf b) number) .passed ≡ levelAt ((sheetOf b) .body) (number - (sheetOf b) .partLength) - 1
+  pub most : (wayFrom (sheetOf b) number) .passed ≤ 8
+
+-- ---- What holds of an accepted sheet at every moment
+pub record Sound (b : Buffer) : Type 0 where
+  -- accepted, with the records that its length makes and the items that record 2 states
+  pub accepts : judgeSheet (b .used) (b .bytes) ≡ accepted (b .used / 84) (elementCount b)
+  -- the way up from any record after the sheet part
+  pub ways : (number : ℕ) → (sheetOf b) .partLength < number → number ≤ b .used / 84 → WayAnswered b number
+  -- the next call, whatever it is
+  pub keeps : (edit : Edit) → Keeps ((call edit b) .reply) edit b ((call edit b) .buffer)
+
+-- ---- DEMAND 3, of a list of calls, from a sheet in a buffer
 pub record Runs (cs : List Edit) (b : Buffer) : Type 0 where
+  -- "Each answer equals its answer"
   pub replies : repliesBuffer cs b ≡ repliesPlain cs (listOf b)
+  -- "at the end the buffer equals its records followed by its tail"
   pub buffer : runBuffer cs b ≡ bufferOf (runPlain cs (listOf b))
-  pub accepts : judgeSheet ((runBuffer cs b) .used) ((runBuffer cs b) .bytes) ≡ accepted ((runBuffer cs b) .used / 84) (elementCount (runBuffer cs b))
+  -- the file is still accepted, the way up still right, and nothing lost
+  pub sound : Sound (runBuffer cs b)
+  -- the element count is the first one, with the accepted insertions and without the accepted removals
   pub counts : elementCount (runBuffer cs b) + sum-of removals cs (repliesBuffer cs b) ≡ elementCount b + sum-of insertions cs (repliesBuffer cs b)
