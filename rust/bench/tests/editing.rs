@@ -1,38 +1,17 @@
 //! A year of corrections: lists of insertions and removals, refused ones among them, by the proved library and by the reference. Every
 //! answer and every byte of the buffer must agree. `cargo test --release -p bench` after `rt staticlib exports`.
 
+use reference::calls::{self, Edit};
 use reference::random::Random;
-use reference::{edit, judge, sheets, RECORD};
+use reference::{sheets, Refusal, RECORD};
 use std::collections::BTreeMap;
 
-/// A place: most often where a header or an item starts, or one past the end.
-fn place(r: &mut Random, buffer: &[u8], used: usize) -> usize {
-    let records = used / RECORD;
-    match judge::accepted(buffer, used) {
-        Ok((walked, _)) if !walked.found.is_empty() && !r.once_in(4) => r.pick(&walked.found).place + 1,
-        _ => *r.pick(&[0, 1, records, records + 1, records + 2, usize::MAX, r.0 as usize % (records + 2)]),
+/// Runs an edit by the proved library; answers the new used length.
+fn proved(edit: &Edit, buffer: &mut [u8], used: usize) -> Result<usize, Refusal> {
+    match edit {
+        Edit::Insert(place, block) => bench::insert(buffer, used, *place as usize, block),
+        Edit::Remove(place) => bench::remove(buffer, used, *place as usize),
     }
-}
-
-/// A block: most often one sound item, else damaged, empty, ragged or two items.
-fn block(r: &mut Random) -> Vec<u8> {
-    let kind = if r.once_in(2) { 9 } else { 1 + r.below(8) };
-    let level = if r.once_in(2) { 2 } else { 1 + r.below(10) };
-    let sound = sheets::item(r, kind, level).concat();
-    match r.below(12) {
-        0 => sheets::damaged(r, &sound),
-        1 => sound[..sound.len() - r.below(RECORD)].to_vec(),
-        2 => [sound.clone(), sound].concat(),
-        3 => Vec::new(),
-        _ => sound,
-    }
-}
-
-/// A sheet whose one layer holds as many grids and nets as its header can state.
-fn full(r: &mut Random) -> Vec<u8> {
-    let mut body = vec![sheets::layer(&[(9, 9)])];
-    (0..9).for_each(|_| body.extend(sheets::item(r, 9, 2)));
-    sheets::sheet_of(r, body, 9)
 }
 
 #[test]
@@ -41,8 +20,8 @@ fn a_year_of_corrections() {
     let mut answers: BTreeMap<u8, usize> = BTreeMap::new();
     let mut calls = 0;
     while calls < 120_000 {
-        let size = r.below(5);
-        let sheet = if r.once_in(8) { full(&mut r) } else { sheets::sheet(&mut r, size) };
+        let (size, level) = (r.below(5), 1 + r.below(8));
+        let sheet = if r.once_in(8) { calls::full_header(&mut r, level) } else { sheets::sheet(&mut r, size) };
         let sheet = if r.once_in(30) { sheets::damaged(&mut r, &sheet) } else { sheet };
         let mut used = sheet.len();
         let mut ours = sheet;
@@ -50,13 +29,9 @@ fn a_year_of_corrections() {
         let mut theirs = ours.clone();
         for _ in 0..30 {
             let asked = if r.once_in(60) { *r.pick(&[0, used + 1, usize::MAX]) } else { used };
-            let at = place(&mut r, &ours, used);
-            let (a, b) = if r.once_in(3) {
-                (bench::remove(&mut ours, asked, at), edit::remove(&mut theirs, asked, at as u64))
-            } else {
-                let block = block(&mut r);
-                (bench::insert(&mut ours, asked, at, &block), edit::insert(&mut theirs, asked, at as u64, &block))
-            };
+            let edit = calls::draw(&mut r, &ours, used);
+            let a = proved(&edit, &mut ours, asked);
+            let b = edit.run(&mut theirs, asked);
             assert_eq!(a, b, "call {calls}");
             assert!(ours == theirs, "bytes after call {calls}");
             *answers.entry(a.map_or_else(|e| e.number, |_| 0)).or_default() += 1;

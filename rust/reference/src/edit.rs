@@ -28,7 +28,8 @@ fn above(walked: &Walked, place: usize, level: usize) -> Option<usize> {
     walked.found.iter().rfind(fits).map(|f| f.place)
 }
 
-fn open_level(walked: &Walked, place: usize) -> usize {
+/// The level of the last header before a place, or one less than the last item's; 0 before the first layer.
+pub fn open_level(walked: &Walked, place: usize) -> usize {
     match walked.found.iter().rfind(|f| f.place < place) {
         None => 0,
         Some(f) if f.sort == Sort::Header => f.level,

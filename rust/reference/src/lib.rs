@@ -5,6 +5,7 @@
 //! wording to speed. The vectors under `crates/*/stdin` and the differential tests take their answers
 //! from here.
 
+pub mod calls;
 pub mod column;
 pub mod corner;
 pub mod edit;
@@ -33,6 +34,11 @@ pub const RECORD: usize = 84;
 
 /// The most records that a file may have.
 pub const MOST_RECORDS: usize = 200_000;
+
+/// A digest of bytes: each counts 31 times for each byte behind it, modulo a prime.
+pub fn digest(bytes: &[u8]) -> u64 {
+    bytes.iter().fold(0, |h, b| (h * 31 + u64::from(*b)) % 4_294_967_291)
+}
 
 /// What the program prints for its standard input, without the line end.
 pub fn program(input: &[u8]) -> String {

@@ -4,6 +4,21 @@ use crate::layout::{Layout, Layouts, What, COUNTS, CORNERS};
 use crate::random::Random;
 use crate::RECORD;
 
+/// The example of document 01: five sheet records, one layer, one E2 of 7 points in 2D.
+pub const EXAMPLE_PART: [&str; 5] = [
+    "M 09LD1234Example sheet         500Town plan                      010               ",
+    "  -1234   5678   -934   5978        1      4  1   -934   5678  -1234   5978         ",
+    "                                                                                    ",
+    "2408240700Plotter                       Approval 1                    100           ",
+    "Survey office                            -56  50   0   0   0  50 -56   0            ",
+];
+pub const EXAMPLE_LAYER: &str = "H 2100 0   0   0 1    1    0    0    1    0    0    0    0    0    002408         0 ";
+pub const EXAMPLE_ITEM: [&str; 3] = [
+    "E22101 0   0   1 2 02210 00   7   2      0      0        0       2408              1",
+    "      0      0   1000      0   2000   -500   3000      0   4000      0   5000      0",
+    "   6000      0unused text is not judged                                             ",
+];
+
 /// A record under construction: all spaces, with its layout.
 struct Draft<'a> {
     layout: &'a Layout,
@@ -201,9 +216,14 @@ pub fn large_grid(rows: usize, columns: usize) -> Vec<Vec<u8>> {
 
 /// A layer header with so many of some kinds under it.
 pub fn layer(counts: &[(usize, usize)]) -> Vec<u8> {
+    header_of(1, counts)
+}
+
+/// A header of a level with so many of some kinds under it.
+pub fn header_of(level: usize, counts: &[(usize, usize)]) -> Vec<u8> {
     let mut r = Random(1);
     let total: usize = counts.iter().map(|(_, n)| n).sum();
-    let mut head = common(&mut r, &Layouts::shared().header, "H ", 1).number(&mut r, "total", total as i64);
+    let mut head = common(&mut r, &Layouts::shared().header, "H ", level).number(&mut r, "total", total as i64);
     for (kind, n) in counts {
         head = head.number(&mut r, COUNTS[*kind], *n as i64);
     }
@@ -289,7 +309,7 @@ fn header(r: &mut Random, level: usize, size: usize, out: &mut Vec<Vec<u8>>) -> 
 }
 
 /// Headers straight down to a depth of at most eight, with one item at the bottom.
-fn chain(r: &mut Random, depth: usize, out: &mut Vec<Vec<u8>>) -> usize {
+pub fn chain(r: &mut Random, depth: usize, out: &mut Vec<Vec<u8>>) -> usize {
     let all = Layouts::shared();
     let kind = 1 + r.below(9);
     for level in 1..=depth {

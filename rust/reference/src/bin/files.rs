@@ -6,7 +6,7 @@
 //! or `no NUMBER RECORD`, and behind it, where the file is accepted, the digest of its normal form.
 
 use reference::random::Random;
-use reference::{judge, normal, sheets, RECORD};
+use reference::{digest, judge, normal, sheets, RECORD};
 use std::collections::BTreeMap;
 use std::io::{self, Read, Write};
 
@@ -51,27 +51,15 @@ impl Case {
             normal::index(&self.buffer, self.used, &mut second)
         };
         done.expect("an accepted file has a normal form");
-        second.iter().fold(0, |h, b| (h * 31 + u64::from(*b)) % 4_294_967_291)
+        digest(&second)
     }
 }
 
 /// Files that stand in document 01, or at a border.
 fn fixed() -> Vec<Case> {
-    let five = [
-        "M 09LD1234Example sheet         500Town plan                      010               ",
-        "  -1234   5678   -934   5978        1      4  1   -934   5678  -1234   5978         ",
-        "                                                                                    ",
-        "2408240700Plotter                       Approval 1                    100           ",
-        "Survey office                            -56  50   0   0   0  50 -56   0            ",
-    ]
-    .concat();
-    let layer = "H 2100 0   0   0 1    1    0    0    1    0    0    0    0    0    002408         0 ";
-    let seven = [
-        "E22101 0   0   1 2 02210 00   7   2      0      0        0       2408              1",
-        "      0      0   1000      0   2000   -500   3000      0   4000      0   5000      0",
-        "   6000      0unused text is not judged                                             ",
-    ]
-    .concat();
+    let five = sheets::EXAMPLE_PART.concat();
+    let layer = sheets::EXAMPLE_LAYER;
+    let seven = sheets::EXAMPLE_ITEM.concat();
     let six = "E22101 0   0   1 2 02210 00   6   1      0      0        0       2408              1";
     let one_short = "E22101 0   0   1 2 02210 00   7   1      0      0        0       2408              1";
     let grid = "G 2101 0   0   0 2100010809999    500    500      0      02408         0 0         9";
