@@ -1,101 +1,196 @@
-//! Measures the proved judge: the cost of a record as the file grows, and speed beside a plain copy of the
-//! bytes. Each figure is the best of several rounds, all files in turn in each round, so that ratios compare.
+//! The benchmark: the proved judge beside an idiomatic one, the reference and a plain copy; its cost a record as files grow; edits beside a
+//! judging and a move. Every figure is the best of several rounds with all of them in turn, so that ratios compare. `bench once WHAT RECORDS`
+//! makes one call, for a tool that counts instructions.
 
-use bench::{insert, judge_sheet, remove};
+use bench::{files, idiomatic};
 use reference::random::Random;
-use reference::{sheets, RECORD};
+use reference::{judge, sheets, RECORD};
 use std::hint::black_box;
 use std::time::Instant;
+use zvaigulta::{insert, judge_sheet, remove};
 
-/// A sheet of one layer with grids of 1,000 columns, of at most 66,000 data records each.
-fn grids(records: usize) -> Vec<u8> {
-    let count = records.div_ceil(66_000);
-    let mut body = vec![sheets::layer(&[(9, count)])];
-    for _ in 0..count {
-        body.extend(sheets::large_grid(records / count * 12 / 1_000, 1_000));
-    }
-    sheets::sheet_of(&mut Random(3), body, count)
+const ROUNDS: usize = 9;
+
+/// Seconds of one call, the least of `turns`.
+fn least<T>(turns: usize, mut call: impl FnMut() -> T) -> f64 {
+    (0..turns).fold(f64::MAX, |best, _| {
+        let start = Instant::now();
+        black_box(call());
+        best.min(start.elapsed().as_secs_f64())
+    })
 }
 
-/// A sheet of one layer with so many records of small elements.
-fn elements(records: usize) -> Vec<u8> {
-    let mut r = Random(11);
-    let mut body: Vec<Vec<u8>> = vec![Vec::new()];
-    let mut counts = [0; 10];
-    while body.len() < records {
-        let kind = 1 + r.below(8);
-        counts[kind] += 1;
-        body.extend(sheets::item(&mut r, kind, 2));
-    }
-    let counts: Vec<(usize, usize)> = counts.iter().copied().enumerate().collect();
-    body[0] = sheets::layer(&counts);
-    let items = counts.iter().map(|(_, n)| n).sum();
-    sheets::sheet_of(&mut Random(3), body, items)
-}
-
-struct Measured {
-    name: String,
+/// The best seconds for one file.
+struct Judged {
+    name: &'static str,
     file: Vec<u8>,
-    judged: f64,
+    proved: f64,
+    idiomatic: f64,
+    reference: f64,
     copied: f64,
 }
 
-/// One call, for a tool that counts instructions: `bench once grids|elements|insert|remove RECORDS` judges a sheet of
-/// grids or of small elements, or edits the latter before its first item.
-fn once(kind: &str, records: usize) {
-    let mut file = if kind == "grids" { grids(records) } else { elements(records) };
-    let used = file.len();
-    if kind == "grids" || kind == "elements" {
-        println!("{:?}", judge_sheet(&file, used));
-        return;
+impl Judged {
+    fn new(name: &'static str, file: Vec<u8>) -> Judged {
+        judge_sheet(&file, file.len()).expect("an accepted sheet");
+        Judged { name, file, proved: f64::MAX, idiomatic: f64::MAX, reference: f64::MAX, copied: f64::MAX }
     }
-    let first = (0..).find(|n| file[n * RECORD..].starts_with(b"E")).expect("an element");
-    file.extend(vec![b' '; 100 * RECORD]);
-    if kind == "insert" {
-        let block = sheets::item(&mut Random(5), 2, 2).concat();
-        println!("{:?}", insert(&mut file, used, first + 1, &block));
-    } else {
-        println!("{:?}", remove(&mut file, used, first + 1));
+
+    fn records(&self) -> f64 {
+        (self.file.len() / RECORD) as f64
+    }
+
+    fn round(&mut self, copy: &mut [u8]) {
+        let file = &self.file;
+        let used = file.len();
+        let turns = 2_000_000 / used + 1;
+        self.proved = self.proved.min(least(2 * turns, || judge_sheet(black_box(file), used)));
+        self.copied = self.copied.min(least(2 * turns, || {
+            copy[..used].copy_from_slice(black_box(file));
+            black_box(&mut *copy);
+        }));
+        self.idiomatic = self.idiomatic.min(least(turns, || idiomatic::judge_sheet(black_box(file), used)));
+        self.reference = self.reference.min(least(1, || judge::sheet(black_box(file), used)));
+    }
+
+    fn print(&self) {
+        let speed = |seconds: f64| self.file.len() as f64 / seconds / 1e9;
+        println!(
+            "{:<16} {:>8} {:>11.1} {:>8.2} {:>10.2} {:>12.1} {:>12.1} {:>10.2}",
+            self.name,
+            self.records(),
+            self.proved * 1e9 / self.records(),
+            speed(self.proved),
+            speed(self.copied),
+            self.idiomatic / self.proved,
+            self.reference / self.proved,
+            self.copied / self.proved,
+        );
+    }
+}
+
+fn judging(copy: &mut [u8]) {
+    let mut all = [
+        Judged::new("technician's grid", files::technicians_grid()),
+        Judged::new("mixed", files::mixed(199_000)),
+        Judged::new("small elements", files::elements(199_000)),
+    ];
+    for _ in 0..ROUNDS {
+        all.iter_mut().for_each(|j| j.round(copy));
+    }
+    println!("Judging. Times as fast: the proved judge against the idiomatic one, the reference and a copy.\n");
+    println!(
+        "{:<16} {:>8} {:>11} {:>8} {:>10} {:>12} {:>12} {:>10}",
+        "sheet", "records", "ns a record", "GB/s", "copy GB/s", "x idiomatic", "x reference", "x copy"
+    );
+    all.iter().for_each(Judged::print);
+}
+
+/// The cost of a record as the sheet grows.
+fn growth() {
+    println!(
+        "\nGrowth: ns a record.\n\n{:<16} {:>10} {:>10} {:>10} {:>16}",
+        "sheet", "2,000", "20,000", "200,000", "most over least"
+    );
+    let makers: [(&str, fn(usize) -> Vec<u8>); 3] =
+        [("grids", files::grids), ("mixed", files::mixed), ("small elements", files::elements)];
+    for (name, make) in makers {
+        let sheets = [2_000, 20_000, 199_000].map(make);
+        let mut best = [f64::MAX; 3];
+        for _ in 0..ROUNDS {
+            for (file, best) in sheets.iter().zip(&mut best) {
+                let turns = 16_000_000 / file.len() + 1;
+                let seconds = least(turns, || judge_sheet(black_box(file), file.len()));
+                *best = best.min(seconds * 1e9 * RECORD as f64 / file.len() as f64);
+            }
+        }
+        let most = best.iter().copied().fold(0.0, f64::max);
+        let fewest = best.iter().copied().fold(f64::MAX, f64::min);
+        println!("{name:<16} {:>10.1} {:>10.1} {:>10.1} {:>16.3}", best[0], best[1], best[2], most / fewest);
+    }
+}
+
+/// The first and the last record, from 1, that starts with a letter of an element.
+fn ends(file: &[u8]) -> (usize, usize) {
+    let is_element = |n: &usize| matches!(file[n * RECORD..n * RECORD + 2], [b'E', b'1'..=b'8']);
+    let records = file.len() / RECORD;
+    let first = (5..records).find(is_element).expect("an element");
+    let starts = judge::accepted(file, file.len()).expect("an accepted sheet").0.found;
+    (first + 1, starts.last().expect("an item").place + 1)
+}
+
+/// One place of one sheet: insertion and removal there, a judging, and the move alone.
+fn edit(name: &str, file: &[u8], place: usize, block: &[u8]) {
+    let used = file.len();
+    let mut buffer = file.to_vec();
+    buffer.resize(used + block.len(), b' ');
+    let at = (place - 1) * RECORD;
+    let [mut put, mut taken, mut judged, mut moved] = [f64::MAX; 4];
+    for _ in 0..5 * ROUNDS {
+        put = put.min(least(1, || insert(&mut buffer, used, place, block).expect("room")));
+        taken = taken.min(least(1, || remove(&mut buffer, used + block.len(), place).expect("an item")));
+        judged = judged.min(least(1, || judge_sheet(black_box(&buffer), used)));
+        let mut spare = black_box(buffer.clone());
+        moved = moved.min(least(1, || spare.copy_within(at..used, at + block.len())));
+        black_box(&spare);
+    }
+    let one = judged + moved;
+    println!(
+        "{name:<16} {place:>8} {:>10.2} {:>10.2} {:>10.2} {:>10.2} {:>8.2} {:>8.2}",
+        put * 1e3,
+        taken * 1e3,
+        judged * 1e3,
+        moved * 1e3,
+        put / one,
+        taken / one
+    );
+}
+
+fn edits() {
+    println!("\nEdits: milliseconds, and times a judging plus a move.\n");
+    println!(
+        "{:<16} {:>8} {:>10} {:>10} {:>10} {:>10} {:>8} {:>8}",
+        "sheet", "place", "insert", "remove", "judging", "move", "insert", "remove"
+    );
+    let block = sheets::item(&mut Random(5), 2, 2).concat();
+    for (name, file) in [("mixed", files::mixed(199_000)), ("small elements", files::elements(199_000))] {
+        let (first, last) = ends(&file);
+        edit(name, &file, first, &block);
+        edit(name, &file, last, &block);
+    }
+}
+
+/// One call: `grids`, `mixed`, `elements` judge a sheet of so many records; `insert`, `remove` edit one of small elements at its first item.
+fn once(what: &str, records: usize) {
+    let make = match what {
+        "grids" => files::grids,
+        "mixed" => files::mixed,
+        _ => files::elements,
+    };
+    let mut file = make(records);
+    let used = file.len();
+    let (first, _) = if what == "grids" { (0, 0) } else { ends(&file) };
+    file.resize(used + 100 * RECORD, b' ');
+    match what {
+        "insert" => println!("{:?}", insert(&mut file, used, first, &sheets::item(&mut Random(5), 2, 2).concat())),
+        "remove" => println!("{:?}", remove(&mut file, used, first)),
+        _ => println!("{:?}", judge_sheet(&file, used)),
     }
 }
 
 fn main() {
     let words: Vec<String> = std::env::args().skip(1).collect();
-    if let [first, kind, records] = &words[..] {
-        if first == "once" {
-            return once(kind, records.parse().expect("a number of records"));
+    match words.iter().map(String::as_str).collect::<Vec<_>>()[..] {
+        [] => {
+            let mut copy = vec![0; 200_000 * RECORD];
+            judging(&mut copy);
+            growth();
+            edits();
         }
-    }
-    let mut all: Vec<Measured> = Vec::new();
-    for (name, make) in [("grids", grids as fn(usize) -> Vec<u8>), ("small elements", elements)] {
-        for records in [2_000, 20_000, 199_000] {
-            let file = make(records);
-            let counts = judge_sheet(&file, file.len()).expect("an accepted sheet");
-            let name = format!("{name}, {} records", counts.records);
-            all.push(Measured { name, file, judged: f64::MAX, copied: f64::MAX });
+        ["once", what, records] => once(what, records.parse().expect("a number of records")),
+        _ => {
+            eprintln!("usage: bench | bench once grids|mixed|elements|insert|remove RECORDS");
+            std::process::exit(2);
         }
-    }
-    let mut copy = vec![0; all.iter().map(|m| m.file.len()).max().unwrap()];
-    for _ in 0..15 {
-        for m in &mut all {
-            let turns = 20_000_000 / m.file.len() + 1;
-            let start = Instant::now();
-            for _ in 0..turns {
-                black_box(judge_sheet(black_box(&m.file), m.file.len())).ok();
-            }
-            m.judged = m.judged.min(start.elapsed().as_secs_f64() / turns as f64);
-            let start = Instant::now();
-            for _ in 0..turns {
-                copy[..m.file.len()].copy_from_slice(black_box(&m.file));
-                black_box(&mut copy);
-            }
-            m.copied = m.copied.min(start.elapsed().as_secs_f64() / turns as f64);
-        }
-    }
-    println!("{:<34} {:>12} {:>10} {:>12}", "file", "ns a record", "GB/s", "copy GB/s");
-    for m in &all {
-        let records = (m.file.len() / 84) as f64;
-        let speed = |seconds: f64| m.file.len() as f64 / seconds / 1e9;
-        println!("{:<34} {:>12.1} {:>10.2} {:>12.2}", m.name, m.judged * 1e9 / records, speed(m.judged), speed(m.copied));
     }
 }

@@ -12,6 +12,7 @@ pub mod edit;
 pub mod judge;
 pub mod layout;
 pub mod normal;
+pub mod protocol;
 pub mod random;
 pub mod record;
 pub mod sheets;
@@ -45,11 +46,7 @@ pub fn program(input: &[u8]) -> String {
     if input.len() > 65_520 {
         return "too long".to_string();
     }
-    let answer = if input.starts_with(b"I ") {
-        judge::index(input, input.len())
-    } else {
-        judge::sheet(input, input.len())
-    };
+    let answer = if input.starts_with(b"I ") { judge::index(input, input.len()) } else { judge::sheet(input, input.len()) };
     match answer {
         Ok(c) => format!("accepted {} records {} items", c.records, c.items),
         Err(r) => format!("refused {} at record {}", r.number, r.record),

@@ -115,7 +115,13 @@ impl Item {
         match self.holds {
             Holds::Points { each, a_record, count, three } => {
                 let used = count.saturating_sub(nth * a_record).min(a_record);
-                let layout = if three { &all.three } else if each == 2 { &all.two } else { &all.heights };
+                let layout = if three {
+                    &all.three
+                } else if each == 2 {
+                    &all.two
+                } else {
+                    &all.heights
+                };
                 (layout, used * each)
             }
             Holds::Notes => (&all.note, all.note.whole()),

@@ -1,6 +1,6 @@
 //! Random sheets and indexes that are accepted, and damaged twins of them.
 
-use crate::layout::{Layout, Layouts, What, COUNTS, CORNERS};
+use crate::layout::{Layout, Layouts, What, CORNERS, COUNTS};
 use crate::random::Random;
 use crate::RECORD;
 
@@ -214,6 +214,21 @@ pub fn large_grid(rows: usize, columns: usize) -> Vec<Vec<u8>> {
     out
 }
 
+/// A line of so many points in 2D as one item at level 2.
+pub fn line(r: &mut Random, count: usize) -> Vec<Vec<u8>> {
+    let all = Layouts::shared();
+    let mut data = Vec::new();
+    points(r, &all.two, 2, 6, count, &mut data);
+    let head = common(r, &all.element, "E2", 2)
+        .number(r, "data kind", 2)
+        .number(r, "data count", count as i64)
+        .number(r, "records", data.len() as i64)
+        .number(r, "repeat", 1);
+    let mut out = vec![head.filled(r)];
+    out.extend(data);
+    out
+}
+
 /// A layer header with so many of some kinds under it.
 pub fn layer(counts: &[(usize, usize)]) -> Vec<u8> {
     header_of(1, counts)
@@ -247,7 +262,10 @@ pub fn sheet_part(r: &mut Random, elements: usize, records: usize) -> Vec<Vec<u8
         .number(r, "level", level)
         .number(r, "revisions", revisions as i64)
         .number(r, "version", 1);
-    let mut b = Draft::new(&all.sheet_b).number(r, "elements", elements as i64).number(r, "records", records as i64).number(r, "unit", unit);
+    let mut b = Draft::new(&all.sheet_b)
+        .number(r, "elements", elements as i64)
+        .number(r, "records", records as i64)
+        .number(r, "unit", unit);
     for (name, whole) in CORNERS.iter().zip(&wholes) {
         b = b.number(r, name, *whole);
     }
@@ -333,7 +351,12 @@ pub fn sheet(r: &mut Random, size: usize) -> Vec<u8> {
     let mut out = Vec::new();
     let mut items = 0;
     for _ in 0..r.below(4) {
-        items += if r.once_in(5) { let depth = 1 + r.below(8); chain(r, depth, &mut out) } else { header(r, 1, size, &mut out) };
+        items += if r.once_in(5) {
+            let depth = 1 + r.below(8);
+            chain(r, depth, &mut out)
+        } else {
+            header(r, 1, size, &mut out)
+        };
     }
     sheet_of(r, out, items)
 }

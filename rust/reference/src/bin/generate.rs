@@ -1,13 +1,7 @@
 //! Makes commands of the batch protocol from a seed: `generate leaves SEED COUNT`.
 
+use reference::protocol::hex;
 use reference::random::Random;
-
-fn hex(bytes: &[u8]) -> String {
-    if bytes.is_empty() {
-        return "-".to_string();
-    }
-    bytes.iter().map(|b| format!("{b:02x}")).collect()
-}
 
 /// A number whose size is as likely small as large, either sign.
 fn value(r: &mut Random) -> i64 {
@@ -98,13 +92,20 @@ fn leaf(r: &mut Random) -> String {
         }
         _ => {
             let near = r.between(-1_001_000_000, 10_001_000_000);
-            let millimetres = if r.once_in(3) { any(r) } else if r.once_in(2) { near / 10 * 10 } else { near };
+            let millimetres = if r.once_in(3) {
+                any(r)
+            } else if r.once_in(2) {
+                near / 10 * 10
+            } else {
+                near
+            };
             format!("split {} {millimetres}", unit(r))
         }
     }
 }
 
 /// Cases that stand in document 01, and both ends of the numbers.
+#[rustfmt::skip]
 const FIXED: &[&str] = &[
     "join 10 -1234 -56", "join 1 -1234 -56", "join 10 0 -5", "join 1 12 -3", "join 10 12 -3", "join 999 -12 3",
     "join 1 9999999 999", "join 1 -999999 -999", "join 1 10000000 0", "join 1 -1000000 0", "join 1 0 1000",

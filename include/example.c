@@ -1,0 +1,167 @@
+/*
+ * The proved library from C: `example FILE` judges a file; `example` alone takes a small sheet through every call, checks each answer and
+ * prints it. Exit status 0 where everything was as expected (or the file accepted), 1 where not, 2 where the file could not be read.
+ */
+#include "zvaigulta.h"
+
+#include <stdio.h>
+#include <string.h>
+
+/* The example of document 01: five sheet records, one layer, one line of seven points. */
+static const char SHEET[] =
+    "M 09LD1234Example sheet         500Town plan                      010               "
+    "  -1234   5678   -934   5978        1      4  1   -934   5678  -1234   5978         "
+    "                                                                                    "
+    "2408240700Plotter                       Approval 1                    100           "
+    "Survey office                            -56  50   0   0   0  50 -56   0            "
+    "H 2100 0   0   0 1    1    0    0    1    0    0    0    0    0    002408         0 "
+    "E22101 0   0   1 2 02210 00   7   2      0      0        0       2408              1"
+    "      0      0   1000      0   2000   -500   3000      0   4000      0   5000      0"
+    "   6000      0unused text is not judged                                             ";
+
+static const char INDEX[] = "I  9City survey office            000 0   0002008Regulation                    10   ";
+
+enum { USED = 9 * ZV_RECORD_BYTES, BLOCK = 3 * ZV_RECORD_BYTES, ROOM = USED + BLOCK };
+
+static int wrong = 0;
+
+/* Prints what was asked and whether the answer is the expected one. */
+static void check(const char *what, int right)
+{
+    printf("%s: %s\n", what, right ? "as expected" : "WRONG");
+    if (!right)
+        wrong = 1;
+}
+
+static void columns(void)
+{
+    uint8_t column[4] = {'*', '*', '*', '*'};
+    struct zv_number read = zv_read((const uint8_t *)"  12", 4);
+    struct zv_length written = zv_write(column, 4, -12);
+    printf("zv_read \"  12\": %lld\n", (long long)read.value);
+    check("zv_read", read.refusal == ZV_ACCEPTED && read.at == 0 && read.value == 12);
+    check("zv_read malformed", zv_read((const uint8_t *)"12  ", 4).refusal == ZV_MALFORMED);
+    printf("zv_write -12: \"%.4s\"\n", (const char *)column);
+    check("zv_write", written.refusal == ZV_ACCEPTED && written.length == 4 && memcmp(column, " -12", 4) == 0);
+    written = zv_write(column, 4, 12345);
+    check("zv_write too wide", written.refusal == ZV_NUMBER && memcmp(column, " -12", 4) == 0);
+}
+
+static void corners(void)
+{
+    struct zv_number joined = zv_join(10, -1234, -56);
+    struct zv_corner split = zv_split(10, -50);
+    printf("zv_join 10 -1234 -56: %lld mm\n", (long long)joined.value);
+    check("zv_join", joined.refusal == ZV_ACCEPTED && joined.value == -1234560);
+    check("zv_join opposite signs", zv_join(1, 12, -3).refusal == ZV_FRACTION);
+    printf("zv_split 10 -50: %lld and %lld\n", (long long)split.whole, (long long)split.fraction);
+    check("zv_split", split.refusal == ZV_ACCEPTED && split.whole == 0 && split.fraction == -5);
+    check("zv_split no pair", zv_split(10, -55).refusal == ZV_NUMBER);
+}
+
+static void judging(uint8_t *buffer)
+{
+    struct zv_counts counts = zv_judge_sheet(buffer, ROOM, USED);
+    const uint8_t *index = (const uint8_t *)INDEX;
+    printf("zv_judge_sheet: %zu records %zu items\n", counts.records, counts.items);
+    check("zv_judge_sheet", counts.refusal == ZV_ACCEPTED && counts.records == 9 && counts.items == 1);
+    counts = zv_judge_sheet(buffer, ROOM, USED - ZV_RECORD_BYTES);
+    printf("zv_judge_sheet without its last record: refused %llu at record %zu\n", (unsigned long long)counts.refusal, counts.at);
+    check("zv_judge_sheet damaged", counts.refusal == ZV_MISSING_RECORD && counts.at == 7 && counts.records == 0);
+    counts = zv_judge_index(index, ZV_RECORD_BYTES, ZV_RECORD_BYTES);
+    check("zv_judge_index", counts.refusal == ZV_ACCEPTED && counts.records == 1 && counts.items == 0);
+    counts = zv_judge_index(buffer, ROOM, USED);
+    check("zv_judge_index of a sheet", counts.refusal == ZV_FILE_TYPE && counts.at == 1);
+}
+
+static void normal_forms(uint8_t *buffer)
+{
+    static uint8_t second[ROOM];
+    struct zv_length form;
+    memcpy(buffer + 5 * ZV_RECORD_BYTES + 18, "00001", 5);
+    form = zv_normal_sheet(buffer, ROOM, USED, second, sizeof second);
+    printf("zv_normal_sheet: %zu bytes\n", form.length);
+    check("zv_normal_sheet", form.refusal == ZV_ACCEPTED && form.length == USED && memcmp(second, SHEET, USED) == 0);
+    memcpy(buffer, SHEET, USED);
+    form = zv_normal_index((const uint8_t *)INDEX, ZV_RECORD_BYTES, ZV_RECORD_BYTES, second, sizeof second);
+    check("zv_normal_index", form.refusal == ZV_ACCEPTED && form.length == ZV_RECORD_BYTES && memcmp(second + 34, "  0", 3) == 0);
+    form = zv_normal_sheet(buffer, ROOM, USED, second, USED - 1);
+    check("zv_normal_sheet no room", form.refusal == ZV_ROOM && form.at == 0);
+}
+
+static void edits(uint8_t *buffer)
+{
+    const uint8_t *block = (const uint8_t *)SHEET + 6 * ZV_RECORD_BYTES;
+    struct zv_length edited = zv_insert(buffer, ROOM, USED, 7, block, BLOCK);
+    struct zv_counts counts = zv_judge_sheet(buffer, ROOM, edited.length);
+    printf("zv_insert: %zu bytes, %zu items\n", edited.length, counts.items);
+    check("zv_insert", edited.refusal == ZV_ACCEPTED && edited.length == ROOM && counts.records == 12 && counts.items == 2);
+    check("zv_insert no room", zv_insert(buffer, ROOM, ROOM, 7, block, BLOCK).refusal == ZV_ROOM);
+    edited = zv_remove(buffer, ROOM, ROOM, 10);
+    printf("zv_remove: %zu bytes\n", edited.length);
+    check("zv_remove", edited.refusal == ZV_ACCEPTED && edited.length == USED && memcmp(buffer, SHEET, USED) == 0);
+    check("zv_remove at a header", zv_remove(buffer, ROOM, USED, 6).refusal == ZV_PLACE);
+}
+
+static void ways_up(const uint8_t *buffer)
+{
+    struct zv_way way = zv_way_up(buffer, ROOM, USED, 9);
+    printf("zv_way_up from record 9: header %zu, %zu passed\n", way.header, way.passed);
+    check("zv_way_up", way.refusal == ZV_ACCEPTED && way.header == 6 && way.passed == 1);
+    way = zv_way_up(buffer, ROOM, USED, 6);
+    check("zv_way_up of a layer", way.refusal == ZV_ACCEPTED && way.header == 0 && way.passed == 0);
+    check("zv_way_up in the sheet part", zv_way_up(buffer, ROOM, USED, 5).refusal == ZV_RECORD_NUMBER);
+}
+
+/* Reads a file into a buffer; answers its bytes, or -1 where it cannot be read. */
+static long read_file(const char *name, uint8_t *buffer, size_t room)
+{
+    long used = -1;
+    FILE *file = fopen(name, "rb");
+    if (file) {
+        size_t got = fread(buffer, 1, room, file);
+        if (!ferror(file))
+            used = (long)got;
+        fclose(file);
+    }
+    return used;
+}
+
+/* Judges a file as the program does: an index if it starts "I ", else a sheet. */
+static int judge_file(const char *name)
+{
+    /* One record more than a file may have, so that a longer file shows. */
+    static uint8_t buffer[(size_t)ZV_RECORD_BYTES * (ZV_MOST_RECORDS + 1)];
+    struct zv_counts counts;
+    long used = read_file(name, buffer, sizeof buffer);
+    if (used < 0) {
+        fprintf(stderr, "example: %s cannot be read\n", name);
+        return 2;
+    }
+    if (used >= 2 && memcmp(buffer, "I ", 2) == 0)
+        counts = zv_judge_index(buffer, sizeof buffer, (size_t)used);
+    else
+        counts = zv_judge_sheet(buffer, sizeof buffer, (size_t)used);
+    if (counts.refusal == ZV_ACCEPTED)
+        printf("accepted %zu records %zu items\n", counts.records, counts.items);
+    else
+        printf("refused %llu at record %zu\n", (unsigned long long)counts.refusal, counts.at);
+    return counts.refusal == ZV_ACCEPTED ? 0 : 1;
+}
+
+int main(int argc, char **argv)
+{
+    static uint8_t buffer[ROOM];
+    if (argc == 2)
+        return judge_file(argv[1]);
+    memset(buffer, ' ', sizeof buffer);
+    memcpy(buffer, SHEET, USED);
+    columns();
+    corners();
+    judging(buffer);
+    normal_forms(buffer);
+    edits(buffer);
+    ways_up(buffer);
+    printf(wrong ? "wrong answers\n" : "all as expected\n");
+    return wrong;
+}

@@ -1,0 +1,180 @@
+/*
+ * Zvaigulta: Japan's digital mapping files, judged, read and edited by a proved library.
+ *
+ * A file is bytes in a buffer: records of 84 bytes without line ends, a sheet or an index. `used` is the length of the file in its buffer,
+ * which may be longer. Records number from 1.
+ *
+ * Every call answers every content of its buffers and every number, and returns. A refused call changes no byte of any buffer. No call keeps
+ * a pointer, takes memory from the heap or has state of its own, so calls on different buffers may run at the same time.
+ *
+ * What the caller owes: a pointer has as many bytes behind it as the length says, and is not NULL, even where the length is 0; a buffer that
+ * a call writes overlaps no other buffer of that call.
+ *
+ * Link with target/staticlib/libexports.a, which `rt staticlib exports` makes:
+ *
+ *     cc -std=c99 -Iinclude include/example.c target/staticlib/libexports.a -o example
+ */
+#ifndef ZVAIGULTA_H
+#define ZVAIGULTA_H
+
+#include <stddef.h>
+#include <stdint.h>
+
+#ifdef __cplusplus
+extern "C" {
+#endif
+
+/* Bytes of a record, and the most records of a file. */
+#define ZV_RECORD_BYTES 84
+#define ZV_MOST_RECORDS 200000
+
+/*
+ * The refusals. The record that goes with each stands in parentheses; where none stands it is 0.
+ */
+enum zv_refusal {
+    /* The call was accepted. */
+    ZV_ACCEPTED = 0,
+    /* The used length is 0, above the buffer, not a multiple of 84, or above 200,000 records. */
+    ZV_LENGTH = 1,
+    /* Record 1 does not start with the asked type (1). */
+    ZV_FILE_TYPE = 2,
+    /* A needed record is missing (its item's header; in the sheet part or an index, 1). */
+    ZV_MISSING_RECORD = 3,
+    /* Not H, E1 to E8, G or T where one is due (that record). */
+    ZV_RECORD_TYPE = 4,
+    /* An integer column is malformed (that record; 0 for a column read alone). */
+    ZV_MALFORMED = 5,
+    /* An integer outside its range or list; unit against level; f count; note direction; b count (that record). */
+    ZV_OUTSIDE_RANGE = 6,
+    /* A level rule is broken (that record). */
+    ZV_LEVEL = 7,
+    /* A data rule is broken (that record). */
+    ZV_DATA_RULE = 8,
+    /* A corner's fraction is too large or of opposite sign (that e record; 0 for joining alone). */
+    ZV_FRACTION = 9,
+    /* A count differs (the header; 2 for the sheet's own counts); an index has records left over (1). */
+    ZV_COUNT = 10,
+    /* The edit's place is no start of an item or header, nor, for an insertion, one past the end; or a removal at a header. */
+    ZV_PLACE = 11,
+    /* The block is not exactly one sound item with a level from 2 to 9. */
+    ZV_BLOCK = 12,
+    /* The block's level is above the open level plus 1 at that place, or below the level of the record now there. */
+    ZV_BLOCK_LEVEL = 13,
+    /* A header's total would pass 99,999, its grid and net count 9, or the file 200,000 records. */
+    ZV_LIMIT = 14,
+    /* A buffer is too short for the result. */
+    ZV_ROOM = 15,
+    /* A number does not fit the width, a width or unit is not allowed, or a corner cannot be split. */
+    ZV_NUMBER = 16,
+    /* The record number is outside the file, or in the sheet part. */
+    ZV_RECORD_NUMBER = 17
+};
+
+/*
+ * Each answer starts with the same two fields: `refusal` is 0 for an accepted call, else one of the numbers above; `at` is the record that the
+ * refusal names, 0 where it names none. The other fields are 0 for a refused call.
+ */
+
+/* A number. */
+struct zv_number {
+    uint64_t refusal;
+    size_t at;
+    /* The column's number, or a corner in millimetres. */
+    int64_t value;
+};
+
+/* A corner in its two parts, which never have opposite signs. */
+struct zv_corner {
+    uint64_t refusal;
+    size_t at;
+    /* Whole metres. */
+    int64_t whole;
+    /* The fraction: millimetres for unit 1, centimetres for units 10 and 999. */
+    int64_t fraction;
+};
+
+/* What an accepted file holds. */
+struct zv_counts {
+    uint64_t refusal;
+    size_t at;
+    /* Its records. */
+    size_t records;
+    /* Its items (elements, grids and nets); 0 for an index. */
+    size_t items;
+};
+
+/* A length in bytes. */
+struct zv_length {
+    uint64_t refusal;
+    size_t at;
+    /* The written column's width, the length of a normal form, or the new used length after an edit. */
+    size_t length;
+};
+
+/* The way up from a record to its layer. */
+struct zv_way {
+    uint64_t refusal;
+    size_t at;
+    /* The record number of the header above; 0 for a layer header, which has none. */
+    size_t header;
+    /* How many headers the way passes, the layer's included: the record's level less one. */
+    size_t passed;
+};
+
+/*
+ * Reads a number column of 1 to 18 bytes: leading spaces, at most one minus, one digit or more to the last byte. Refusals: 16 for another
+ * width, 5 for a malformed column.
+ */
+struct zv_number zv_read(const uint8_t *column, size_t width);
+
+/*
+ * Writes a number over a whole column of 1 to 18 bytes: shortest digits, spaces in front. Answers the width. Refusal 16 where the width is
+ * not allowed or the number does not fit.
+ */
+struct zv_length zv_write(uint8_t *column, size_t width, int64_t value);
+
+/*
+ * Joins whole metres and a fraction to millimetres. The unit is 1 (fraction in millimetres), 10 or 999 (in centimetres). Refusals: 16 for
+ * another unit, or a whole or fraction that does not fit its column of 7 or 4; then 9.
+ */
+struct zv_number zv_join(uint64_t unit, int64_t whole, int64_t fraction);
+
+/* Splits millimetres into the one corner that joins to them. Refusal 16 where there is none. */
+struct zv_corner zv_split(uint64_t unit, int64_t millimetres);
+
+/* Judges the first `used` bytes of a buffer as a sheet. Refusals 1 to 10. */
+struct zv_counts zv_judge_sheet(const uint8_t *buffer, size_t length, size_t used);
+
+/* Judges the first `used` bytes of a buffer as an index. Refusals 1 to 6 and 10. */
+struct zv_counts zv_judge_index(const uint8_t *buffer, size_t length, size_t used);
+
+/*
+ * Writes the normal form of a sheet, every judged integer in written form, to a second buffer, and answers its length, which is `used`. Bytes of
+ * the second buffer past it stay. Judges first (1 to 10); refusal 15 where the second buffer is too short.
+ */
+struct zv_length zv_normal_sheet(const uint8_t *buffer, size_t length, size_t used, uint8_t *second, size_t second_length);
+
+/* The same for an index. */
+struct zv_length zv_normal_index(const uint8_t *buffer, size_t length, size_t used, uint8_t *second, size_t second_length);
+
+/*
+ * Inserts a block, one item with its data, into a sheet: before the record at `place`, or at the end for one past the last record. The header
+ * above and the sheet's counts are rewritten, the rest moves unchanged. Answers the new used length. Judges first (1 to 10), then 11 to 15; the
+ * buffer must have room for the block behind the sheet.
+ */
+struct zv_length zv_insert(uint8_t *buffer, size_t length, size_t used, size_t place, const uint8_t *block, size_t block_length);
+
+/*
+ * Removes the item that starts at the record `place` of a sheet. The header above and the sheet's counts are rewritten, the freed end is filled with
+ * spaces. Answers the new used length. Judges first (1 to 10), then 11.
+ */
+struct zv_length zv_remove(uint8_t *buffer, size_t length, size_t used, size_t place);
+
+/* The header above the record `number` of a sheet; a data record answers as its item. Judges first (1 to 10), then 17. */
+struct zv_way zv_way_up(const uint8_t *buffer, size_t length, size_t used, size_t number);
+
+#ifdef __cplusplus
+}
+#endif
+
+#endif

@@ -1,0 +1,62 @@
+//! The sheets that are measured.
+
+use reference::random::Random;
+use reference::sheets;
+
+/// The technician's grid: 1,000 by 840 heights, 70,000 data records.
+pub fn technicians_grid() -> Vec<u8> {
+    let mut body = vec![sheets::layer(&[(9, 1)])];
+    body.extend(sheets::large_grid(1_000, 840));
+    sheets::sheet_of(&mut Random(3), body, 1)
+}
+
+/// One layer with grids of 1,000 columns, of at most 66,000 data records each.
+pub fn grids(records: usize) -> Vec<u8> {
+    let count = records.div_ceil(66_000);
+    let mut body = vec![sheets::layer(&[(9, count)])];
+    for _ in 0..count {
+        body.extend(sheets::large_grid(records / count * 12 / 1_000, 1_000));
+    }
+    sheets::sheet_of(&mut Random(3), body, count)
+}
+
+/// Layers of at most 20,000 items each, drawn until there are so many records.
+fn layers(records: usize, mut draw: impl FnMut(&mut Random) -> (usize, Vec<Vec<u8>>)) -> Vec<u8> {
+    let mut r = Random(11);
+    let mut body: Vec<Vec<u8>> = Vec::new();
+    let mut items = 0;
+    while body.len() < records {
+        let header = body.len();
+        body.push(Vec::new());
+        let mut counts = [0; 10];
+        while body.len() < records && counts.iter().sum::<usize>() < 20_000 {
+            let (kind, item) = draw(&mut r);
+            counts[kind] += 1;
+            body.extend(item);
+        }
+        items += counts.iter().sum::<usize>();
+        let counts: Vec<(usize, usize)> = counts.iter().copied().enumerate().collect();
+        body[header] = sheets::layer(&counts);
+    }
+    sheets::sheet_of(&mut Random(3), body, items)
+}
+
+/// Small elements of all eight types.
+pub fn elements(records: usize) -> Vec<u8> {
+    layers(records, |r| {
+        let kind = 1 + r.below(8);
+        (kind, sheets::item(r, kind, 2))
+    })
+}
+
+/// A sheet as offices have them: lines of up to 400 points, and small elements between them.
+pub fn mixed(records: usize) -> Vec<u8> {
+    layers(records, |r| {
+        if r.once_in(2) {
+            let points = 1 + r.below(400);
+            return (2, sheets::line(r, points));
+        }
+        let kind = 1 + r.below(8);
+        (kind, sheets::item(r, kind, 2))
+    })
+}

@@ -1,0 +1,109 @@
+//! Tens of thousands of cases in each area; and what random files do not reach: the technician's grid and the limits of 200,000 records.
+
+use differential::{every_byte_of_a_sheet, every_byte_of_an_index, Answers, AREAS};
+use reference::random::Random;
+use reference::{sheets, RECORD};
+use zvaigulta::{insert, judge_index, judge_sheet, remove, Refusal};
+
+/// A quarter of a million cases for the calls on numbers, 30,000 for those on files.
+#[test]
+fn no_difference() {
+    for area in &AREAS {
+        let cases = if area.name.contains("columns") || area.name.contains("corners") { 250_000 } else { 30_000 };
+        let mut answers = Answers::default();
+        (area.run)(&mut Random(2026), cases, &mut answers).unwrap_or_else(|difference| panic!("{}: {difference}", area.name));
+        assert!(answers.have(area.answers), "{}: {:?}", area.name, answers.0);
+    }
+}
+
+#[test]
+fn no_difference_in_every_byte_of_small_files() {
+    let answers = every_byte_of_a_sheet(4).unwrap();
+    assert!(answers.have(&[0, 2, 4, 5, 6]), "{:?}", answers.0);
+    let answers = every_byte_of_an_index(4).unwrap();
+    assert!(answers.have(&[0, 2, 5, 6]), "{:?}", answers.0);
+}
+
+fn refused<T>(answer: Result<T, Refusal>) -> Option<(u64, usize)> {
+    answer.err().map(|refusal| (refusal.number(), refusal.record))
+}
+
+/// 1,000 by 840 points, 70,000 data records, which the grid header states by repeat 8 and records 0.
+#[test]
+fn the_technicians_grid() {
+    let mut body = vec![sheets::layer(&[(9, 1)])];
+    body.extend(sheets::large_grid(1_000, 840));
+    let header = String::from_utf8(body[1].clone()).unwrap();
+    assert_eq!(header[26..30].trim().parse(), Ok(0));
+    assert!(header.ends_with('8'), "{header}");
+    let mut file = sheets::sheet_of(&mut Random(3), body, 1);
+    let records = file.len() / RECORD;
+    let grid = records - 70_000;
+    let counts = judge_sheet(&file, file.len()).unwrap();
+    assert_eq!((counts.records, counts.items), (records, 1));
+    // 65,536 records lost, or one: the grid's header answers 3
+    for lost in [1, 65_536] {
+        assert_eq!(refused(judge_sheet(&file, file.len() - lost * RECORD)), Some((3, grid)));
+    }
+    // the repeat column read as 1, or one less: 8 at the grid's header
+    for repeat in [b'1', b'7'] {
+        file[grid * RECORD - 1] = repeat;
+        assert_eq!(refused(judge_sheet(&file, file.len())), Some((8, grid)));
+    }
+}
+
+/// A layer of single-record points that make a sheet of just so many records.
+fn points(records: usize) -> Vec<u8> {
+    let part = sheets::sheet_of(&mut Random(3), Vec::new(), 0).len() / RECORD;
+    let layers = (records - part).div_ceil(50_000);
+    let mut body = Vec::new();
+    let mut items = 0;
+    for n in 0..layers {
+        let count = (records - part - layers) / layers + usize::from(n < (records - part - layers) % layers);
+        body.push(sheets::layer(&[(5, count)]));
+        let point = "E52101 0   0   1 2 00210 00   0   0      0      0        0       2408              1";
+        body.extend(std::iter::repeat_n(point.as_bytes().to_vec(), count));
+        items += count;
+    }
+    sheets::sheet_of(&mut Random(3), body, items)
+}
+
+/// 200,000 records are accepted, one more is 1; inserting into a full file is 14; a block that would not fit the buffer is 15.
+#[test]
+fn two_hundred_thousand_records() {
+    let mut file = points(200_000);
+    let used = file.len();
+    assert_eq!(used, 200_000 * RECORD);
+    assert_eq!(judge_sheet(&file, used).map(|c| c.records), Ok(200_000));
+    let point = file[used - RECORD..].to_vec();
+    file.extend(&point);
+    assert_eq!(refused(judge_sheet(&file, used + RECORD)), Some((1, 0)));
+    assert_eq!(refused(insert(&mut file, used, 200_001, &point)), Some((14, 0)));
+    let used = remove(&mut file, used, 200_000).unwrap();
+    let twin = file.clone();
+    assert_eq!(refused(insert(&mut file[..used], used, 200_000, &point)), Some((15, 0)));
+    assert!(file == twin);
+    assert_eq!(insert(&mut file[..used + RECORD], used, 200_000, &point), Ok(200_000 * RECORD));
+}
+
+/// Used lengths and places at the 64-bit ends are answered, and change nothing.
+#[test]
+fn sixty_four_bit_ends() {
+    let sheet = sheets::sheet(&mut Random(9), 3);
+    let used = sheet.len();
+    for length in [usize::MAX, usize::MAX - 83, usize::MAX / RECORD * RECORD, 1 << 63, (1 << 32) + used, used + 1, 0] {
+        let mut twin = sheet.clone();
+        assert_eq!(refused(judge_sheet(&sheet, length)), Some((1, 0)));
+        assert_eq!(refused(judge_index(&sheet, length)), Some((1, 0)));
+        assert_eq!(refused(remove(&mut twin, length, 6)), Some((1, 0)));
+        assert_eq!(refused(insert(&mut twin, length, 6, &sheet)), Some((1, 0)));
+        assert!(twin == sheet);
+    }
+    for place in [usize::MAX, usize::MAX - 1, 1 << 63, (1 << 32) + 6, usize::MAX / RECORD + 1, 0] {
+        let mut twin = sheet.clone();
+        assert_eq!(refused(remove(&mut twin, used, place)), Some((11, 0)));
+        assert_eq!(refused(insert(&mut twin, used, place, &sheet)), Some((11, 0)));
+        assert_eq!(refused(zvaigulta::way_up(&sheet, used, place)), Some((17, 0)));
+        assert!(twin == sheet);
+    }
+}

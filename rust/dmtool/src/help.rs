@@ -1,0 +1,129 @@
+//! The texts of `--help`.
+
+use crate::failure::{output_failed, Done, FINE};
+use std::io::Write;
+
+pub const OVERVIEW: &str = "\
+dmtool: judges, explains, shows and edits digital mapping files by the proved library.
+
+Usage: dmtool SUBCOMMAND ...
+
+  judge FILE...                  one line a file: accepted, or refused and why
+  explain FILE                   the refused record, with the columns at fault marked
+  show FILE [FROM [TO]]          records with their columns named
+  insert FILE PLACE BLOCKFILE    puts an item before a record
+  remove FILE PLACE              takes out the item at a record
+  up FILE RECORD                 the headers above a record
+  normal FILE                    the file with every number in written form
+  batch                          the line protocol of test benches
+
+  dmtool SUBCOMMAND --help       more about one of them
+  dmtool --version               the edition
+
+A FILE - is standard input. A file that starts \"I \" is taken as an index, any other as a sheet. Records number from 1.
+Exit status: 0 fine; 1 refused; 2 wrong words, or a file that cannot be read or written.
+";
+
+const JUDGE: &str = "\
+Usage: dmtool judge FILE...
+
+Judges each file and prints one line for it:
+
+  sheet.dm: accepted 9 records 1 items
+  other.dm: refused 10 at record 6: a count differs from what the file holds
+
+A file that cannot be read is named on standard error, and the list goes on. Where judging a list takes longer than a second, standard
+error is a terminal and the answers go elsewhere, a line there says how far it has come.
+Exit status: 0 only if every file is accepted; 2 if one could not be read; else 1.
+";
+
+const EXPLAIN: &str = "\
+Usage: dmtool explain FILE
+
+Judges the file. Where it is refused, prints the record with its columns named, and marks those at fault by > with the reason. The refusal and
+its record are the proved library's; the marks and reasons are an explanation of it.
+Exit status: 0 accepted; 1 refused; 2 the file cannot be read.
+";
+
+const SHOW: &str = "\
+Usage: dmtool show FILE [FROM [TO]]
+
+Prints the judgement, then a line for each record from FROM (else 1) to TO (else the last): its number, what it is, its level, and its columns
+by name. Text stands in quotation marks without the spaces at its end; bytes that are not printable ASCII as \\x8f; a malformed integer in quotation
+marks behind a ?. Blank columns and empty texts are left out. Behind a refusal the names are the best guess.
+Exit status: 0 shown, whatever the judgement; 2 wrong words, or the file cannot be read or has no record FROM.
+";
+
+const INSERT: &str = "\
+Usage: dmtool insert FILE PLACE BLOCKFILE [-o OTHER]
+
+Puts the item in BLOCKFILE (an element, grid or net with its data records) into the sheet before the record PLACE; 'end' is one past the last
+record. The header above and the sheet's counts are brought up to date. The result replaces FILE, or OTHER, whole or not at all: it is written beside
+it, synced and renamed, with the permissions kept; a read-only file is left alone. -o - is standard output.
+Exit status: 0 done; 1 refused, and no file is changed; 2 wrong words, or a file cannot be read or written.
+";
+
+const REMOVE: &str = "\
+Usage: dmtool remove FILE PLACE [-o OTHER]
+
+Takes the item that starts at the record PLACE, with its data records, out of the sheet. The header above and the sheet's counts are brought up to
+date. The result replaces FILE, or OTHER, whole or not at all, as with insert. -o - is standard output.
+Exit status: 0 done; 1 refused, and no file is changed; 2 wrong words, or a file cannot be read or written.
+";
+
+const UP: &str = "\
+Usage: dmtool up FILE RECORD
+
+Prints the header above a record of a sheet, how many headers the way up to its layer passes, and their record numbers. A data record answers as its
+item.
+Exit status: 0 answered; 1 the sheet is refused, or the record is none of its layers'; 2 wrong words, or the file cannot be read.
+";
+
+const NORMAL: &str = "\
+Usage: dmtool normal FILE [-o OTHER]
+
+Writes the file with every judged integer in written form (shortest digits, spaces in front) to standard output, or to OTHER, which is replaced
+whole or not at all and may be FILE itself. Nothing is written where the file is refused.
+Exit status: 0 done; 1 refused; 2 wrong words, or a file cannot be read or written.
+";
+
+const BATCH: &str = "\
+Usage: dmtool batch
+
+Reads one command a line from standard input and answers each with one line, at once. Bytes are lower-case hex, - for none; numbers are decimal.
+
+  judge sheet|index USED BUF           ok RECORDS ITEMS
+  read BYTES                           ok VALUE
+  write WIDTH VALUE                    ok BYTES
+  join UNIT WHOLE FRACTION             ok MM
+  split UNIT MM                        ok WHOLE FRACTION
+  normal sheet|index USED BUF BUF2     ok LENGTH BUF2-AFTER
+  insert USED PLACE BUF BLOCK          ok NEWUSED BUF-AFTER
+  remove USED PLACE BUF                ok NEWUSED BUF-AFTER
+  up USED RECORD BUF                   ok HEADER PASSED (HEADER 0 for none)
+  main BYTES                           what the program dm prints on that input
+
+A refusal is 'no NUMBER RECORD'; a line that is no command is 'error REASON'.
+Exit status: 0 at the end of the input; 2 where it cannot be read or the answers cannot be written.
+";
+
+/// The text of a subcommand, if there is one of that name.
+pub fn of(name: &str) -> Option<&'static str> {
+    let all = [
+        ("judge", JUDGE),
+        ("explain", EXPLAIN),
+        ("show", SHOW),
+        ("insert", INSERT),
+        ("remove", REMOVE),
+        ("up", UP),
+        ("normal", NORMAL),
+        ("batch", BATCH),
+    ];
+    all.into_iter().find(|(known, _)| *known == name).map(|(_, text)| text)
+}
+
+/// Prints a text.
+pub fn print(text: &str, out: &mut impl Write) -> Done {
+    out.write_all(text.as_bytes()).map_err(output_failed)?;
+    Ok(FINE)
+}

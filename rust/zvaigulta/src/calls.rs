@@ -1,0 +1,227 @@
+//! The calls of the library, with Rust's own types.
+
+use crate::{raw, Reason, Refusal};
+use std::fmt;
+
+/// What an accepted file holds.
+#[derive(Clone, Copy, Debug, PartialEq, Eq, Hash)]
+pub struct Counts {
+    /// Its records.
+    pub records: usize,
+    /// Its items (elements, grids and nets); 0 for an index.
+    pub items: usize,
+}
+
+/// As the program prints it: `accepted 9 records 1 items`.
+impl fmt::Display for Counts {
+    fn fmt(&self, f: &mut fmt::Formatter<'_>) -> fmt::Result {
+        write!(f, "accepted {} records {} items", self.records, self.items)
+    }
+}
+
+/// A corner's coordinate in its two parts, which never have opposite signs.
+#[derive(Clone, Copy, Debug, PartialEq, Eq, Hash)]
+pub struct Corner {
+    /// Whole metres.
+    pub whole: i64,
+    /// The fraction: millimetres for unit 1, centimetres for units 10 and 999.
+    pub fraction: i64,
+}
+
+/// The way up from a record to its layer.
+#[derive(Clone, Copy, Debug, PartialEq, Eq, Hash)]
+pub struct WayUp {
+    /// The record number of the header above; `None` for a layer header.
+    pub header: Option<usize>,
+    /// How many headers the way passes, the layer's included: the record's level less one.
+    pub passed: usize,
+}
+
+/// The answer of a call, whose refusal number is 0 where it was accepted.
+fn answer<T>(refusal: u64, record: usize, value: T) -> Result<T, Refusal> {
+    match refusal {
+        0 => Ok(value),
+        number => Err(Refusal { reason: Reason::from_number(number), record }),
+    }
+}
+
+fn counts(raw: raw::Counts) -> Result<Counts, Refusal> {
+    answer(raw.refusal, raw.at, Counts { records: raw.records, items: raw.items })
+}
+
+fn length(raw: raw::Length) -> Result<usize, Refusal> {
+    answer(raw.refusal, raw.at, raw.length)
+}
+
+/// Judges a sheet: the first `used` bytes of the buffer. Refusals 1 to 10.
+///
+/// ```
+/// use zvaigulta::{judge_sheet, Reason, EXAMPLE};
+///
+/// assert_eq!(judge_sheet(EXAMPLE, EXAMPLE.len())?.to_string(), "accepted 9 records 1 items");
+/// // Without its last record the item at record 7 lacks data.
+/// let refusal = judge_sheet(EXAMPLE, 8 * 84).unwrap_err();
+/// assert_eq!((refusal.reason, refusal.record), (Reason::MissingRecord, 7));
+/// // A length that the buffer does not have is answered too.
+/// assert_eq!(judge_sheet(EXAMPLE, usize::MAX).unwrap_err().reason, Reason::Length);
+/// # Ok::<(), zvaigulta::Refusal>(())
+/// ```
+pub fn judge_sheet(buffer: &[u8], used: usize) -> Result<Counts, Refusal> {
+    counts(raw::judge_sheet(buffer, used))
+}
+
+/// Judges an index: the first `used` bytes of the buffer. Refusals 1 to 6 and 10.
+///
+/// ```
+/// let index = b"I  9City survey office              0 0   0002008Regulation                    10   ";
+/// let counts = zvaigulta::judge_index(index, index.len())?;
+/// assert_eq!((counts.records, counts.items), (1, 0));
+/// # Ok::<(), zvaigulta::Refusal>(())
+/// ```
+pub fn judge_index(buffer: &[u8], used: usize) -> Result<Counts, Refusal> {
+    counts(raw::judge_index(buffer, used))
+}
+
+/// Reads a number column; the slice is the column, 1 to 18 bytes. Refusals 16 (its width) and 5 (malformed).
+///
+/// ```
+/// use zvaigulta::{read_column, Reason};
+///
+/// assert_eq!(read_column(b"  12"), Ok(12));
+/// assert_eq!(read_column(b"-007"), Ok(-7));
+/// assert_eq!(read_column(b"12  ").unwrap_err().reason, Reason::Malformed);
+/// assert_eq!(read_column(b"").unwrap_err().reason, Reason::Number);
+/// ```
+pub fn read_column(column: &[u8]) -> Result<i64, Refusal> {
+    let raw = raw::read(column);
+    answer(raw.refusal, raw.at, raw.value)
+}
+
+/// Writes a number to a column in written form: shortest digits, spaces in front, over the whole slice. Refusal 16 where the width is not
+/// 1 to 18 or the number does not fit; the column is then unchanged.
+///
+/// ```
+/// let mut column = *b"****";
+/// zvaigulta::write_column(&mut column, -12)?;
+/// assert_eq!(&column, b" -12");
+/// assert!(zvaigulta::write_column(&mut column, 12_345).is_err());
+/// assert_eq!(&column, b" -12");
+/// # Ok::<(), zvaigulta::Refusal>(())
+/// ```
+pub fn write_column(column: &mut [u8], value: i64) -> Result<(), Refusal> {
+    length(raw::write(column, value)).map(|_| ())
+}
+
+/// Joins a corner's whole metres and fraction to millimetres. The unit is 1 (fraction in millimetres), 10 or 999 (in centimetres).
+/// Refusals 16 (unit, or a part that does not fit its column), then 9 (fraction too large or of opposite sign).
+///
+/// ```
+/// use zvaigulta::{join, Reason};
+///
+/// assert_eq!(join(1, -1234, -56), Ok(-1_234_056));
+/// assert_eq!(join(10, -1234, -56), Ok(-1_234_560));
+/// assert_eq!(join(10, 0, -5), Ok(-50));
+/// assert_eq!(join(1, 12, -3).unwrap_err().reason, Reason::Fraction);
+/// ```
+pub fn join(unit: u64, whole: i64, fraction: i64) -> Result<i64, Refusal> {
+    let raw = raw::join(unit, whole, fraction);
+    answer(raw.refusal, raw.at, raw.value)
+}
+
+/// Splits millimetres into the one corner that joins to them. Refusal 16 where there is none.
+///
+/// ```
+/// let corner = zvaigulta::split(10, -50)?;
+/// assert_eq!((corner.whole, corner.fraction), (0, -5));
+/// assert_eq!(zvaigulta::split(10, -55).unwrap_err().number(), 16);
+/// # Ok::<(), zvaigulta::Refusal>(())
+/// ```
+pub fn split(unit: u64, millimetres: i64) -> Result<Corner, Refusal> {
+    let raw = raw::split(unit, millimetres);
+    answer(raw.refusal, raw.at, Corner { whole: raw.whole, fraction: raw.fraction })
+}
+
+/// Writes the normal form of a sheet, every judged integer in written form, to a second buffer; answers its length, which is `used`. Bytes of
+/// the second buffer past it stay. Judges first (1 to 10); refusal 15 where the second buffer is too short.
+///
+/// ```
+/// use zvaigulta::{normal_sheet, EXAMPLE};
+///
+/// let mut loose = EXAMPLE.to_vec();
+/// loose[5 * 84 + 18..5 * 84 + 23].copy_from_slice(b"00001");
+/// let mut second = vec![0; loose.len()];
+/// assert_eq!(normal_sheet(&loose, loose.len(), &mut second)?, loose.len());
+/// assert_eq!(second, EXAMPLE);
+/// # Ok::<(), zvaigulta::Refusal>(())
+/// ```
+pub fn normal_sheet(buffer: &[u8], used: usize, second: &mut [u8]) -> Result<usize, Refusal> {
+    length(raw::normal_sheet(buffer, used, second))
+}
+
+/// The same for an index.
+///
+/// ```
+/// let loose = b"I 09City survey office            000 0   0002008Regulation                    10   ";
+/// let index = b"I  9City survey office              0 0   0002008Regulation                    10   ";
+/// let mut second = [0; 84];
+/// assert_eq!(zvaigulta::normal_index(loose, loose.len(), &mut second)?, 84);
+/// assert_eq!(&second, index);
+/// # Ok::<(), zvaigulta::Refusal>(())
+/// ```
+pub fn normal_index(buffer: &[u8], used: usize, second: &mut [u8]) -> Result<usize, Refusal> {
+    length(raw::normal_index(buffer, used, second))
+}
+
+/// Inserts a block, one item with its data, before the record at a place or, one past the last record, at the end; answers the new used
+/// length. The header above and the sheet's counts are rewritten; the rest moves unchanged. Judges first (1 to 10), then 11 to 15; the buffer
+/// must have room for the block behind the sheet.
+///
+/// ```
+/// use zvaigulta::{insert, judge_sheet, EXAMPLE};
+///
+/// let block = &EXAMPLE[6 * 84..];
+/// let mut buffer = EXAMPLE.to_vec();
+/// buffer.resize(EXAMPLE.len() + block.len(), b' ');
+/// let used = insert(&mut buffer, EXAMPLE.len(), 7, block)?;
+/// assert_eq!(judge_sheet(&buffer, used)?.items, 2);
+/// # Ok::<(), zvaigulta::Refusal>(())
+/// ```
+pub fn insert(buffer: &mut [u8], used: usize, place: usize, block: &[u8]) -> Result<usize, Refusal> {
+    length(raw::insert(buffer, used, place, block))
+}
+
+/// Removes the item that starts at a place; answers the new used length. The freed end is filled with spaces. Judges first (1 to 10), then
+/// 11.
+///
+/// ```
+/// use zvaigulta::{judge_sheet, remove, EXAMPLE};
+///
+/// let mut buffer = *EXAMPLE;
+/// let used = remove(&mut buffer, EXAMPLE.len(), 7)?;
+/// assert_eq!(used, 6 * 84);
+/// assert_eq!(judge_sheet(&buffer, used)?.items, 0);
+/// // Record 6 is a header: nothing is removed.
+/// assert_eq!(remove(&mut buffer, used, 6).unwrap_err().number(), 11);
+/// # Ok::<(), zvaigulta::Refusal>(())
+/// ```
+pub fn remove(buffer: &mut [u8], used: usize, place: usize) -> Result<usize, Refusal> {
+    length(raw::remove(buffer, used, place))
+}
+
+/// The header above a record, and how many headers the way to its layer passes. A data record answers as its item. Judges first (1 to 10),
+/// then 17.
+///
+/// ```
+/// use zvaigulta::{way_up, EXAMPLE};
+///
+/// let way = way_up(EXAMPLE, EXAMPLE.len(), 9)?;
+/// assert_eq!((way.header, way.passed), (Some(6), 1));
+/// assert_eq!(way_up(EXAMPLE, EXAMPLE.len(), 6)?.header, None);
+/// assert_eq!(way_up(EXAMPLE, EXAMPLE.len(), 5).unwrap_err().number(), 17);
+/// # Ok::<(), zvaigulta::Refusal>(())
+/// ```
+pub fn way_up(buffer: &[u8], used: usize, number: usize) -> Result<WayUp, Refusal> {
+    let raw = raw::way_up(buffer, used, number);
+    let header = Some(raw.header).filter(|record| *record != 0);
+    answer(raw.refusal, raw.at, WayUp { header, passed: raw.passed })
+}
