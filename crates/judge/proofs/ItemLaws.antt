@@ -21,8 +21,11 @@ pub record Walking (file : List ℕ) (n k due : ℕ) (held : Held) (at left : �
   pub within : at ≤ n
   pub through : Through (toData held) (suc k) due (suc (suc k)) (viewsFrom file n (k + 1)) left (suc at) (viewsFrom file n at)
 
-pub walking : (file : List ℕ) (n k due : ℕ) (held : Held) → k < n → Walking file n k due held (k + 1) due
-walking file n k due held h = record { start = omega arith; within = omega arith; through = rw (add-one k) (through-none (toData held) (suc k) due (suc (suc k)) (viewsFrom file n (suc k))) }
+pub walking : (file : List ℕ) (n k due : ℕ) (held : Held) (at : ℕ) → k < n → at ≡ k + 1 → Walking file n k due held at due
+walking file n k due held at h e = rw e (first-due file n k due held h)
+  where
+    first-due : (file : List ℕ) (n k due : ℕ) (held : Held) → k < n → Walking file n k due held (k + 1) due
+    first-due file n k due held h = record { start = omega arith; within = omega arith; through = rw (add-one k) (through-none (toData held) (suc k) due (suc (suc k)) (viewsFrom file n (suc k))) }
 
 module _ (file : List ℕ) (n k due : ℕ) (held : Held) (at left : ℕ) (g : Walking file n k due held at left) where
   fails-at : (w : Walked) → (w .number ≡ 0 → ⊥) → ((opened : ℕ) → walk opened left (toData held) (suc k) (suc at) (viewsFrom file n at) ≡ fault (w .number) (w .at)) → Item file n k due (toData held) w
@@ -59,9 +62,12 @@ module _ (file : List ℕ) (n k due : ℕ) (held : Held) (at left : ℕ) (g : Wa
       pub item-wrong : (w : Walked) → (number ≡ 0 → ⊥) → w .number ≡ number → w .at ≡ at + 1 → Item file n k due (toData held) w
       item-wrong w ne p q = fails-at w (λ z. ne (sym p ∙ z)) (λ opened. rw (views-more file n at here, p, q, add-one at) (data-wrong (toData held) (suc k) (view (recordAt file at)) (viewsFrom file n (suc at)) (suc at) left some opened number asked ne))
 
-      pub item-more : number ≡ 0 → Walking file n k due held (at + 1) (left - 1)
-      item-more z = record {
+      one-more : number ≡ 0 → Walking file n k due held (at + 1) (left - 1)
+      one-more z = record {
         start = omega (arith, g .start);
         within = omega arith;
         through = through-more (toData held) (suc k) due (suc (suc k)) left (suc at) (left - 1) (suc (at + 1)) _ (viewsFrom file n at) _ (g .through) (rw (views-more file n at here, add-one at) (through-one (toData held) (suc k) (view (recordAt file at)) (viewsFrom file n (suc at)) (suc at) left some (asked ∙ z)));
       }
+
+      pub item-more : (next : ℕ) → number ≡ 0 → next ≡ at + 1 → Walking file n k due held next (left - 1)
+      item-more next z e = rw e (one-more z)

@@ -10,8 +10,8 @@ Inv-loop file n k held at₀ left₀ at left = Walking file n k left₀ held at 
 abbrev μ-loop : tie.MeasureT-loop
 μ-loop file n k held at₀ left₀ at left = left
 
-add-at : tie.Need-add-at Inv-loop μ-loop
-add-at c = search needs
+next-requires : tie.Need-next-requires Inv-loop μ-loop
+next-requires c κs = search needs
 
 loop-holds : tie.Need-loop-holds Inv-loop μ-loop
 loop-holds c = search walking
@@ -40,8 +40,8 @@ failed-requires-2 c κs = search needs
 returns-2 : tie.Need-returns-2 Inv-loop μ-loop
 returns-2 c = search item-wrong
 
-add-at-2 : tie.Need-add-at-2 Inv-loop μ-loop
-add-at-2 c = search needs
+next-requires-2 : tie.Need-next-requires-2 Inv-loop μ-loop
+next-requires-2 c κs = search needs
 
 sub-left : tie.Need-sub-left Inv-loop μ-loop
 sub-left c = search needs
@@ -64,7 +64,7 @@ walk-item-spec =
     (tie.spec
     Inv-loop
     μ-loop
-    add-at
+    next-requires
     loop-holds
     add-failed
     failed-requires
@@ -74,7 +74,7 @@ walk-item-spec =
     add-failed-2
     failed-requires-2
     returns-2
-    add-at-2
+    next-requires-2
     sub-left
     loop-less
     loop-again
