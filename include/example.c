@@ -113,6 +113,15 @@ static void ways_up(const uint8_t *buffer)
     check("zv_way_up in the sheet part", zv_way_up(buffer, ROOM, USED, 5).refusal == ZV_RECORD_NUMBER);
 }
 
+static void report_line(const uint8_t *buffer)
+{
+    uint8_t line[65];
+    struct zv_length put = zv_report(buffer, USED, line, sizeof line);
+    printf("zv_report: %.*s", (int)put.length, (const char *)line);
+    check("zv_report", put.refusal == ZV_ACCEPTED && put.length == 27 && memcmp(line, "accepted 9 records 1 items\n", 27) == 0);
+    check("zv_report without room", zv_report(buffer, USED, line, 26).refusal == ZV_ROOM);
+}
+
 /* Reads a file into a buffer; answers its bytes, or -1 where it cannot be read. */
 static long read_file(const char *name, uint8_t *buffer, size_t room)
 {
@@ -162,6 +171,7 @@ int main(int argc, char **argv)
     normal_forms(buffer);
     edits(buffer);
     ways_up(buffer);
+    report_line(buffer);
     printf(wrong ? "wrong answers\n" : "all as expected\n");
     return wrong;
 }

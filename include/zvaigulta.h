@@ -173,6 +173,12 @@ struct zv_length zv_remove(uint8_t *buffer, size_t length, size_t used, size_t p
 /* The header above the record `number` of a sheet; a data record answers as its item. Judges first (1 to 10), then 17. */
 struct zv_way zv_way_up(const uint8_t *buffer, size_t length, size_t used, size_t number);
 
+/*
+ * Puts the line that the program dm prints on an input, with its line end, at the start of a buffer, and answers the line's length. Bytes behind it
+ * stay. Refusal 15 where the buffer is too short; 65 bytes are always enough.
+ */
+struct zv_length zv_report(const uint8_t *input, size_t input_length, uint8_t *out, size_t out_length);
+
 #ifdef __cplusplus
 }
 #endif

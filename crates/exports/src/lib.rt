@@ -11,6 +11,7 @@ ghost use Rattle.format.specs.Edit.{insert, remove};
 ghost use Rattle.format.specs.Run.{call};
 ghost use Rattle.format.specs.Normal.{normalSheet, normalIndex};
 ghost use Rattle.format.specs.Answers.{numberAnswer, writtenAnswer, partsAnswer, judgedAnswer, wayUpAnswer, editedAnswer};
+ghost use Rattle.report.specs.Report.{reportTo};
 ghost use Rattle.exports.specs.Interface.{numberOf, cornerOf, countsOf, lengthOf, wayOf, Wrote, wroteOf, editedOf};
 use format::Edited;
 use format::Judged;
@@ -256,4 +257,12 @@ pub extern "C" fn zv_remove(buffer: &mut [u8], used: usize, place: usize) -> ZvL
     ensures { λ r. ⌜ record { result = r; bytes = now (buffer .exit) } ≡ editedOf (call (remove place) (record { bytes = now (buffer .entry); used = used })) ⌝ }
 {
     edited(edit::remove(buffer, used, place))
+}
+
+// The line that the program prints on an input, put at the start of a buffer: the answer's length is the line's, its end included. 65 bytes always hold it.
+#[no_mangle]
+pub extern "C" fn zv_report(input: &[u8], out: &mut [u8]) -> ZvLength
+    ensures { λ r. ⌜ record { result = r; bytes = now (out .exit) } ≡ wroteOf (reportTo (now (input .entry)) (now (out .entry))) ⌝ }
+{
+    length(report::report(input, out))
 }

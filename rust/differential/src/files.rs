@@ -104,3 +104,29 @@ pub fn ways_up(r: &mut Random, cases: usize, answers: &mut Answers) -> Result<()
     }
     Ok(())
 }
+
+/// The line that the program prints, in a buffer that holds it, is as long as it, or is a byte too short.
+pub fn reports(r: &mut Random, cases: usize, answers: &mut Answers) -> Result<(), String> {
+    for n in 0..cases {
+        let sheet = !r.once_in(4);
+        let (mut file, _) = some_file(r, sheet, 2);
+        if n % 100 == 0 {
+            file.resize(65_520 + r.below(2), b' ');
+        }
+        let line = reference::program(&file) + "\n";
+        let room = *r.pick(&[65, line.len(), line.len() - 1]);
+        let mut ours = vec![b'.'; room];
+        let mut right = Err(Refusal { number: 15, record: 0 });
+        let mut left = ours.clone();
+        if line.len() <= room {
+            right = Ok(line.len());
+            left[..line.len()].copy_from_slice(line.as_bytes());
+        }
+        let answer = zvaigulta::report(&file, &mut ours);
+        answers.same(|| format!("main {}", hex(&file)), answer, right)?;
+        if ours != left {
+            return Err(format!("the line is {ours:?}: main {}", hex(&file)));
+        }
+    }
+    Ok(())
+}

@@ -52,7 +52,7 @@ pub struct Area {
 }
 
 /// All areas: every public call is in one.
-pub const AREAS: [Area; 9] = [
+pub const AREAS: [Area; 10] = [
     Area { name: "reading columns", run: numbers::reading, answers: &[0, 5, 16] },
     Area { name: "writing columns", run: numbers::writing, answers: &[0, 16] },
     Area { name: "joining corners", run: numbers::joining, answers: &[0, 9, 16] },
@@ -61,5 +61,6 @@ pub const AREAS: [Area; 9] = [
     Area { name: "judging indexes", run: files::indexes, answers: &[0, 1, 2, 3, 5, 6, 10] },
     Area { name: "normal forms", run: files::normal_forms, answers: &[0, 1, 3, 5, 10, 15] },
     Area { name: "ways up", run: files::ways_up, answers: &[0, 1, 5, 10, 17] },
+    Area { name: "the program's line", run: files::reports, answers: &[0, 15] },
     Area { name: "lists of edits", run: edits::lists, answers: &[0, 1, 10, 11, 12, 13, 14, 15] },
 ];

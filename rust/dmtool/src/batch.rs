@@ -2,13 +2,9 @@
 
 use crate::arguments::Arguments;
 use crate::failure::{output_failed, Done, Failure, FINE};
-use crate::files;
 use crate::words::{hex, Words};
 use std::io::{BufRead, Write};
 use zvaigulta::{FileKind, Refusal};
-
-/// The program's standard input is judged up to this length.
-const PROGRAM_INPUT: usize = 65_520;
 
 /// Answers every line of the input, each as soon as it is read.
 pub fn run(arguments: &Arguments, input: &mut impl BufRead, out: &mut impl Write) -> Done {
@@ -118,9 +114,7 @@ fn up(words: &mut Words) -> Answer {
 /// What the proved program prints on its standard input, without the line end.
 fn program(words: &mut Words) -> Answer {
     let input = words.bytes("BYTES")?;
-    Ok(match files::judge(&input) {
-        _ if input.len() > PROGRAM_INPUT => "too long".to_string(),
-        Ok(counts) => counts.to_string(),
-        Err(refusal) => format!("refused {} at record {}", refusal.number(), refusal.record),
-    })
+    let mut line = [0; 65];
+    let length = zvaigulta::report(&input, &mut line).map_err(|refusal| refusal.to_string())?;
+    Ok(String::from_utf8_lossy(&line[..length]).trim_end_matches('\n').to_string())
 }

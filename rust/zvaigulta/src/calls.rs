@@ -225,3 +225,19 @@ pub fn way_up(buffer: &[u8], used: usize, number: usize) -> Result<WayUp, Refusa
     let header = Some(raw.header).filter(|record| *record != 0);
     answer(raw.refusal, raw.at, WayUp { header, passed: raw.passed })
 }
+
+/// Puts the line that the program `dm` prints on an input, with its line end, at the start of a buffer; answers the line's length. Bytes
+/// behind it stay. Refusal 15 where the buffer is too short; 65 bytes are always enough.
+///
+/// ```
+/// let mut line = [0; 65];
+/// let length = zvaigulta::report(zvaigulta::EXAMPLE, &mut line)?;
+/// assert_eq!(&line[..length], b"accepted 9 records 1 items\n");
+///
+/// let length = zvaigulta::report(&[b' '; 65_521], &mut line)?;
+/// assert_eq!(&line[..length], b"too long\n");
+/// # Ok::<(), zvaigulta::Refusal>(())
+/// ```
+pub fn report(input: &[u8], out: &mut [u8]) -> Result<usize, Refusal> {
+    length(raw::report(input, out))
+}

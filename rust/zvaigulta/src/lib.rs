@@ -30,8 +30,8 @@ mod raw;
 mod refusal;
 
 pub use calls::{
-    insert, join, judge_index, judge_sheet, normal_index, normal_sheet, read_column, remove, split, way_up, write_column, Corner,
-    Counts, WayUp,
+    insert, join, judge_index, judge_sheet, normal_index, normal_sheet, read_column, remove, report, split, way_up, write_column,
+    Corner, Counts, WayUp,
 };
 pub use kind::FileKind;
 pub use refusal::{Reason, Refusal};

@@ -53,6 +53,7 @@ extern "C" {
     fn zv_insert(buffer: *mut u8, length: usize, used: usize, place: usize, block: *const u8, block_length: usize) -> Length;
     fn zv_remove(buffer: *mut u8, length: usize, used: usize, place: usize) -> Length;
     fn zv_way_up(buffer: *const u8, length: usize, used: usize, number: usize) -> Way;
+    fn zv_report(input: *const u8, input_length: usize, out: *mut u8, out_length: usize) -> Length;
 }
 
 pub fn read(column: &[u8]) -> Number {
@@ -108,4 +109,9 @@ pub fn remove(buffer: &mut [u8], used: usize, place: usize) -> Length {
 pub fn way_up(buffer: &[u8], used: usize, number: usize) -> Way {
     // SAFETY: the slice lends `length` bytes to read for the call; `used` and `number` may be any numbers; no pointer is kept.
     unsafe { zv_way_up(buffer.as_ptr(), buffer.len(), used, number) }
+}
+
+pub fn report(input: &[u8], out: &mut [u8]) -> Length {
+    // SAFETY: both slices are lent for the call, the second one alone to be written; the borrow rules keep them apart.
+    unsafe { zv_report(input.as_ptr(), input.len(), out.as_mut_ptr(), out.len()) }
 }

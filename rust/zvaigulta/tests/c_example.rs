@@ -44,6 +44,7 @@ fn the_example_takes_a_sheet_through_every_call() {
         "insert",
         "remove",
         "way_up",
+        "report",
     ] {
         assert!(printed.contains(&format!("zv_{call}: as expected\n")), "{call}: {printed}");
     }
