@@ -1,11 +1,10 @@
 -- The way up in the code's own words. Assumes nothing.
 use mathlib.Core.Path.{_≡_, refl, ap, sym, _∙_}
-use mathlib.Core.Bool.{true}
 use mathlib.Core.List.{List, [], map}
 use Prim.Native.Nat.{ℕ, zero, suc, pred, _+_, _-_, _/_, _^_, _≤_, _<_}
 use native.Mathlib.Omega.{arith}
 use borrow.Author.Tests.{le-ltb, lt-ltb, lt-leb}
-use lib.ListN.{length, take, drop, getD, take-append-drop}
+use lib.ListN.{length, take, drop, getD}
 use Rattle.format.specs.Basics.{Answer, given, Fault, none, fault}
 use Rattle.format.specs.Record.{View, view, nothing}
 use Rattle.format.specs.Sheet.{sheetFault}
@@ -14,7 +13,7 @@ use Rattle.format.specs.Edit.{absent, lastHeader}
 use Rattle.format.specs.Above.{own, levelAt, aboveAt, numbered, upFrom}
 use Rattle.format.specs.Answers.{wayUpAnswer}
 use Rattle.format.specs.declared.WayUp.the-variants.{Header, LayerHeader, Refused}
-use Rattle.format.proofs.JudgeWalks.{Passes, passes-split}
+use Rattle.format.proofs.JudgeWalks.{Passes}
 use Rattle.format.proofs.JudgeAccepted.{accepted-ok}
 use Rattle.format.proofs.AboveWayUp.{Answered, way-up}
 use Rattle.records.specs.declared.items.Entry.{Entry}
@@ -25,9 +24,9 @@ use Rattle.parts.specs.Result as Part
 use Rattle.parts.specs.Result.{sheetPartOf}
 use Rattle.parts.proofs.Laws.{SoundPart, sound-part}
 use Rattle.places.specs.declared.Place.{Place}
-use Rattle.places.specs.Place.{recordsOf, bodyOf, readable, placeOf}
+use Rattle.places.specs.Place.{recordsOf, bodyOf, placeOf}
 use Rattle.places.proofs.Reading.{length-body, body-at, record-wide}
-use Rattle.places.proofs.Laws.{passes-readable, place-start, place-header}
+use Rattle.places.proofs.Laws.{place-start, place-header}
 use Rattle.above.specs.Sheet.{AcceptedSheet, wayIn}
 use Rattle.above.proofs.Own.{OwnRecord, own-record}
 
@@ -100,12 +99,9 @@ module _ (file : List ℕ) (number : ℕ) (accepted : AcceptedSheet file) (part 
     o : OwnRecord body at
     o = own-record body passes at (omega arith) (omega (arith, within))
 
-    reads-before : readable 0 (take at body) ≡ true
-    reads-before = passes-readable 0 0 nothing (take at body) ((passes-split 0 0 nothing (take at body) (drop at body) (rw (take-append-drop at body) passes)) .0)
-
     module _ (place : Place) (located : place ≡ placeOf file (part .length) (number - part .length)) where
       start-is : place .start ≡ own body at
-      start-is = place-start place file (part .length) at located reads-before
+      start-is = place-start place file (part .length) at located
 
       pub own-some : 1 ≤ part .length + place .start
       own-some = omega (arith, start-is, o .some)
@@ -140,7 +136,7 @@ module _ (file : List ℕ) (number : ℕ) (accepted : AcceptedSheet file) (part 
         layer-header z = sym (answer ∙ rw (o .none-above (omega (arith, level-is, o .least)), ← level-is, z))
 
         header-is : getD (place .headers) (e .level - 1) 0 ≡ aboveAt body at
-        header-is = place-header place file (part .length) at located reads-before (e .level - 1) (omega (arith, level-most)) ∙ ap (λ (level : ℕ). lastHeader level 0 1 0 (take at body)) less ∙ sym (o .above)
+        header-is = place-header place file (part .length) at located (e .level - 1) (omega (arith, level-most)) ∙ ap (λ (level : ℕ). lastHeader level 0 1 0 (take at body)) less ∙ sym (o .above)
           where
             less : e .level - 1 ≡ pred (levelAt body at)
             less = omega (arith, level-is)

@@ -23,8 +23,7 @@ use Rattle.format.proofs.JudgeWalks.{Passes, sort, passes-split}
 use Rattle.parts.specs.declared.SheetPart.{SheetPart}
 use Rattle.parts.specs.Result as Parts
 use Rattle.parts.proofs.Laws.{SoundPart, sound-part, refused-part, front-records}
-use Rattle.places.specs.Place.{recordsOf, bodyOf, readable}
-use Rattle.places.proofs.Laws.{passes-readable}
+use Rattle.places.specs.Place.{recordsOf, bodyOf}
 use Rattle.edit.specs.Plans.{Accepts, refusedStep}
 
 -- no more items than records
@@ -145,6 +144,3 @@ module _ (l : List ℕ) (used : ℕ) (a : Accepts l used) where
 
     pub behind : Passes (openBehind 0 0 (before (fileOf (chunks (used / 84) l)) (drop used l) place)) (dueBehind 0 (before (fileOf (chunks (used / 84) l)) (drop used l) place)) (sort 0 nothing (before (fileOf (chunks (used / 84) l)) (drop used l) place)) (after (fileOf (chunks (used / 84) l)) (drop used l) place)
     behind = (passes-split 0 0 nothing (before (fileOf (chunks (used / 84) l)) (drop used l) place) (after (fileOf (chunks (used / 84) l)) (drop used l) place) (rw (take-append-drop (at (fileOf (chunks (used / 84) l)) (drop used l) place) ((fileOf (chunks (used / 84) l)) .body)) (held .ok .walks .0))) .1
-
-    pub can-read : readable 0 (before (fileOf (chunks (used / 84) l)) (drop used l) place) ≡ true
-    can-read = passes-readable 0 0 nothing (before (fileOf (chunks (used / 84) l)) (drop used l) place) passed

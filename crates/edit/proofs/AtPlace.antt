@@ -23,11 +23,11 @@ use Rattle.records.proofs.Laws.{entry-fault, entry-level, header-total, header-
 use Rattle.parts.specs.declared.SheetPart.{SheetPart}
 use Rattle.parts.specs.Result as Parts
 use Rattle.places.specs.declared.Place.{Place}
-use Rattle.places.specs.Place.{recordsOf, bodyOf, readable, placeOf}
+use Rattle.places.specs.Place.{recordsOf, bodyOf, placeOf}
 use Rattle.places.proofs.Laws.{place-due, place-opened, place-header}
 use Rattle.places.proofs.Reading.{getD-views}
 use Rattle.edit.specs.Plans.{Accepts}
-use Rattle.edit.proofs.Accepted.{held, length-records, inside, file-records, length-is, body-is, length-body, passed, behind, can-read}
+use Rattle.edit.proofs.Accepted.{held, length-records, inside, file-records, length-is, body-is, length-body, passed, behind}
 
 module _ (l : List ℕ) (used place : ℕ) (a : Accepts l used) where
   abbrev file : File
@@ -135,17 +135,14 @@ module _ (l : List ℕ) (used place : ℕ) (a : Accepts l used) where
     before-is : take (place - part .length - 1) (bodyOf (take used l) (part .length)) ≡ pre
     before-is = rw (at-is, body-is l used a part part-is)
 
-    readable-is : readable 0 (take (place - part .length - 1) (bodyOf (take used l) (part .length))) ≡ true
-    readable-is = ap (readable 0) before-is ∙ can-read l used a place
-
     pub due-is : here .due ≡ dueBehind 0 pre
-    due-is = place-due here (take used l) (part .length) (place - part .length - 1) here-is readable-is ∙ ap (dueBehind 0) before-is
+    due-is = place-due here (take used l) (part .length) (place - part .length - 1) here-is ∙ ap (dueBehind 0) before-is
 
     pub opened-is : here .opened ≡ openBehind 0 0 pre
-    opened-is = place-opened here (take used l) (part .length) (place - part .length - 1) here-is readable-is ∙ ap (openBehind 0 0) before-is
+    opened-is = place-opened here (take used l) (part .length) (place - part .length - 1) here-is ∙ ap (openBehind 0 0) before-is
 
     pub header-is : (level : ℕ) → 1 ≤ level → level ≤ 9 → getD (here .headers) (level - 1) 0 ≡ aboveIn level pre
-    header-is level low high = place-header here (take used l) (part .length) (place - part .length - 1) here-is readable-is (level - 1) (omega arith) ∙ ap (lastHeader (level - 1) 0 1 0) before-is ∙ ap (λ (n : ℕ). lastHeader n 0 1 0 pre) (let e : level - 1 ≡ pred level = omega arith in e)
+    header-is level low high = place-header here (take used l) (part .length) (place - part .length - 1) here-is (level - 1) (omega arith) ∙ ap (lastHeader (level - 1) 0 1 0) before-is ∙ ap (λ (n : ℕ). lastHeader n 0 1 0 pre) (let e : level - 1 ≡ pred level = omega arith in e)
 
     pub record-is : getD (recordsOf (take used l)) (part .length + (place - part .length - 1)) [] ≡ here-record
     record-is = rw (file-records l used (inside l used a), index-is)

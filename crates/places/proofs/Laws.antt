@@ -1,4 +1,4 @@
--- The pass in the code's own words, and what callers cite: where an accepted sheet is read, the place says what format's folds say. Assumes nothing.
+-- The pass in the code's own words, and what callers cite: a place says what format's folds say. Assumes nothing.
 use mathlib.Core.Path.{_≡_, refl, ap, sym, _∙_}
 use mathlib.Core.Bool.{Bool, true, false, cond, _&&_, true≢false}
 use mathlib.Core.List.{List, [], _∷_}
@@ -6,24 +6,23 @@ use Prim.Native.Nat.{ℕ, zero, suc, pred, _+_, _-_, _/_, _^_, _≤_, _<_, min}
 use native.Mathlib.Nat.{min-le-left}
 use native.Mathlib.Numerals.{add-one}
 use native.Mathlib.Omega.{arith}
-use borrow.Author.Tests.{eq-eqb, ne-eqb, eqb-true, eqb-false, lt-ltb, ltb-true, le-leb}
+use borrow.Author.Tests.{eq-eqb, ne-eqb, eqb-true, eqb-false, lt-ltb, ltb-true}
 use lib.Dec.{eqb, ltb}
 use lib.ListN.{length, take, getD, set, length-set}
 use lib.Seq.{getD-take, getD-set-same, getD-set-other}
-use Rattle.format.specs.Record.{Kind, head, item, countIndex, Data, View, view}
-use Rattle.format.specs.Judge.{dueOf, openOf, dueAfter, openAfter, heldAfter, isHeaderAt}
+use Rattle.format.specs.Record.{Kind, head, item, countIndex, view}
+use Rattle.format.specs.Judge.{dueOf, openOf, dueAfter, openAfter, isHeaderAt}
 use Rattle.format.specs.Edit.{dueBehind, openBehind, lastHeader, absent}
 use Rattle.format.specs.Above.{lastStart}
 use Rattle.format.proofs.Basics.{and-true}
-use Rattle.format.proofs.JudgeWalks.{Passes, good}
-use Rattle.records.specs.declared.items.Entry.{Entry}
-use Rattle.records.specs.Entry.{viewFault, entryOf}
-use Rattle.records.proofs.Laws.{entry-fault, entry-kind, entry-level, entry-data-records, entry-head, data-records-most}
+use Rattle.records.specs.declared.outlines.Outline.{Outline}
+use Rattle.records.specs.Outline.{outlineOf}
+use Rattle.records.proofs.Outlined.{outline-kind, outline-level, outline-data-records, outline-head, outline-data-records-most}
 use Rattle.places.specs.declared.Place.{Place}
-use Rattle.places.specs.Place.{recordsOf, bodyOf, readable, lastOf, lastHeaders, noPlace, placeOf}
+use Rattle.places.specs.Place.{recordsOf, bodyOf, lastOf, placeIn, placeOf}
 use Rattle.places.specs.Steps.{nextIndex, openedBy, isKept}
 use Rattle.places.proofs.Reading.{record-wide, body-at, length-before}
-use Rattle.places.proofs.Walked.{Walked, walk-on, walk-stops, walk-ends, getD-values}
+use Rattle.places.proofs.Walked.{Walked, walk-on, walk-ends, getD-values}
 
 -- ---- the steps, by the kind of a record
 
@@ -82,7 +81,7 @@ unfolding openedBy
 opened-item kind level e = rw (ne-eqb kind 0 e)
 
 -- ---- one header or item of the pass, as `locate` reads it
-module _ (file : List ℕ) (part at limit index opened start : ℕ) (headers : List ℕ) (w : Walked (take at (bodyOf file part)) index opened start headers) (limited : (limit ≡ min at (length file / 84 - part)) × (limit ≤ length file / 84 - part)) (inside : index < limit) (r : List ℕ) (read : r ≡ getD (recordsOf file) (part + index) []) (e : Entry) (is : e ≡ entryOf r) where
+module _ (file : List ℕ) (part at limit index opened start : ℕ) (headers : List ℕ) (w : Walked (take at (bodyOf file part)) index opened start headers) (limited : (limit ≡ min at (length file / 84 - part)) × (limit ≤ length file / 84 - part)) (inside : index < limit) (r : List ℕ) (read : r ≡ getD (recordsOf file) (part + index) []) (e : Outline) (is : e ≡ outlineOf r) where
   inside-before : index < length (take at (bodyOf file part))
   inside-before = rw (length-before file part at, ← (limited .0)) inside
 
@@ -92,45 +91,34 @@ module _ (file : List ℕ) (part at limit index opened start : ℕ) (headers : L
   is-view : getD (take at (bodyOf file part)) index absent ≡ view r
   is-view = getD-take at (bodyOf file part) index absent (omega (arith, limited .0, min-le-left at (length file / 84 - part))) ∙ body-at file part index (omega (arith, limited .1)) ∙ ap view (sym read)
 
-  fault-is : viewFault (getD (take at (bodyOf file part)) index absent) ≡ e .fault
-  fault-is = ap viewFault is-view ∙ sym (ap (λ (x : Entry). x .fault) is ∙ entry-fault r wide)
+  kind-is : e .kind ≡ countIndex ((view r) .kind)
+  kind-is = ap (λ (x : Outline). x .kind) is ∙ outline-kind r wide
 
-  pub cannot-read : (answer : Place) → answer ≡ noPlace → (e .fault ≡ 0 → ⊥) → answer ≡ placeOf file part at
-  unfolding placeOf
-  cannot-read answer a some = a ∙ walk-stops (take at (bodyOf file part)) index opened start headers w inside-before (λ z. some (sym fault-is ∙ z))
+  level-is : e .level ≡ (view r) .level
+  level-is = ap (λ (x : Outline). x .level) is ∙ outline-level r wide
 
-  module _ (none : e .fault ≡ 0) where
-    none-of : (entryOf r) .fault ≡ 0
-    none-of = ap (λ (x : Entry). x .fault) (sym is) ∙ none
+  data-is : e .«data_records» ≡ (view r) .dataRecords
+  data-is = ap (λ (x : Outline). x .«data_records») is ∙ outline-data-records r wide
 
-    kind-is : e .kind ≡ countIndex ((view r) .kind)
-    kind-is = ap (λ (x : Entry). x .kind) is ∙ entry-kind r wide none-of
+  pub next-fits : length file < 2 ^ 64 → index + e .«data_records» ≤ 1000000000000000000
+  next-fits long = omega (arith, limited .1, ap (λ (x : Outline). x .«data_records») is, outline-data-records-most r wide)
 
-    level-is : e .level ≡ (view r) .level
-    level-is = ap (λ (x : Entry). x .level) is ∙ entry-level r wide none-of
+  header-is : (l : ℕ) → isHeaderAt l (getD (take at (bodyOf file part)) index absent) ≡ eqb (e .kind) 0 && eqb (e .level) l
+  header-is l = rw (is-view, outline-head r wide, level-is, is)
 
-    data-is : e .«data_records» ≡ (view r) .dataRecords
-    data-is = ap (λ (x : Entry). x .«data_records») is ∙ entry-data-records r wide none-of
+  -- whatever becomes of the kept headers
+  goes : (next opened′ : ℕ) (headers′ : List ℕ) → next ≡ nextIndex index (e .kind) (e .«data_records») → opened′ ≡ openedBy (e .kind) (e .level) → length headers′ ≡ 9 → ((l : ℕ) → l ≤ 8 → getD headers′ l 0 ≡ cond (eqb (e .kind) 0 && eqb (e .level) l) (suc index) (getD headers l 0)) → Walked (take at (bodyOf file part)) next opened′ (index + 1) headers′
+  goes next opened′ headers′ n o nine kept =
+      let n′ : next ≡ suc index + dueAfter 0 (getD (take at (bodyOf file part)) index absent) = n ∙ rw (kind-is, data-is, is-view) (next-by ((view r) .kind) index ((view r) .dataRecords)) in
+      let o′ : opened′ ≡ openAfter opened 0 (getD (take at (bodyOf file part)) index absent) = o ∙ rw (kind-is, level-is, is-view) (opened-by ((view r) .kind) ((view r) .level)) in
+      rw (add-one index) (walk-on (take at (bodyOf file part)) index opened start headers w inside-before next opened′ headers′ n′ o′ nine (λ l h. kept l h ∙ rw (header-is l)))
 
-    pub next-fits : length file < 2 ^ 64 → index + e .«data_records» ≤ 1000000000000000000
-    next-fits long = omega (arith, limited .1, ap (λ (x : Entry). x .«data_records») is, data-records-most r wide none-of)
+  module _ (kept : Bool) (next opened′ : ℕ) (k : kept ≡ isKept (e .kind) (e .level)) (n : next ≡ nextIndex index (e .kind) (e .«data_records»)) (o : opened′ ≡ openedBy (e .kind) (e .level)) where
+    pub goes-keeping : kept ≡ true → Walked (take at (bodyOf file part)) next opened′ (index + 1) (set headers (e .level) (index + 1))
+    goes-keeping t = goes next opened′ (set headers (e .level) (index + 1)) n o (length-set headers (e .level) (index + 1) ∙ w .nine) (stored (e .kind) (e .level) index headers (w .nine) (sym k ∙ t))
 
-    header-is : (l : ℕ) → isHeaderAt l (getD (take at (bodyOf file part)) index absent) ≡ eqb (e .kind) 0 && eqb (e .level) l
-    header-is l = rw (is-view, entry-head r wide none-of, level-is, is)
-
-    -- whatever becomes of the kept headers
-    goes : (next opened′ : ℕ) (headers′ : List ℕ) → next ≡ nextIndex index (e .kind) (e .«data_records») → opened′ ≡ openedBy (e .kind) (e .level) → length headers′ ≡ 9 → ((l : ℕ) → l ≤ 8 → getD headers′ l 0 ≡ cond (eqb (e .kind) 0 && eqb (e .level) l) (suc index) (getD headers l 0)) → Walked (take at (bodyOf file part)) next opened′ (index + 1) headers′
-    goes next opened′ headers′ n o nine kept =
-        let n′ : next ≡ suc index + dueAfter 0 (getD (take at (bodyOf file part)) index absent) = n ∙ rw (kind-is, data-is, is-view) (next-by ((view r) .kind) index ((view r) .dataRecords)) in
-        let o′ : opened′ ≡ openAfter opened 0 (getD (take at (bodyOf file part)) index absent) = o ∙ rw (kind-is, level-is, is-view) (opened-by ((view r) .kind) ((view r) .level)) in
-        rw (add-one index) (walk-on (take at (bodyOf file part)) index opened start headers w inside-before next opened′ headers′ (fault-is ∙ none) n′ o′ nine (λ l h. kept l h ∙ rw (header-is l)))
-
-    module _ (kept : Bool) (next opened′ : ℕ) (k : kept ≡ isKept (e .kind) (e .level)) (n : next ≡ nextIndex index (e .kind) (e .«data_records»)) (o : opened′ ≡ openedBy (e .kind) (e .level)) where
-      pub goes-keeping : kept ≡ true → Walked (take at (bodyOf file part)) next opened′ (index + 1) (set headers (e .level) (index + 1))
-      goes-keeping t = goes next opened′ (set headers (e .level) (index + 1)) n o (length-set headers (e .level) (index + 1) ∙ w .nine) (stored (e .kind) (e .level) index headers (w .nine) (sym k ∙ t))
-
-      pub goes-past : kept ≡ false → Walked (take at (bodyOf file part)) next opened′ (index + 1) headers
-      goes-past t = goes next opened′ headers n o (w .nine) (left-alone (e .kind) (e .level) index headers (w .nine) (sym k ∙ t))
+    pub goes-past : kept ≡ false → Walked (take at (bodyOf file part)) next opened′ (index + 1) headers
+    goes-past t = goes next opened′ headers n o (w .nine) (left-alone (e .kind) (e .level) index headers (w .nine) (sym k ∙ t))
 
 -- the pass goes forward
 pub goes-forward : (limit index kind dataRecords next : ℕ) → next ≡ nextIndex index kind dataRecords → index < limit → limit - next < limit - index
@@ -146,28 +134,18 @@ pub level-inside : (kept : Bool) (kind level : ℕ) → kept ≡ isKept kind lev
 unfolding isKept
 level-inside kept kind level k t = ltb-true level 9 ((and-true (eqb kind 0) (ltb level 9) (sym k ∙ t)) .1)
 
-pub came-to-place : (file : List ℕ) (part at limit index opened start : ℕ) (headers : List ℕ) → Walked (take at (bodyOf file part)) index opened start headers → (limit ≡ min at (length file / 84 - part)) × (limit ≤ length file / 84 - part) → limit ≤ index → record { sound = true; due = index - limit; opened = opened; start = start; headers = headers } ≡ placeOf file part at
+pub came-to-place : (file : List ℕ) (part at limit index opened start : ℕ) (headers : List ℕ) → Walked (take at (bodyOf file part)) index opened start headers → (limit ≡ min at (length file / 84 - part)) × (limit ≤ length file / 84 - part) → limit ≤ index → record { due = index - limit; opened = opened; start = start; headers = headers } ≡ placeOf file part at
 unfolding placeOf
 came-to-place file part at limit index opened start headers w limited h =
     let same : length (take at (bodyOf file part)) ≡ limit = length-before file part at ∙ sym (limited .0) in
-    ap (λ (n : ℕ). record { sound = true; due = index - n; opened = opened; start = start; headers = headers }) (sym same) ∙ walk-ends (take at (bodyOf file part)) index opened start headers w (omega arith)
+    ap (λ (n : ℕ). record { due = index - n; opened = opened; start = start; headers = headers }) (sym same) ∙ walk-ends (take at (bodyOf file part)) index opened start headers w (omega arith)
 
 -- ---- WHAT CALLERS CITE
 
--- records that pass can be read
-pub passes-readable : (opened due : ℕ) (held : Data) (rs : List View) → Passes opened due held rs → readable due rs ≡ true
-unfolding viewFault
-passes-readable opened due held [] p = refl
-passes-readable opened zero held (r ∷ rs) p =
-    let g = good opened held r (p .0) in
-    rw (le-leb (countIndex (r .kind)) 9 (g .known), g .sound) (passes-readable (openAfter opened 0 r) (dueAfter 0 r) (heldAfter 0 held r) rs (p .1))
-passes-readable opened (suc due) held (r ∷ rs) p = passes-readable opened due held rs (p .1)
-
--- what a place says where all before it can be read
-module _ (place : Place) (file : List ℕ) (part at : ℕ) (is : place ≡ placeOf file part at) (ok : readable 0 (take at (bodyOf file part)) ≡ true) where
-  fields : place ≡ record { sound = true; due = dueBehind 0 (take at (bodyOf file part)); opened = openBehind 0 0 (take at (bodyOf file part)); start = lastStart 0 1 0 (take at (bodyOf file part)); headers = lastHeaders (take at (bodyOf file part)) }
+module _ (place : Place) (file : List ℕ) (part at : ℕ) (is : place ≡ placeOf file part at) where
+  fields : place ≡ placeIn (take at (bodyOf file part))
   unfolding placeOf
-  fields = is ∙ rw ok
+  fields = is
 
   pub place-due : place .due ≡ dueBehind 0 (take at (bodyOf file part))
   place-due = ap (λ (x : Place). x .due) fields

@@ -1,18 +1,16 @@
 -- A pass over headers and items that jumps over their data records comes to what format's folds over all records come to. Assumes nothing.
 use mathlib.Core.Path.{_≡_, refl, ap, sym, _∙_}
-use mathlib.Core.Bool.{true, false, cond}
+use mathlib.Core.Bool.{cond}
 use mathlib.Core.List.{List, [], _∷_}
 use Prim.Native.Nat.{ℕ, zero, suc, _+_, _-_, _≤_, _<_}
 use native.Mathlib.Omega.{arith}
-use borrow.Author.Tests.{eq-eqb, ne-eqb}
 use lib.ListN.{length, drop, getD, length-drop, drop-of-length-le}
 use lib.Seq.{drop-drop, drop-cons, ext-getD}
 use Rattle.format.specs.Record.{View}
 use Rattle.format.specs.Judge.{dueAfter, openAfter, isHeaderAt}
 use Rattle.format.specs.Edit.{dueBehind, openBehind, lastHeader, absent}
 use Rattle.format.specs.Above.{lastStart}
-use Rattle.records.specs.Entry.{viewFault}
-use Rattle.places.specs.Place.{readable, values, lastOf, lastHeaders, noPlace, placeIn}
+use Rattle.places.specs.Place.{values, lastOf, lastHeaders, placeIn}
 
 -- ---- a fold that looks at no data record may jump over those that are due; the records have numbers from `number` on
 module _ {A : Type 0} (f : (due number : ℕ) → List View → A) (over-data : (due number : ℕ) (r : View) (rs : List View) → f (suc due) number (r ∷ rs) ≡ f due (suc number) rs) (at-end : (due n m : ℕ) → f due n [] ≡ f due m []) where
@@ -38,7 +36,6 @@ module _ {A : Type 0} (f : (due number : ℕ) → List View → A) (over-data : 
 
 -- ---- what the pass keeps at the index of a header or item, or past the end: that the folds from there come to the same
 pub record Walked (before : List View) (index opened start : ℕ) (headers : List ℕ) : Type 0 where
-  pub readable-kept : readable 0 before ≡ readable (index - length before) (drop index before)
   pub due-kept : dueBehind 0 before ≡ dueBehind (index - length before) (drop index before)
   pub opened-kept : openBehind 0 0 before ≡ openBehind opened (index - length before) (drop index before)
   pub start-kept : lastStart 0 1 0 before ≡ lastStart (index - length before) (suc index) start (drop index before)
@@ -52,7 +49,6 @@ getD-values (suc count) from f (suc i) h = getD-values count (suc from) f i (ome
 
 pub walk-start : (before : List View) → Walked before 0 0 0 (values 9 0 (λ level. 0))
 walk-start before = record {
-  readable-kept = rw zero-left;
   due-kept = rw zero-left;
   opened-kept = rw zero-left;
   start-kept = rw zero-left;
@@ -66,9 +62,8 @@ walk-start before = record {
 module _ (before : List View) (index opened start : ℕ) (headers : List ℕ) (w : Walked before index opened start headers) where
   -- one header or item more
   module _ (inside : index < length before) where
-    pub walk-on : (next opened′ : ℕ) (headers′ : List ℕ) → viewFault (getD before index absent) ≡ 0 → next ≡ suc index + dueAfter 0 (getD before index absent) → opened′ ≡ openAfter opened 0 (getD before index absent) → length headers′ ≡ 9 → ((level : ℕ) → level ≤ 8 → getD headers′ level 0 ≡ cond (isHeaderAt level (getD before index absent)) (suc index) (getD headers level 0)) → Walked before next opened′ (suc index) headers′
-    walk-on next opened′ headers′ none n o nine kept = record {
-      readable-kept = w .readable-kept ∙ here (λ d m rs. readable d rs) (λ d m x rs. refl) (λ d a b. refl) before index 0 inside ∙ rw (eq-eqb (viewFault (getD before index absent)) 0 none) (jump (λ d m rs. readable d rs) (λ d m x rs. refl) (λ d a b. refl) before index _ next inside n);
+    pub walk-on : (next opened′ : ℕ) (headers′ : List ℕ) → next ≡ suc index + dueAfter 0 (getD before index absent) → opened′ ≡ openAfter opened 0 (getD before index absent) → length headers′ ≡ 9 → ((level : ℕ) → level ≤ 8 → getD headers′ level 0 ≡ cond (isHeaderAt level (getD before index absent)) (suc index) (getD headers level 0)) → Walked before next opened′ (suc index) headers′
+    walk-on next opened′ headers′ n o nine kept = record {
       due-kept = w .due-kept ∙ here (λ d m rs. dueBehind d rs) (λ d m x rs. refl) (λ d a b. refl) before index 0 inside ∙ jump (λ d m rs. dueBehind d rs) (λ d m x rs. refl) (λ d a b. refl) before index _ next inside n;
       opened-kept = w .opened-kept ∙ here (λ d m rs. openBehind opened d rs) (λ d m x rs. refl) (λ d a b. refl) before index 0 inside ∙ rw o (jump (λ d m rs. openBehind (openAfter opened 0 (getD before index absent)) d rs) (λ d m x rs. refl) (λ d a b. refl) before index _ next inside n);
       start-kept = w .start-kept ∙ here (λ d m rs. lastStart d m start rs) (λ d m x rs. refl) (λ d a b. refl) before index (suc index) inside ∙ jump (λ d m rs. lastStart d m (suc index) rs) (λ d m x rs. refl) (λ d a b. refl) before index _ next inside n;
@@ -76,22 +71,12 @@ module _ (before : List View) (index opened start : ℕ) (headers : List ℕ) (w
       nine = nine;
     }
 
-    -- one that cannot be read
-    pub walk-stops : (viewFault (getD before index absent) ≡ 0 → ⊥) → noPlace ≡ placeIn before
-    walk-stops some = sym (rw not-readable)
-      where
-        not-readable : readable 0 before ≡ false
-        not-readable = w .readable-kept ∙ here (λ d m rs. readable d rs) (λ d m x rs. refl) (λ d a b. refl) before index 0 inside ∙ rw (ne-eqb (viewFault (getD before index absent)) 0 some)
-
   -- the end
-  pub walk-ends : length before ≤ index → record { sound = true; due = index - length before; opened = opened; start = start; headers = headers } ≡ placeIn before
-  walk-ends h = sym (rw all-readable (λ i. record { sound = true; due = all-due i; opened = all-opened i; start = all-start i; headers = all-headers i }))
+  pub walk-ends : length before ≤ index → record { due = index - length before; opened = opened; start = start; headers = headers } ≡ placeIn before
+  walk-ends h = sym (λ i. record { due = all-due i; opened = all-opened i; start = all-start i; headers = all-headers i })
     where
       nothing-left : drop index before ≡ []
       nothing-left = drop-of-length-le before h
-
-      all-readable : readable 0 before ≡ true
-      all-readable = w .readable-kept ∙ rw nothing-left
 
       all-due : dueBehind 0 before ≡ index - length before
       all-due = w .due-kept ∙ rw nothing-left

@@ -1,4 +1,4 @@
--- Steps of the code at one header or item, by the numbers that its entry has. Private functions alone cite these. Assumes nothing.
+-- Steps of the code at one header or item, by the numbers that its outline has. Private functions alone cite these. Assumes nothing.
 use mathlib.Core.Bool.{Bool, cond, _&&_}
 use Prim.Native.Nat.{ℕ, _+_, _-_}
 use lib.Dec.{eqb, ltb}

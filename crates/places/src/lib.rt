@@ -1,34 +1,22 @@
-// Where a place of a sheet lies: what stands before it, read in one pass over headers and items that jumps over their data records.
+// Where a place of a sheet lies: what stands before it, read in one pass over headers and items that jumps over their data records. Nothing
+// is judged here; a malformed column counts as 0.
 ghost use mathlib.Core.Path.{_≡_};
 ghost use mathlib.Core.List.{[]};
 ghost use Prim.Native.Nat.{_+_, _-_, _≤_, min};
 ghost use lib.ListN.{getD};
-ghost use Rattle.places.specs.Place.{recordsOf, noPlace, placeOf};
+ghost use Rattle.places.specs.Place.{recordsOf, placeOf};
 ghost use Rattle.places.specs.Steps.{nextIndex, openedBy, isKept};
 
 // Bytes of a record.
 const RECORD: usize = 84;
 
-// What stands before a place: whether each header and item there can be read; how many data records are still due at the place; the
-// open level there; the last header or item, and the last header of each level, counted from 1 in the body, 0 for none.
+// What stands before a place: how many data records are still due there; the open level there; the last header or item, and the last header
+// of each level, counted from 1 in the body, 0 for none.
 pub struct Place {
-    pub sound: bool,
     pub due: usize,
     pub opened: usize,
     pub start: usize,
     pub headers: [usize; 9],
-}
-
-fn nowhere() -> Place
-    ensures { λ r. ⌜ r ≡ noPlace ⌝ }
-{
-    Place {
-        sound: false,
-        due: 0,
-        opened: 0,
-        start: 0,
-        headers: [0usize; 9],
-    }
 }
 
 // One record of a file, counted from 0; no bytes where there is none.
@@ -92,20 +80,16 @@ pub fn locate(file: &[u8], part: usize, at: usize) -> Place
     let mut start: usize = 0;
     let mut headers = [0usize; 9];
     while index < limit {
-        let entry = records::entry(record_at(file, part + index));
-        if entry.fault != 0 {
-            return nowhere();
-        }
-        let level = entry.level;
-        if is_kept(entry.kind, level) {
+        let outline = records::outline(record_at(file, part + index));
+        let level = outline.level;
+        if is_kept(outline.kind, level) {
             headers[level] = index + 1;
         }
         start = index + 1;
-        opened = opened_by(entry.kind, level);
-        index = next_index(index, entry.kind, entry.data_records);
+        opened = opened_by(outline.kind, level);
+        index = next_index(index, outline.kind, outline.data_records);
     }
     Place {
-        sound: true,
         due: index - limit,
         opened,
         start,

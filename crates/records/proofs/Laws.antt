@@ -29,7 +29,7 @@ held-data (heights count) = refl
 held-data notes = refl
 held-data attributes = refl
 
-head-index : (k : Kind) → isHead k ≡ eqb (countIndex k) 0
+pub head-index : (k : Kind) → isHead k ≡ eqb (countIndex k) 0
 head-index head = refl
 head-index (item k) = sym (ne-eqb (suc k) 0 (λ (e : suc k ≡ 0). omega arith))
 
@@ -145,9 +145,6 @@ module _ (l : List ℕ) (whole : length l ≡ 84) where
   module _ (none : (entryOf l) .fault ≡ 0) where
     pub level-most : (entryOf l) .level ≤ 99
     level-most = rw (entry-level l whole none) view-level-most
-
-    pub data-records-most : (entryOf l) .«data_records» ≤ 999999
-    data-records-most = rw (entry-data-records l whole none) view-data-records-most
 
   -- ---- in the words of judging
 

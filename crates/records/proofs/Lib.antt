@@ -6,3 +6,4 @@ pub mod Counts
 pub mod Entries
 pub mod DataFaults
 pub mod Laws
+pub mod Outlined

@@ -6,7 +6,7 @@ use native.Mathlib.Omega.{arith}
 use lib.ListN.{take}
 use Rattle.places.specs.Place.{bodyOf}
 use Rattle.places.proofs.Walked.{Walked, walk-start}
-use Rattle.places.proofs.Laws.{cannot-read, next-fits, goes-keeping, goes-past, goes-forward, level-inside, came-to-place}
+use Rattle.places.proofs.Laws.{next-fits, goes-keeping, goes-past, goes-forward, level-inside, came-to-place}
 use borrow.Author.Needs.{needs}
 use Rattle.places.proofs.locate.Statement.{statement}
 use Rattle.places.proofs.locate.Tie as tie
@@ -29,14 +29,8 @@ add-record-at c = search needs
 record-at-requires : tie.Need-record-at-requires Inv-loop μ-loop
 record-at-requires c κs = search needs
 
-entry-requires : tie.Need-entry-requires Inv-loop μ-loop
-entry-requires c κs = search needs
-
-nowhere-requires : tie.Need-nowhere-requires Inv-loop μ-loop
-nowhere-requires c κs = search needs
-
-returns : tie.Need-returns Inv-loop μ-loop
-returns c = search cannot-read
+outline-requires : tie.Need-outline-requires Inv-loop μ-loop
+outline-requires c κs = search needs
 
 is-kept-requires : tie.Need-is-kept-requires Inv-loop μ-loop
 is-kept-requires c κs = search needs
@@ -45,7 +39,7 @@ add-headers : tie.Need-add-headers Inv-loop μ-loop
 add-headers c = search needs
 
 mul-headers : tie.Need-mul-headers Inv-loop μ-loop
-mul-headers c = let h : c .before .before .before .before .entry .result .level < 9 = search level-inside in omega arith
+mul-headers c = let h : c .before .before .outline .result .level < 9 = search level-inside in omega arith
 
 array-write-headers : tie.Need-array-write-headers Inv-loop μ-loop
 array-write-headers c = search level-inside
@@ -63,10 +57,10 @@ loop-less : tie.Need-loop-less Inv-loop μ-loop
 loop-less c = search goes-forward
 
 loop-again : tie.Need-loop-again Inv-loop μ-loop
-loop-again c = ⊎-elim (λ w. rw (w .1) (search goes-keeping)) (λ w. rw (w .1) (search goes-past)) (c .before .before .if2 .came)
+loop-again c = ⊎-elim (λ w. rw (w .1) (search goes-keeping)) (λ w. rw (w .1) (search goes-past)) (c .before .before .if1 .came)
 
-returns-2 : tie.Need-returns-2 Inv-loop μ-loop
-returns-2 c = search came-to-place
+returns : tie.Need-returns Inv-loop μ-loop
+returns c = search came-to-place
 
 pub locate-spec : {M : Type 1} → statement M
 locate-spec =
@@ -78,9 +72,7 @@ locate-spec =
     loop-holds
     add-record-at
     record-at-requires
-    entry-requires
-    nowhere-requires
-    returns
+    outline-requires
     is-kept-requires
     add-headers
     mul-headers
@@ -90,4 +82,4 @@ locate-spec =
     next-index-requires
     loop-less
     loop-again
-    returns-2)
+    returns)

@@ -1,0 +1,17 @@
+-- `records::outlines::element_outline` meets its contract: its level and its records. Assumes nothing.
+use Rattle.records.proofs.Outlined.{element-outlined}
+use borrow.Author.Needs.{needs}
+use Rattle.records.proofs.outlines.element_outline.Statement.{statement}
+use Rattle.records.proofs.outlines.element_outline.Tie as tie
+
+number-requires : tie.Need-number-requires
+number-requires c κs = search needs
+
+number-requires-2 : tie.Need-number-requires-2
+number-requires-2 c κs = search needs
+
+returns : tie.Need-returns
+returns c = search element-outlined
+
+pub element-outline-spec : {M : Type 1} → statement M
+element-outline-spec = tie.close (tie.spec number-requires number-requires-2 returns)
