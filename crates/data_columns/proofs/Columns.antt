@@ -1,5 +1,5 @@
 -- Several columns, in the code's own words: two overlapping ends, one column after another, and whether all lie in the bytes. Assumes nothing.
-use mathlib.Core.Path.{_≡_, ap, sym, _∙_}
+use mathlib.Core.Path.{_≡_, refl, ap, sym, _∙_}
 use mathlib.Core.Bool.{Bool, true, false, _&&_, and-assoc}
 use mathlib.Core.List.{List}
 use Prim.Native.Nat.{ℕ, zero, suc, _+_, _-_, _*_, _/_, _≤_, _<_}
@@ -30,16 +30,36 @@ ends l m count h k f b =
     let front = and-true (eachFormed (count - m) l) _ (sym (split (count - m) (m + m - count) l) ∙ ap (λ (n : ℕ). eachFormed n l) (sym e) ∙ f) .0 in
     ap (λ (n : ℕ). eachFormed n l) (sym g) ∙ split (count - m) m l ∙ true-and _ _ front b
 
-pub both-ends : (l : List ℕ) (start count : ℕ) (front back : Bool) → 7 ≤ count → count ≤ 14 → (front ≡ true → eachFormed 7 (drop start l) ≡ true) → (back ≡ true → eachFormed 7 (drop (start + (count - 7) * 7) l) ≡ true) → front && back ≡ true → eachFormed count (drop start l) ≡ true
-both-ends l start count front back h k f b e =
-    let t = and-true front back e in
-    ends (drop start l) 7 count h (omega arith) (f (t .0)) (rw drop-drop (b (t .1)))
+-- ---- `many_formed`: seven at the front and seven at the end are sure, or those of one end
+
+module _ (l : List ℕ) (start count : ℕ) (least : 7 ≤ count) where
+  pub both-sure : (front back : Bool) → count ≤ 14 → (front ≡ true → eachFormed 7 (drop start l) ≡ true) → (back ≡ true → eachFormed 7 (drop (start + (count - 7) * 7) l) ≡ true) → front ≡ true → back ≡ true → true ≡ eachFormed count (drop start l)
+  both-sure front back k f b e g = sym (ends (drop start l) 7 count least (omega arith) (f e) (rw drop-drop (b g)))
+
+  pub front-sure : (front r : Bool) → (front ≡ true → eachFormed 7 (drop start l) ≡ true) → front ≡ true → r ≡ eachFormed (count - 7) (drop (start + 49) l) → r ≡ eachFormed count (drop start l)
+  front-sure front r f e g =
+      let n : count ≡ 7 + (count - 7) = omega arith in
+      g ∙ sym (ap (λ (m : ℕ). eachFormed m (drop start l)) n ∙ split 7 (count - 7) (drop start l) ∙ rw (f e, drop-drop 49 start l) refl)
+
+  pub back-sure : (back r : Bool) → (back ≡ true → eachFormed 7 (drop (start + (count - 7) * 7) l) ≡ true) → back ≡ true → r ≡ eachFormed (count - 7) (drop start l) → r ≡ eachFormed count (drop start l)
+  back-sure back r b e g =
+      let n : count ≡ count - 7 + 7 = omega arith in
+      g ∙ sym (ap (λ (m : ℕ). eachFormed m (drop start l)) n ∙ split (count - 7) 7 (drop start l) ∙ rw (drop-drop ((count - 7) * 7) start l, b e) (all (eachFormed (count - 7) (drop start l))))
+    where
+      all : (t : Bool) → t && true ≡ t
+      all true = refl
+      all false = refl
+
+-- ---- `few_formed`
+
+pub no-columns : (l : List ℕ) (start count : ℕ) → count ≡ 0 → true ≡ eachFormed count (drop start l)
+unfolding eachFormed
+no-columns l start count e = rw e
+
+pub few-are-sure : (l : List ℕ) (start count : ℕ) (r : Bool) → r ≡ true → (r ≡ true → eachFormed count (drop start l) ≡ true) → true ≡ eachFormed count (drop start l)
+few-are-sure l start count r e f = sym (f e)
 
 -- ---- one column after another
-
-pub sure : (l : List ℕ) (at : ℕ) (r : Bool) → r ≡ true → (r ≡ true → eachFormed 1 (drop at l) ≡ true) → true ≡ formed (columnOf (take 7 (drop at l)))
-unfolding eachFormed
-sure l at r e f = sym (and-true (formed (columnOf (take 7 (drop at l)))) true (f e) .0)
 
 pub one-column : (l : List ℕ) (at left : ℕ) (good r all : Bool) → r ≡ formed (columnOf (take 7 (drop at l))) → 0 < left → good && eachFormed left (drop at l) ≡ all → (good && r) && eachFormed (left - 1) (drop (at + 7) l) ≡ all
 unfolding eachFormed
@@ -67,6 +87,3 @@ ends-outside l start count h k = simp (lt-leb (start + count * 7) (length l) (om
 pub inside : (l : List ℕ) (start count : ℕ) (r : Bool) → r ≡ eachFormed count (drop start l) → start ≤ length l → count ≤ (length l - start) / 7 → r ≡ columnsFormed l start count
 unfolding columnsFormed
 inside l start count r e h k = e ∙ simp (le-leb (start + count * 7) (length l) (omega arith))
-
-pub sure-inside : (l : List ℕ) (start count : ℕ) (r : Bool) → r ≡ true → (r ≡ true → eachFormed count (drop start l) ≡ true) → start ≤ length l → count ≤ (length l - start) / 7 → true ≡ columnsFormed l start count
-sure-inside l start count r e f h k = inside l start count true (sym (f e)) h k

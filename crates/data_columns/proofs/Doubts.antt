@@ -1,138 +1,173 @@
--- Up to seven columns: where the doubts of their bytes add up to 0, each column is well formed. Assumes nothing.
+-- Columns whose bytes are surely right: where the doubts of their bytes add up to 0, each column is well formed. Assumes nothing.
 use mathlib.Core.Path.{_≡_, refl, ap, sym, _∙_}
 use mathlib.Core.Bool.{Bool, true, false, cond}
 use mathlib.Core.List.{List, [], _∷_, _++_}
 use Prim.Native.Nat.{ℕ, zero, suc, _+_, _-_, _*_, _≤_, _<_}
-use native.Mathlib.Nat.{zero-add, suc-add}
-use native.Mathlib.Numerals.{add-one}
 use native.Mathlib.Omega.{arith}
 use borrow.Author.Tests.{eqb-true}
-use lib.Dec.{eqb}
-use lib.ListN.{length, take, drop, getD, length-drop, List·getD-append, drop-of-length-le}
-use lib.Seq.{drop-cons}
+use lib.Dec.{eqb, ltb}
+use lib.ListN.{length, take, drop, getD, replicate, length-drop, drop-of-length-le}
 use Rattle.format.specs.Column.{columnOf, formed}
 use Rattle.format.proofs.Basics.{true-and}
+use Rattle.byte_forms.specs.Doubt.{doubt}
+use Rattle.byte_forms.specs.Places.{behind, placesIn, doubtsIn}
+use Rattle.byte_forms.proofs.Neighbours.{column-after}
+use Rattle.byte_forms.proofs.Doubts.{at-most-one, anything, one-more, doubts-append, column-right}
 use Rattle.data_columns.specs.Columns.{eachFormed}
-use Rattle.data_columns.specs.Doubt.{surelyRight, doubt}
-use Rattle.data_columns.proofs.Neighbours.{Right, column-after, last-right, between-right, first-right}
+use Rattle.data_columns.specs.Counted.{countedIf}
 
--- ---- the places of columns, and the doubts of bytes at them
-
--- the places behind a column's first: n between and the last; then others
-unfoldable pub behindFirst : ℕ → List ℕ → List ℕ
-behindFirst zero others = 108 ∷ others
-behindFirst (suc n) others = 109 ∷ behindFirst n others
+-- ---- the places of columns of seven bytes
 
 unfoldable pub placesOf : ℕ → List ℕ
 placesOf zero = []
-placesOf (suc columns) = 102 ∷ behindFirst 5 (placesOf columns)
+placesOf (suc columns) = placesIn 77 109 100 7 ++ placesOf columns
 
--- the doubts of bytes at their places, p before the first
-unfoldable pub doubtsIn : List ℕ → ℕ → List ℕ → ℕ
-doubtsIn [] p l = 0
-doubtsIn (k ∷ ks) p [] = 0
-doubtsIn (k ∷ ks) p (b ∷ bs) = doubt k p b + doubtsIn ks b bs
+length-columns : (columns : ℕ) → length (placesOf columns) ≡ columns * 7
+unfolding placesOf placesIn behind
+length-columns zero = refl
+length-columns (suc m) = omega (arith, length-columns m)
 
-right-at : (k p b : ℕ) → doubt k p b ≡ 0 → surelyRight k p b ≡ true
-unfolding doubt
-right-at k p b = go (surelyRight k p b)
-  where
-    go : (x : Bool) → cond {A = ℕ} x 0 1 ≡ 0 → x ≡ true
-    go true e = refl
-    go false e = absurd (omega arith)
-
--- ---- no doubt, well formed
-
-behind-right : (n : ℕ) (ks : List ℕ) (p : ℕ) (l : List ℕ) → n < length l → doubtsIn (behindFirst n ks) p l ≡ 0 → Right p (take (suc n) l)
-unfolding behindFirst doubtsIn
-behind-right n ks p [] h e = absurd (omega arith)
-behind-right zero ks p (b ∷ bs) h e = last-right p b (right-at 108 p b (omega arith))
-behind-right (suc n) ks p (b ∷ bs) h e =
-    between-right p b (take (suc n) bs) (behind-right n ks b bs (omega arith) (omega arith)) (right-at 109 p b (omega arith))
-
--- nor is there a doubt at the places behind these
-behind-rest : (n : ℕ) (ks : List ℕ) (p : ℕ) (l : List ℕ) → n < length l → doubtsIn (behindFirst n ks) p l ≡ 0 → (q : ℕ) × (doubtsIn ks q (drop (suc n) l) ≡ 0)
-unfolding behindFirst doubtsIn
-behind-rest n ks p [] h e = absurd (omega arith)
-behind-rest zero ks p (b ∷ bs) h e = (b, omega arith)
-behind-rest (suc n) ks p (b ∷ bs) h e = behind-rest n ks b bs (omega arith) (omega arith)
-
+-- no doubt, well formed
 all-right : (columns p : ℕ) (l : List ℕ) → columns * 7 ≤ length l → doubtsIn (placesOf columns) p l ≡ 0 → eachFormed columns l ≡ true
-unfolding placesOf doubtsIn eachFormed
+unfolding placesOf placesIn behind eachFormed
 all-right zero p l h e = refl
-all-right (suc m) p [] h e = absurd (omega arith)
-all-right (suc m) p (b ∷ bs) h e =
-    let z : doubtsIn (behindFirst 5 (placesOf m)) b bs ≡ 0 = omega arith in
-    let rest = behind-rest 5 (placesOf m) b bs (omega arith) z in
-    true-and (formed (columnOf (b ∷ take 6 bs))) (eachFormed m (drop 6 bs))
-    (column-after refl (first-right p b (take 6 bs) (behind-right 5 (placesOf m) b bs (omega arith) z) (right-at 102 p b (omega arith))))
-    (all-right m (rest .0) (drop 6 bs) (rw (length-drop 6 bs) (omega arith)) (rest .1))
+all-right (suc m) p l h e =
+    let s = doubts-append (placesIn 77 109 100 7) (placesOf m) p l (omega arith) in
+    let z : doubtsIn (placesIn 77 109 100 7) p l ≡ 0 = omega arith in
+    let k : doubtsIn (placesOf m) (getD (p ∷ l) 7 0) (drop 7 l) ≡ 0 = omega arith in
+    true-and (formed (columnOf (take 7 l))) (eachFormed m (drop 7 l))
+    (column-after refl (column-right true 7 p l (omega arith) (omega arith) z))
+    (all-right m (getD (p ∷ l) 7 0) (drop 7 l) (rw (length-drop 7 l) (omega arith)) k)
 
--- ---- the loop, in the code's own words
+-- ---- the loops, in the code's own words: the first byte of a column, and bytes at the places `ks` behind it
 
-pub at-most-one : (k p b r : ℕ) → r ≡ doubt k p b → r ≤ 1
-unfolding doubt
-at-most-one k p b r e = go (surelyRight k p b) r e
-  where
-    go : (x : Bool) (r : ℕ) → r ≡ cond x 0 1 → r ≤ 1
-    go true r e = omega arith
-    go false r e = omega arith
+unfoldable pub allDoubts : List ℕ → List ℕ → ℕ → ℕ
+allDoubts ks l at = doubtsIn (77 ∷ ks) 32 (drop at l)
 
-pub one-at-most-more : (k p b r i doubts : ℕ) → r ≡ doubt k p b → doubts ≤ i → doubts + r ≤ i + 1
-one-at-most-more k p b r i doubts e h = omega (arith, at-most-one k p b r e)
+-- those behind the byte at + i
+unfoldable pub doubtsFrom : List ℕ → List ℕ → ℕ → ℕ → ℕ
+doubtsFrom ks l at i = doubtsIn (drop i ks) (getD l (at + i) 0) (drop (at + i + 1) l)
 
-length-places : (columns : ℕ) → length (placesOf columns) ≡ columns * 7
-unfolding placesOf behindFirst
-length-places zero = refl
-length-places (suc m) = omega (arith, length-places m)
-
-places-append : (m n : ℕ) → placesOf (m + n) ≡ placesOf m ++ placesOf n
-unfolding placesOf behindFirst
-places-append zero n = ap placesOf (zero-add n)
-places-append (suc m) n = ap placesOf (suc-add m n) ∙ ap (λ (ks : List ℕ). 102 ∷ behindFirst 5 ks) (places-append m n)
-
--- the places of fewer columns are the first of the places of more
-fewer-places : (m n i : ℕ) → m ≤ n → i < m * 7 → getD (placesOf n) i 0 ≡ getD (placesOf m) i 0
-fewer-places m n i h k =
-    let e : n ≡ m + (n - m) = omega arith in
-    let g : i < length (placesOf m) = omega (arith, length-places m) in
-    rw (e, places-append, List·getD-append)
-
--- one byte, and those behind it
-one-more : (ks l : List ℕ) (i j p : ℕ) → i < length ks → j < length l → doubtsIn (drop i ks) p (drop j l) ≡ doubt (getD ks i 0) p (getD l j 0) + doubtsIn (drop (i + 1) ks) (getD l j 0) (drop (j + 1) l)
-unfolding doubtsIn
-one-more ks l i j p h k = rw (add-one i, add-one j, drop-cons ks i 0 h, drop-cons l j 0 k)
-
--- the doubts of all bytes of the columns from `at`, and of those from the i-th on, which is not the first
-unfoldable pub allDoubts : List ℕ → ℕ → ℕ → ℕ
-allDoubts l at columns = doubtsIn (placesOf columns) 32 (drop at l)
-
-unfoldable pub doubtsFrom : List ℕ → ℕ → ℕ → ℕ → ℕ
-doubtsFrom l at columns i = doubtsIn (drop i (placesOf columns)) (getD l (at + i - 1) 0) (drop (at + i) l)
-
--- one turn of the loop, where the code's table of seven columns serves fewer
-turn : (l : List ℕ) (at columns p i : ℕ) → columns ≤ 7 → at + columns * 7 ≤ length l → i < columns * 7 → doubtsIn (drop i (placesOf columns)) p (drop (at + i) l) ≡ doubt (getD (placesOf 7) i 0) p (getD l (at + i) 0) + doubtsFrom l at columns (i + 1)
-unfolding doubtsFrom
-turn l at columns p i h k m =
-    let e : at + (i + 1) - 1 ≡ at + i = omega arith in
-    let f : at + (i + 1) ≡ at + i + 1 = omega arith in
-    rw (e, f, fewer-places columns 7 i h m)
-    (one-more (placesOf columns) l i (at + i) p (omega (arith, length-places columns)) (omega arith))
-
-pub first-doubt : (l : List ℕ) (at columns r : ℕ) → r ≡ doubt 102 32 (getD l at 0) → 1 ≤ columns → columns ≤ 7 → at + columns * 7 ≤ length l → r + doubtsFrom l at columns 1 ≡ allDoubts l at columns
-unfolding allDoubts placesOf
-first-doubt l at columns r e h m k =
-    let x = turn l at columns 32 0 m k (omega arith) in
+first-of-all : (ks l : List ℕ) (at x : ℕ) → x ≡ doubt 77 32 (getD l at 0) → at < length l → x + doubtsFrom ks l at 0 ≡ allDoubts ks l at
+unfolding allDoubts doubtsFrom
+first-of-all ks l at x e h =
     let z : at + 0 ≡ at = omega arith in
-    sym (rw (z, ← e) at x)
+    rw (z, e) (sym (one-more (77 ∷ ks) l 0 at 32 (omega arith) h))
 
-pub next-doubt : (l : List ℕ) (at columns r i doubts : ℕ) → r ≡ doubt (getD (placesOf 7) i 0) (getD l (at + i - 1) 0) (getD l (at + i) 0) → columns ≤ 7 → at + columns * 7 ≤ length l → i < columns * 7 → doubts + doubtsFrom l at columns i ≡ allDoubts l at columns → (doubts + r) + doubtsFrom l at columns (i + 1) ≡ allDoubts l at columns
+next-of-all : (ks l : List ℕ) (at x i doubts : ℕ) → x ≡ doubt (getD ks i 0) (getD l (at + i) 0) (getD l (at + i + 1) 0) → i < length ks → at + i + 1 < length l → doubts + doubtsFrom ks l at i ≡ allDoubts ks l at → (doubts + x) + doubtsFrom ks l at (i + 1) ≡ allDoubts ks l at
 unfolding doubtsFrom
-next-doubt l at columns r i doubts e m k h s = omega (arith, turn l at columns (getD l (at + i - 1) 0) i m k h)
+next-of-all ks l at x i doubts e h k s =
+    let f : at + (i + 1) ≡ at + i + 1 = omega arith in
+    rw f (omega (arith, one-more ks l i (at + i + 1) (getD l (at + i) 0) h k))
 
-pub no-doubt : (l : List ℕ) (at columns i doubts : ℕ) → at + columns * 7 ≤ length l → columns * 7 ≤ i → doubts + doubtsFrom l at columns i ≡ allDoubts l at columns → eqb doubts 0 ≡ true → eachFormed columns (drop at l) ≡ true
+none-of-all : (ks l : List ℕ) (at i doubts : ℕ) → length ks ≤ i → doubts + doubtsFrom ks l at i ≡ allDoubts ks l at → eqb doubts 0 ≡ true → doubtsIn (77 ∷ ks) 32 (drop at l) ≡ 0
 unfolding allDoubts doubtsFrom doubtsIn
-no-doubt l at columns i doubts k h s z =
-    let e : drop i (placesOf columns) ≡ [] = drop-of-length-le (placesOf columns) {i = i} (omega (arith, length-places columns)) in
-    let x : doubts + 0 ≡ doubtsIn (placesOf columns) 32 (drop at l) = rw e at s in
-    all-right columns 32 (drop at l) (rw (length-drop at l) (omega arith)) (omega (arith, eqb-true doubts 0 z))
+none-of-all ks l at i doubts h s z =
+    let e : drop i ks ≡ [] = drop-of-length-le ks {i = i} h in
+    let x : doubts + 0 ≡ doubtsIn (77 ∷ ks) 32 (drop at l) = rw e at s in
+    omega (arith, eqb-true doubts 0 z)
+
+one-at-most-more : (k p b x i doubts : ℕ) → x ≡ doubt k p b → doubts ≤ i + 1 → doubts + x ≤ i + 1 + 1
+one-at-most-more k p b x i doubts e h = omega (arith, at-most-one k p b x e)
+
+-- what holds after i bytes: the doubts so far and those still to come are all doubts; and no more than one a byte, so that the sum stays a byte
+pub record Counting (ks l : List ℕ) (at doubts i : ℕ) : Type 0 where
+  pub small : doubts ≤ i + 1
+  pub sums : doubts + doubtsFrom ks l at i ≡ allDoubts ks l at
+
+-- ---- `ends_sure`
+
+unfoldable pub behindFirst : List ℕ
+behindFirst = drop 1 (placesOf 7)
+
+module _ (l : List ℕ) (at : ℕ) (room : at + 49 ≤ length l) where
+  pub first-doubt : (x : ℕ) → x ≡ doubt 77 32 (getD l at 0) → Counting behindFirst l at x 0
+  first-doubt x e = record { small = at-most-one 77 32 (getD l at 0) x e; sums = first-of-all behindFirst l at x e (omega arith) }
+
+  pub next-doubt : (x i doubts : ℕ) → x ≡ doubt (getD behindFirst i 0) (getD l (at + i) 0) (getD l (at + i + 1) 0) → i < 48 → Counting behindFirst l at doubts i → Counting behindFirst l at (doubts + x) (i + 1)
+  unfolding behindFirst placesOf placesIn behind
+  next-doubt x i doubts e k s =
+      record { small = one-at-most-more (getD behindFirst i 0) (getD l (at + i) 0) (getD l (at + i + 1) 0) x i doubts e (s .small); sums = next-of-all behindFirst l at x i doubts e k (omega arith) (s .sums) }
+
+  pub no-doubt : (i doubts : ℕ) → 48 ≤ i → Counting behindFirst l at doubts i → eqb doubts 0 ≡ true → eachFormed 7 (drop at l) ≡ true
+  unfolding behindFirst placesOf placesIn behind
+  no-doubt i doubts k s z = all-right 7 32 (drop at l) (rw (length-drop at l) (omega arith)) (none-of-all behindFirst l at i doubts k (s .sums) z)
+
+-- ---- `few_sure`
+
+-- the places of which the doubts count: those of columns before `end`
+unfoldable pub used : ℕ → List ℕ → List ℕ → List ℕ
+used end [] ks = []
+used end (c ∷ cs) [] = []
+used end (c ∷ cs) (k ∷ ks) = cond (ltb c end) k 46 ∷ used end cs ks
+
+-- the columns of seven, from '0' (48) to '6', of the bytes behind the first
+unfoldable pub columnsOf : List ℕ
+columnsOf =
+    replicate 6 48 ++ (replicate 7 49 ++ (replicate 7 50 ++ (replicate 7 51 ++ (replicate 7 52 ++ (replicate 7 53 ++ replicate 7 54)))))
+
+used-at : (end i : ℕ) (cs ks : List ℕ) → i < length cs → length cs ≡ length ks → getD (used end cs ks) i 0 ≡ cond (ltb (getD cs i 0) end) (getD ks i 0) 46
+unfolding used
+used-at end i [] ks h e = absurd (omega arith)
+used-at end i (c ∷ cs) [] h e = absurd (omega arith)
+used-at end zero (c ∷ cs) (k ∷ ks) h e = refl
+used-at end (suc i) (c ∷ cs) (k ∷ ks) h e = used-at end i cs ks (omega arith) (omega arith)
+
+length-used : (end : ℕ) (cs ks : List ℕ) → length cs ≡ length ks → length (used end cs ks) ≡ length cs
+unfolding used
+length-used end [] ks e = refl
+length-used end (c ∷ cs) [] e = absurd (omega arith)
+length-used end (c ∷ cs) (k ∷ ks) e = ap suc (length-used end cs ks (omega arith))
+
+-- the places behind the first of `count` columns
+unfoldable pub behindFirstOf : ℕ → List ℕ
+behindFirstOf count = used (48 + count) columnsOf behindFirst
+
+48-places : (count : ℕ) → length (behindFirstOf count) ≡ 48
+unfolding behindFirstOf columnsOf behindFirst placesOf placesIn behind
+48-places count = length-used (48 + count) columnsOf behindFirst refl
+
+places-at : (count i : ℕ) → i < 48 → getD (behindFirstOf count) i 0 ≡ cond (ltb (getD columnsOf i 0) (48 + count)) (getD behindFirst i 0) 46
+unfolding behindFirstOf columnsOf behindFirst placesOf placesIn behind
+places-at count i h = used-at (48 + count) i columnsOf behindFirst h refl
+
+counted-is : (t : Bool) (x d k p b : ℕ) → x ≡ countedIf t d → d ≡ doubt k p b → x ≡ doubt (cond t k 46) p b
+unfolding countedIf
+counted-is true x d k p b e f = e ∙ f
+counted-is false x d k p b e f = e ∙ sym (anything p b)
+
+pub counted-small : (t : Bool) (k p b x d : ℕ) → x ≡ countedIf t d → d ≡ doubt k p b → x ≤ 1
+counted-small t k p b x d e f = at-most-one (cond t k 46) p b x (counted-is t x d k p b e f)
+
+module _ (l : List ℕ) (at count : ℕ) (room : at + 49 ≤ length l) where
+  pub few-first-doubt : (x : ℕ) → x ≡ doubt 77 32 (getD l at 0) → Counting (behindFirstOf count) l at x 0
+  few-first-doubt x e =
+      record { small = at-most-one 77 32 (getD l at 0) x e; sums = first-of-all (behindFirstOf count) l at x e (omega arith) }
+
+  pub few-next-doubt : (x d i doubts : ℕ) → x ≡ countedIf (ltb (getD columnsOf i 0) (48 + count)) d → d ≡ doubt (getD behindFirst i 0) (getD l (at + i) 0) (getD l (at + i + 1) 0) → i < 48 → Counting (behindFirstOf count) l at doubts i → Counting (behindFirstOf count) l at (doubts + x) (i + 1)
+  few-next-doubt x d i doubts e f k s =
+      record { small = one-at-most-more (getD (behindFirstOf count) i 0) (getD l (at + i) 0) (getD l (at + i + 1) 0) x i doubts here (s .small); sums = next-of-all (behindFirstOf count) l at x i doubts here (omega (arith, 48-places count)) (omega arith) (s .sums) }
+    where
+      here : x ≡ doubt (getD (behindFirstOf count) i 0) (getD l (at + i) 0) (getD l (at + i + 1) 0)
+      here =
+          counted-is (ltb (getD columnsOf i 0) (48 + count)) x d (getD behindFirst i 0) (getD l (at + i) 0) (getD l (at + i + 1) 0) e f ∙ sym (ap (λ (n : ℕ). doubt n (getD l (at + i) 0) (getD l (at + i + 1) 0)) (places-at count i k))
+
+-- their places are those of `count` columns, and then anything may stand
+few-places : (count : ℕ) → 1 ≤ count → count ≤ 7 → 77 ∷ behindFirstOf count ≡ placesOf count ++ replicate (49 - count * 7) 46
+unfolding behindFirstOf used columnsOf behindFirst placesOf placesIn behind
+few-places zero h k = absurd (omega arith)
+few-places (suc zero) h k = refl
+few-places (suc (suc zero)) h k = refl
+few-places (suc (suc (suc zero))) h k = refl
+few-places (suc (suc (suc (suc zero)))) h k = refl
+few-places (suc (suc (suc (suc (suc zero))))) h k = refl
+few-places (suc (suc (suc (suc (suc (suc zero)))))) h k = refl
+few-places (suc (suc (suc (suc (suc (suc (suc zero))))))) h k = refl
+few-places (suc (suc (suc (suc (suc (suc (suc (suc n)))))))) h k = absurd (omega arith)
+
+pub few-no-doubt : (l : List ℕ) (at count i doubts : ℕ) → 1 ≤ count → count ≤ 7 → at + 49 ≤ length l → 48 ≤ i → Counting (behindFirstOf count) l at doubts i → eqb doubts 0 ≡ true → eachFormed count (drop at l) ≡ true
+few-no-doubt l at count i doubts a b h k s z =
+    let e = none-of-all (behindFirstOf count) l at i doubts (omega (arith, 48-places count)) (s .sums) z in
+    let f : count * 7 ≤ length (drop at l) = rw (length-drop at l) (omega arith) in
+    let g = doubts-append (placesOf count) (replicate (49 - count * 7) 46) 32 (drop at l) (rw (length-columns count) f) in
+    all-right count 32 (drop at l) f (omega (arith, ap (λ (ks : List ℕ). doubtsIn ks 32 (drop at l)) (few-places count a b)))

@@ -1,4 +1,3 @@
-pub mod Neighbours
 pub mod Doubts
 pub mod Columns
 pub mod Reader

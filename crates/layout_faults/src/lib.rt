@@ -1,9 +1,15 @@
 // The fault of one record's own columns, layout by layout: 5 for a malformed integer column, else 6 for a number outside its range or list,
-// else 0. Bytes that are no record of 84 answer 5.
+// else 0. Bytes that are no record of 84 answer 5. In a sheet's body most records are told at once to be without fault; the others are read column
+// by column.
 ghost use mathlib.Core.Path.{_≡_};
+ghost use mathlib.Core.Bool.{true};
+ghost use lib.IntN.{pos};
+ghost use lib.Signed.{leZ};
 ghost use lib.ListN.{length};
 ghost use Rattle.format.specs.Basics.{member};
+ghost use Rattle.format.specs.Column.{integer};
 ghost use Rattle.format.specs.Layout.{spaces, indexA, indexC, sheetA, sheetB, sheetD, sheetE, sheetF, header, element, gridHeader, netHeader, dataNote};
+ghost use Rattle.columns.specs.InRecord.{columnAt};
 ghost use Rattle.layout_faults.specs.Faults.{faultIn};
 ghost use Rattle.layout_faults.specs.Tables.{tableFault, listedAt};
 use format::Column;
@@ -68,6 +74,16 @@ fn listed(record: &[u8], start: usize, width: usize, numbers: &[u64]) -> bool
         return false;
     }
     is_one(z as u64, numbers)
+}
+
+// The column's number is above 0; one that has none counts as 0.
+fn above_zero(record: &[u8], start: usize, width: usize) -> bool
+    ensures { λ r. ⌜ r ≡ leZ (pos 1) (integer (columnAt (now («record» .entry)) start width)) ⌝ }
+{
+    let Column::Value(z) = columns::column_at(record, start, width) else {
+        return false;
+    };
+    1 <= z
 }
 
 // Spaces alone.
@@ -200,6 +216,9 @@ pub fn sheet_f_fault(record: &[u8]) -> u8
 pub fn header_fault(record: &[u8]) -> u8
     ensures { λ r. ⌜ r ≡ faultIn header (now («record» .entry)) ⌝ }
 {
+    if record_forms::header_sure(record) {
+        return 0;
+    }
     let starts = Header::integer_starts();
     let widths = Header::integer_widths();
     let lows = Header::integer_lows();
@@ -211,6 +230,9 @@ pub fn header_fault(record: &[u8]) -> u8
 pub fn element_fault(record: &[u8]) -> u8
     ensures { λ r. ⌜ r ≡ faultIn element (now («record» .entry)) ⌝ }
 {
+    if record_forms::element_sure(record) {
+        return 0;
+    }
     let starts = Element::integer_starts();
     let widths = Element::integer_widths();
     let lows = Element::integer_lows();
@@ -229,9 +251,34 @@ pub fn element_fault(record: &[u8]) -> u8
     }
 }
 
+// Told at once to be without fault: beside its form, rows, columns and cell sizes are at least 1.
+fn grid_header_sure(record: &[u8]) -> bool
+    ensures { λ r. ⌜ (r ≡ true → faultIn gridHeader (now («record» .entry)) ≡ 0) ⌝ }
+{
+    if !record_forms::grid_header_sure(record) {
+        return false;
+    }
+    let rows = above_zero(record, GridHeader::ROWS_START, GridHeader::ROWS_WIDTH);
+    let columns = above_zero(record, GridHeader::COLUMNS_START, GridHeader::COLUMNS_WIDTH);
+    let cell_rows = above_zero(
+        record,
+        GridHeader::CELL_ROWS_START,
+        GridHeader::CELL_ROWS_WIDTH,
+    );
+    let cell_columns = above_zero(
+        record,
+        GridHeader::CELL_COLUMNS_START,
+        GridHeader::CELL_COLUMNS_WIDTH,
+    );
+    rows & columns & cell_rows & cell_columns
+}
+
 pub fn grid_header_fault(record: &[u8]) -> u8
     ensures { λ r. ⌜ r ≡ faultIn gridHeader (now («record» .entry)) ⌝ }
 {
+    if grid_header_sure(record) {
+        return 0;
+    }
     let starts = GridHeader::integer_starts();
     let widths = GridHeader::integer_widths();
     let lows = GridHeader::integer_lows();
@@ -239,9 +286,26 @@ pub fn grid_header_fault(record: &[u8]) -> u8
     table_fault(record, &starts, &widths, &lows, &highs)
 }
 
+// Told at once to be without fault: beside its form, it has at least one triangle.
+fn net_header_sure(record: &[u8]) -> bool
+    ensures { λ r. ⌜ (r ≡ true → faultIn netHeader (now («record» .entry)) ≡ 0) ⌝ }
+{
+    if !record_forms::net_header_sure(record) {
+        return false;
+    }
+    above_zero(
+        record,
+        NetHeader::TRIANGLES_START,
+        NetHeader::TRIANGLES_WIDTH,
+    )
+}
+
 pub fn net_header_fault(record: &[u8]) -> u8
     ensures { λ r. ⌜ r ≡ faultIn netHeader (now («record» .entry)) ⌝ }
 {
+    if net_header_sure(record) {
+        return 0;
+    }
     let starts = NetHeader::integer_starts();
     let widths = NetHeader::integer_widths();
     let lows = NetHeader::integer_lows();
@@ -252,6 +316,9 @@ pub fn net_header_fault(record: &[u8]) -> u8
 pub fn data_note_fault(record: &[u8]) -> u8
     ensures { λ r. ⌜ r ≡ faultIn dataNote (now («record» .entry)) ⌝ }
 {
+    if record_forms::data_note_sure(record) {
+        return 0;
+    }
     let starts = DataNote::integer_starts();
     let widths = DataNote::integer_widths();
     let lows = DataNote::integer_lows();

@@ -1,4 +1,5 @@
 pub mod Numbers
+pub mod Naturals
 pub mod Types
 pub mod DataRules
 pub mod Used

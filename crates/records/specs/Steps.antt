@@ -1,5 +1,6 @@
 -- Steps of the code: the type of a record and of an element by a number, the columns of a data record that are judged. Private functions alone
 -- cite these. Assumes nothing.
+use mathlib.Core.Path.{_≡_}
 use mathlib.Core.Bool.{Bool, cond, _&&_}
 use mathlib.Core.List.{List, [], _∷_}
 use Prim.Native.Nat.{ℕ, _*_}
@@ -7,6 +8,7 @@ use lib.Dec.{eqb}
 use lib.IntN.{ℤ, pos}
 use lib.Signed.{leZ}
 use lib.ListN.{getD}
+use Rattle.format.specs.declared.Column.the-variants.{Value}
 use Rattle.format.specs.Basics.{minus}
 use Rattle.format.specs.Column.{numberOf}
 use Rattle.format.specs.Record.{RecordType, H, E1, E2, E3, E4, E5, E6, E7, E8, G, T, other, usedIn}
@@ -19,6 +21,10 @@ use Rattle.records.specs.declared.TypeCode.the-variants.{Header, Element
 -- the number of a column of a record, 0 where it has none of at least 0
 unfoldable pub numberIn : List ℕ → (start width : ℕ) → ℕ
 numberIn l start width = numberOf (columnAt l start width)
+
+-- a column that has a number of at least 0
+abbrev pub Natural : List ℕ → (start width : ℕ) → Type 0
+Natural l start width = columnAt l start width ≡ Value (pos (numberIn l start width))
 
 abbrev pub codeOf : RecordType → TypeCode
 codeOf H = Header

@@ -55,7 +55,7 @@ pub(crate) fn header_entry(record: &[u8]) -> Entry
     if fault != 0 {
         return refused(fault);
     }
-    let level = reading::number(record, Header::LEVEL_START, Header::LEVEL_WIDTH);
+    let level = reading::natural(record, Header::LEVEL_START, Header::LEVEL_WIDTH);
     Entry {
         fault: 0,
         kind: 0,
@@ -75,10 +75,10 @@ pub(crate) fn element_entry(record: &[u8], number: usize) -> Entry
     if fault != 0 {
         return refused(fault);
     }
-    let level = reading::number(record, Element::LEVEL_START, Element::LEVEL_WIDTH);
-    let kind = reading::number(record, Element::DATA_KIND_START, Element::DATA_KIND_WIDTH);
-    let count = reading::number(record, Element::DATA_COUNT_START, Element::DATA_COUNT_WIDTH);
-    let records = reading::number(record, Element::RECORDS_START, Element::RECORDS_WIDTH);
+    let level = reading::natural(record, Element::LEVEL_START, Element::LEVEL_WIDTH);
+    let kind = reading::natural(record, Element::DATA_KIND_START, Element::DATA_KIND_WIDTH);
+    let count = reading::natural(record, Element::DATA_COUNT_START, Element::DATA_COUNT_WIDTH);
+    let records = reading::natural(record, Element::RECORDS_START, Element::RECORDS_WIDTH);
     let allowed = rules::kind_and_count(number, kind, count);
     let needs = rules::element_records(kind, count);
     let held = rules::element_holds(kind, count);
@@ -101,11 +101,11 @@ pub(crate) fn grid_entry(record: &[u8]) -> Entry
     if fault != 0 {
         return refused(fault);
     }
-    let level = reading::number(record, GridHeader::LEVEL_START, GridHeader::LEVEL_WIDTH);
-    let rows = reading::number(record, GridHeader::ROWS_START, GridHeader::ROWS_WIDTH);
-    let columns = reading::number(record, GridHeader::COLUMNS_START, GridHeader::COLUMNS_WIDTH);
-    let records = reading::number(record, GridHeader::RECORDS_START, GridHeader::RECORDS_WIDTH);
-    let repeat = reading::number(record, GridHeader::REPEAT_START, GridHeader::REPEAT_WIDTH);
+    let level = reading::natural(record, GridHeader::LEVEL_START, GridHeader::LEVEL_WIDTH);
+    let rows = reading::natural(record, GridHeader::ROWS_START, GridHeader::ROWS_WIDTH);
+    let columns = reading::natural(record, GridHeader::COLUMNS_START, GridHeader::COLUMNS_WIDTH);
+    let records = reading::natural(record, GridHeader::RECORDS_START, GridHeader::RECORDS_WIDTH);
+    let repeat = reading::natural(record, GridHeader::REPEAT_START, GridHeader::REPEAT_WIDTH);
     let states = rules::grid_states(repeat, records);
     let heights = rows * columns;
     let needs = rules::grid_needs(heights);
@@ -128,13 +128,13 @@ pub(crate) fn net_entry(record: &[u8]) -> Entry
     if fault != 0 {
         return refused(fault);
     }
-    let level = reading::number(record, NetHeader::LEVEL_START, NetHeader::LEVEL_WIDTH);
-    let triangles = reading::number(
+    let level = reading::natural(record, NetHeader::LEVEL_START, NetHeader::LEVEL_WIDTH);
+    let triangles = reading::natural(
         record,
         NetHeader::TRIANGLES_START,
         NetHeader::TRIANGLES_WIDTH,
     );
-    let records = reading::number(record, NetHeader::RECORDS_START, NetHeader::RECORDS_WIDTH);
+    let records = reading::natural(record, NetHeader::RECORDS_START, NetHeader::RECORDS_WIDTH);
     let needs = rules::net_needs(triangles);
     let broken = rule_fault(records == needs);
     Entry {

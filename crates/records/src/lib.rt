@@ -148,7 +148,7 @@ fn note_fault(record: &[u8]) -> u8
     if fault != 0 {
         return fault;
     }
-    let upright = reading::number(record, DataNote::UPRIGHT_START, DataNote::UPRIGHT_WIDTH);
+    let upright = reading::natural(record, DataNote::UPRIGHT_START, DataNote::UPRIGHT_WIDTH);
     let direction = reading::integer(record, DataNote::DIRECTION_START, DataNote::DIRECTION_WIDTH);
     if data::is_direction(upright, direction) {
         0

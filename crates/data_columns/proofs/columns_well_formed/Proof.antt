@@ -1,5 +1,5 @@
--- `data_columns::columns_well_formed` meets its contract: false where the columns do not lie in the bytes, else by its two ways. Assumes nothing.
-use Rattle.data_columns.proofs.Columns.{starts-outside, ends-outside, inside, sure-inside}
+-- `data_columns::columns_well_formed` meets its contract: false where the columns do not lie in the bytes, else by its three ways. Assumes nothing.
+use Rattle.data_columns.proofs.Columns.{starts-outside, ends-outside, inside}
 use borrow.Author.Needs.{needs}
 use Rattle.data_columns.proofs.columns_well_formed.Statement.{statement}
 use Rattle.data_columns.proofs.columns_well_formed.Tie as tie
@@ -13,17 +13,23 @@ sub-if2 c = search needs
 returns-2 : tie.Need-returns-2
 returns-2 c = search ends-outside
 
-all-surely-formed-requires : tie.Need-all-surely-formed-requires
-all-surely-formed-requires c κs = search needs
+few-formed-requires : tie.Need-few-formed-requires
+few-formed-requires c κs = search needs
 
 returns-3 : tie.Need-returns-3
-returns-3 c = search sure-inside
+returns-3 c = search inside
+
+many-formed-requires : tie.Need-many-formed-requires
+many-formed-requires c κs = search needs
+
+returns-4 : tie.Need-returns-4
+returns-4 c = search inside
 
 each-formed-requires : tie.Need-each-formed-requires
 each-formed-requires c κs = search needs
 
-returns-4 : tie.Need-returns-4
-returns-4 c = search inside
+returns-5 : tie.Need-returns-5
+returns-5 c = search inside
 
 pub columns-well-formed-spec : {M : Type 1} → statement M
 columns-well-formed-spec =
@@ -32,7 +38,9 @@ columns-well-formed-spec =
     returns
     sub-if2
     returns-2
-    all-surely-formed-requires
+    few-formed-requires
     returns-3
+    many-formed-requires
+    returns-4
     each-formed-requires
-    returns-4)
+    returns-5)

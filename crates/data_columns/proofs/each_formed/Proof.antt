@@ -20,8 +20,8 @@ abbrev μ-loop : tie.MeasureT-loop
 loop-holds : tie.Need-loop-holds Inv-loop μ-loop
 loop-holds c = (search needs, refl)
 
-column-formed-requires : tie.Need-column-formed-requires Inv-loop μ-loop
-column-formed-requires c κs = search needs
+has-value-requires : tie.Need-has-value-requires Inv-loop μ-loop
+has-value-requires c κs = search needs
 
 add-at : tie.Need-add-at Inv-loop μ-loop
 add-at c = search needs
@@ -45,7 +45,7 @@ each-formed-spec =
     Inv-loop
     μ-loop
     loop-holds
-    column-formed-requires
+    has-value-requires
     add-at
     sub-left
     loop-less

@@ -1,9 +1,16 @@
--- `layout_faults::data_note_fault` meets its contract: the tables ask all of it. Assumes nothing.
-use borrow.Author.Needs.{needs}
+-- `layout_faults::data_note_fault` meets its contract: told at once, or the tables ask all of it. Assumes nothing.
 use Rattle.layout_faults.proofs.Layouts.{dataNote-judged}
+use Rattle.layout_faults.proofs.Sure.{data-note-faultless}
 use Rattle.layout_faults.proofs.Tables.{all-asked}
+use borrow.Author.Needs.{needs}
 use Rattle.layout_faults.proofs.data_note_fault.Statement.{statement}
 use Rattle.layout_faults.proofs.data_note_fault.Tie as tie
+
+data-note-sure-requires : tie.Need-data-note-sure-requires
+data-note-sure-requires c κs = search needs
+
+returns : tie.Need-returns
+returns c = search data-note-faultless
 
 integer-starts-requires : tie.Need-integer-starts-requires
 integer-starts-requires c κs = search needs
@@ -32,13 +39,15 @@ slice-aggregate-table-fault-4 c = search needs
 table-fault-requires : tie.Need-table-fault-requires
 table-fault-requires c κs = search needs
 
-returns : tie.Need-returns
-returns c = search (all-asked, dataNote-judged)
+returns-2 : tie.Need-returns-2
+returns-2 c = search (all-asked, dataNote-judged)
 
 pub data-note-fault-spec : {M : Type 1} → statement M
 data-note-fault-spec =
     tie.close
     (tie.spec
+    data-note-sure-requires
+    returns
     integer-starts-requires
     integer-widths-requires
     integer-lows-requires
@@ -48,4 +57,4 @@ data-note-fault-spec =
     slice-aggregate-table-fault-3
     slice-aggregate-table-fault-4
     table-fault-requires
-    returns)
+    returns-2)

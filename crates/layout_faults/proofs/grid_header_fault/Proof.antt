@@ -1,9 +1,16 @@
--- `layout_faults::grid_header_fault` meets its contract: the tables ask all of it. Assumes nothing.
-use borrow.Author.Needs.{needs}
+-- `layout_faults::grid_header_fault` meets its contract: told at once, or the tables ask all of it. Assumes nothing.
+use mathlib.Core.Path.{sym}
 use Rattle.layout_faults.proofs.Layouts.{gridHeader-judged}
 use Rattle.layout_faults.proofs.Tables.{all-asked}
+use borrow.Author.Needs.{needs}
 use Rattle.layout_faults.proofs.grid_header_fault.Statement.{statement}
 use Rattle.layout_faults.proofs.grid_header_fault.Tie as tie
+
+grid-header-sure-requires : tie.Need-grid-header-sure-requires
+grid-header-sure-requires c κs = search needs
+
+returns : tie.Need-returns
+returns c = sym (c .before .grid-header-sure .ensures (c .if1 .taken))
 
 integer-starts-requires : tie.Need-integer-starts-requires
 integer-starts-requires c κs = search needs
@@ -32,13 +39,15 @@ slice-aggregate-table-fault-4 c = search needs
 table-fault-requires : tie.Need-table-fault-requires
 table-fault-requires c κs = search needs
 
-returns : tie.Need-returns
-returns c = search (all-asked, gridHeader-judged)
+returns-2 : tie.Need-returns-2
+returns-2 c = search (all-asked, gridHeader-judged)
 
 pub grid-header-fault-spec : {M : Type 1} → statement M
 grid-header-fault-spec =
     tie.close
     (tie.spec
+    grid-header-sure-requires
+    returns
     integer-starts-requires
     integer-widths-requires
     integer-lows-requires
@@ -48,4 +57,4 @@ grid-header-fault-spec =
     slice-aggregate-table-fault-3
     slice-aggregate-table-fault-4
     table-fault-requires
-    returns)
+    returns-2)

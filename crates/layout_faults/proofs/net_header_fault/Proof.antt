@@ -1,9 +1,16 @@
--- `layout_faults::net_header_fault` meets its contract: the tables ask all of it. Assumes nothing.
-use borrow.Author.Needs.{needs}
+-- `layout_faults::net_header_fault` meets its contract: told at once, or the tables ask all of it. Assumes nothing.
+use mathlib.Core.Path.{sym}
 use Rattle.layout_faults.proofs.Layouts.{netHeader-judged}
 use Rattle.layout_faults.proofs.Tables.{all-asked}
+use borrow.Author.Needs.{needs}
 use Rattle.layout_faults.proofs.net_header_fault.Statement.{statement}
 use Rattle.layout_faults.proofs.net_header_fault.Tie as tie
+
+net-header-sure-requires : tie.Need-net-header-sure-requires
+net-header-sure-requires c κs = search needs
+
+returns : tie.Need-returns
+returns c = sym (c .before .net-header-sure .ensures (c .if1 .taken))
 
 integer-starts-requires : tie.Need-integer-starts-requires
 integer-starts-requires c κs = search needs
@@ -32,13 +39,15 @@ slice-aggregate-table-fault-4 c = search needs
 table-fault-requires : tie.Need-table-fault-requires
 table-fault-requires c κs = search needs
 
-returns : tie.Need-returns
-returns c = search (all-asked, netHeader-judged)
+returns-2 : tie.Need-returns-2
+returns-2 c = search (all-asked, netHeader-judged)
 
 pub net-header-fault-spec : {M : Type 1} → statement M
 net-header-fault-spec =
     tie.close
     (tie.spec
+    net-header-sure-requires
+    returns
     integer-starts-requires
     integer-widths-requires
     integer-lows-requires
@@ -48,4 +57,4 @@ net-header-fault-spec =
     slice-aggregate-table-fault-3
     slice-aggregate-table-fault-4
     table-fault-requires
-    returns)
+    returns-2)

@@ -1,5 +1,6 @@
 -- `records::note_fault` meets its contract: its columns, then its direction. Assumes nothing.
 use Rattle.records.proofs.DataFaults.{note-refused, note-passed, note-fails}
+use Rattle.records.proofs.Naturals.{note-upright}
 use borrow.Author.Needs.{needs}
 use Rattle.records.proofs.note_fault.Statement.{statement}
 use Rattle.records.proofs.note_fault.Tie as tie
@@ -10,8 +11,8 @@ data-note-fault-requires c κs = search needs
 returns : tie.Need-returns
 returns c = search note-refused
 
-number-requires : tie.Need-number-requires
-number-requires c κs = search needs
+natural-requires : tie.Need-natural-requires
+natural-requires c κs = search (needs, note-upright)
 
 integer-requires : tie.Need-integer-requires
 integer-requires c κs = search needs
@@ -31,7 +32,7 @@ note-fault-spec =
     (tie.spec
     data-note-fault-requires
     returns
-    number-requires
+    natural-requires
     integer-requires
     is-direction-requires
     returns-2

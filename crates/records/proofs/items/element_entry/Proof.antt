@@ -1,6 +1,7 @@
 -- `records::items::element_entry` meets its contract: refused by its layout's fault, or what it states. Assumes nothing.
 use Rattle.records.proofs.Numbers.{four-digits}
 use Rattle.records.proofs.Entries.{element-refused, element-passed}
+use Rattle.records.proofs.Naturals.{element-level, element-kind, element-count, element-records}
 use borrow.Author.Needs.{needs}
 use Rattle.records.proofs.items.element_entry.Statement.{statement}
 use Rattle.records.proofs.items.element_entry.Tie as tie
@@ -14,17 +15,17 @@ refused-requires c κs = search needs
 returns : tie.Need-returns
 returns c = search element-refused
 
-number-requires : tie.Need-number-requires
-number-requires c κs = search needs
+natural-requires : tie.Need-natural-requires
+natural-requires c κs = search (needs, element-level, element-kind, element-count, element-records)
 
-number-requires-2 : tie.Need-number-requires-2
-number-requires-2 c κs = search needs
+natural-requires-2 : tie.Need-natural-requires-2
+natural-requires-2 c κs = search (needs, element-level, element-kind, element-count, element-records)
 
-number-requires-3 : tie.Need-number-requires-3
-number-requires-3 c κs = search needs
+natural-requires-3 : tie.Need-natural-requires-3
+natural-requires-3 c κs = search (needs, element-level, element-kind, element-count, element-records)
 
-number-requires-4 : tie.Need-number-requires-4
-number-requires-4 c κs = search needs
+natural-requires-4 : tie.Need-natural-requires-4
+natural-requires-4 c κs = search (needs, element-level, element-kind, element-count, element-records)
 
 kind-and-count-requires : tie.Need-kind-and-count-requires
 kind-and-count-requires c κs = search needs
@@ -48,10 +49,10 @@ element-entry-spec =
     element-fault-requires
     refused-requires
     returns
-    number-requires
-    number-requires-2
-    number-requires-3
-    number-requires-4
+    natural-requires
+    natural-requires-2
+    natural-requires-3
+    natural-requires-4
     kind-and-count-requires
     element-records-requires
     element-holds-requires

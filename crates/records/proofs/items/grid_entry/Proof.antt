@@ -1,6 +1,7 @@
 -- `records::items::grid_entry` meets its contract: refused by its layout's fault, or what it states. Assumes nothing.
 use Rattle.records.proofs.Numbers.{one-digit, four-digits}
 use Rattle.records.proofs.Entries.{grid-refused, repeats, heights-below, heights-fit, grid-passed}
+use Rattle.records.proofs.Naturals.{grid-level, grid-rows, grid-columns, grid-records, grid-repeat}
 use borrow.Author.Needs.{needs}
 use Rattle.records.proofs.items.grid_entry.Statement.{statement}
 use Rattle.records.proofs.items.grid_entry.Tie as tie
@@ -14,20 +15,20 @@ refused-requires c κs = search needs
 returns : tie.Need-returns
 returns c = search grid-refused
 
-number-requires : tie.Need-number-requires
-number-requires c κs = search needs
+natural-requires : tie.Need-natural-requires
+natural-requires c κs = search (needs, grid-level, grid-rows, grid-columns, grid-records, grid-repeat)
 
-number-requires-2 : tie.Need-number-requires-2
-number-requires-2 c κs = search needs
+natural-requires-2 : tie.Need-natural-requires-2
+natural-requires-2 c κs = search (needs, grid-level, grid-rows, grid-columns, grid-records, grid-repeat)
 
-number-requires-3 : tie.Need-number-requires-3
-number-requires-3 c κs = search needs
+natural-requires-3 : tie.Need-natural-requires-3
+natural-requires-3 c κs = search (needs, grid-level, grid-rows, grid-columns, grid-records, grid-repeat)
 
-number-requires-4 : tie.Need-number-requires-4
-number-requires-4 c κs = search needs
+natural-requires-4 : tie.Need-natural-requires-4
+natural-requires-4 c κs = search (needs, grid-level, grid-rows, grid-columns, grid-records, grid-repeat)
 
-number-requires-5 : tie.Need-number-requires-5
-number-requires-5 c κs = search needs
+natural-requires-5 : tie.Need-natural-requires-5
+natural-requires-5 c κs = search (needs, grid-level, grid-rows, grid-columns, grid-records, grid-repeat)
 
 grid-states-requires : tie.Need-grid-states-requires
 grid-states-requires c κs = search (repeats, one-digit, four-digits)
@@ -51,11 +52,11 @@ grid-entry-spec =
     grid-header-fault-requires
     refused-requires
     returns
-    number-requires
-    number-requires-2
-    number-requires-3
-    number-requires-4
-    number-requires-5
+    natural-requires
+    natural-requires-2
+    natural-requires-3
+    natural-requires-4
+    natural-requires-5
     grid-states-requires
     mul-heights
     grid-needs-requires

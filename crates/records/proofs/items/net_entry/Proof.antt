@@ -1,6 +1,7 @@
 -- `records::items::net_entry` meets its contract: refused by its layout's fault, or what it states. Assumes nothing.
 use Rattle.records.proofs.Numbers.{six-digits}
 use Rattle.records.proofs.Entries.{net-refused, net-passed}
+use Rattle.records.proofs.Naturals.{net-level, net-triangles, net-records}
 use borrow.Author.Needs.{needs}
 use Rattle.records.proofs.items.net_entry.Statement.{statement}
 use Rattle.records.proofs.items.net_entry.Tie as tie
@@ -14,14 +15,14 @@ refused-requires c κs = search needs
 returns : tie.Need-returns
 returns c = search net-refused
 
-number-requires : tie.Need-number-requires
-number-requires c κs = search needs
+natural-requires : tie.Need-natural-requires
+natural-requires c κs = search (needs, net-level, net-triangles, net-records)
 
-number-requires-2 : tie.Need-number-requires-2
-number-requires-2 c κs = search needs
+natural-requires-2 : tie.Need-natural-requires-2
+natural-requires-2 c κs = search (needs, net-level, net-triangles, net-records)
 
-number-requires-3 : tie.Need-number-requires-3
-number-requires-3 c κs = search needs
+natural-requires-3 : tie.Need-natural-requires-3
+natural-requires-3 c κs = search (needs, net-level, net-triangles, net-records)
 
 net-needs-requires : tie.Need-net-needs-requires
 net-needs-requires c κs = search six-digits
@@ -39,9 +40,9 @@ net-entry-spec =
     net-header-fault-requires
     refused-requires
     returns
-    number-requires
-    number-requires-2
-    number-requires-3
+    natural-requires
+    natural-requires-2
+    natural-requires-3
     net-needs-requires
     rule-fault-requires
     returns-2)

@@ -1,0 +1,2 @@
+pub mod Doubt
+pub mod Places
