@@ -51,7 +51,10 @@ or-none : (low : ℕ) → orElse (wrongAt low) none ≡ wrongAt low
 or-none zero = refl
 or-none (suc low) = refl
 
-module _ (file : List ℕ) (n : ℕ) (part : SheetPart) (w : WalkedBody) (b : Body file n (part .length) 0 w) where
+module _ (file : List ℕ) (n : ℕ) (part : SheetPart) (w : WalkedBody) (begun : ℕ) (begins : begun ≡ part .length) (walked : Body file n begun 0 w) where
+  b : Body file n (part .length) 0 w
+  b = rw begins at walked
+
   abbrev body : List View
   body = viewsFrom file n (part .length)
 

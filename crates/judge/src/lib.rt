@@ -206,6 +206,15 @@ fn next(file: &[u8], k: usize) -> usize
     if sum < 65536 { k + 1 } else { k }
 }
 
+// Record k, with the first two blocks of the file read ahead; `next` reads the others.
+fn begin(file: &[u8], k: usize) -> usize
+    ensures { λ r. ⌜ r ≡ k ⌝ }
+{
+    let first = read_block(file, 0);
+    let second = read_block(file, BLOCK);
+    if first + second < 131072 { k } else { 0 }
+}
+
 // The data records of the item at record k, whose entry this is.
 fn walk_item(file: &[u8], n: usize, k: usize, entry: Entry) -> Walked
     requires { ⌜ (Room (now file) n) × (k < n) ⌝ }
@@ -298,7 +307,8 @@ fn judge_body(file: &[u8], n: usize, part: SheetPart) -> Judged
     requires { ⌜ (Room (now file) n) × (part .length ≤ n) ⌝ }
     ensures { λ r. ⌜ judgedAnswer r ≡ judge (bodyOf (now (file .entry)) n part) ⌝ }
 {
-    let body = walk_body(file, n, part.length, 0);
+    let first = begin(file, part.length);
+    let body = walk_body(file, n, first, 0);
     if body.number != 0 {
         return Judged::Refused(body.number, body.at);
     }

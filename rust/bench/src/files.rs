@@ -11,7 +11,7 @@ pub fn technicians_grid() -> Vec<u8> {
 }
 
 /// One layer with grids of 1,000 columns, of at most 66,000 data records each.
-pub fn grids(records: usize) -> Vec<u8> {
+pub fn grids(records: usize, _seed: u64) -> Vec<u8> {
     let count = records.div_ceil(66_000);
     let mut body = vec![sheets::layer(&[(9, count)])];
     for _ in 0..count {
@@ -21,8 +21,8 @@ pub fn grids(records: usize) -> Vec<u8> {
 }
 
 /// Layers of at most 20,000 items each, drawn until there are so many records.
-fn layers(records: usize, mut draw: impl FnMut(&mut Random) -> (usize, Vec<Vec<u8>>)) -> Vec<u8> {
-    let mut r = Random(11);
+fn layers(records: usize, seed: u64, mut draw: impl FnMut(&mut Random) -> (usize, Vec<Vec<u8>>)) -> Vec<u8> {
+    let mut r = Random(seed);
     let mut body: Vec<Vec<u8>> = Vec::new();
     let mut items = 0;
     while body.len() < records {
@@ -42,16 +42,16 @@ fn layers(records: usize, mut draw: impl FnMut(&mut Random) -> (usize, Vec<Vec<u
 }
 
 /// Small elements of all eight types.
-pub fn elements(records: usize) -> Vec<u8> {
-    layers(records, |r| {
+pub fn elements(records: usize, seed: u64) -> Vec<u8> {
+    layers(records, seed, |r| {
         let kind = 1 + r.below(8);
         (kind, sheets::item(r, kind, 2))
     })
 }
 
 /// A sheet as offices have them: lines of up to 400 points, and small elements between them.
-pub fn mixed(records: usize) -> Vec<u8> {
-    layers(records, |r| {
+pub fn mixed(records: usize, seed: u64) -> Vec<u8> {
+    layers(records, seed, |r| {
         if r.once_in(2) {
             let points = 1 + r.below(400);
             return (2, sheets::line(r, points));

@@ -11,6 +11,9 @@ use zvaigulta::{insert, judge_sheet, remove};
 
 const ROUNDS: usize = 9;
 
+/// Makes a sheet of so many records from a seed.
+type Make = fn(usize, u64) -> Vec<u8>;
+
 /// Seconds of one call, the least of `turns`.
 fn least<T>(turns: usize, mut call: impl FnMut() -> T) -> f64 {
     (0..turns).fold(f64::MAX, |best, _| {
@@ -72,8 +75,8 @@ impl Judged {
 fn judging(copy: &mut [u8]) {
     let mut all = [
         Judged::new("technician's grid", files::technicians_grid()),
-        Judged::new("mixed", files::mixed(199_000)),
-        Judged::new("small elements", files::elements(199_000)),
+        Judged::new("mixed", files::mixed(199_000, 11)),
+        Judged::new("small elements", files::elements(199_000, 11)),
     ];
     for _ in 0..ROUNDS {
         all.iter_mut().for_each(|j| j.round(copy));
@@ -86,22 +89,21 @@ fn judging(copy: &mut [u8]) {
     all.iter().for_each(Judged::print);
 }
 
-/// The cost of a record as the sheet grows.
+/// The cost of a record as sheets grow. Of each size there are as many different sheets as make 200,000 records, judged one after another, so that
+/// neither the caches nor the branch predictor know a small sheet better than a large one.
 fn growth() {
-    println!(
-        "\nGrowth: ns a record.\n\n{:<16} {:>10} {:>10} {:>10} {:>16}",
-        "sheet", "2,000", "20,000", "200,000", "most over least"
-    );
-    let makers: [(&str, fn(usize) -> Vec<u8>); 3] =
-        [("grids", files::grids), ("mixed", files::mixed), ("small elements", files::elements)];
+    println!("\nGrowth: ns a record, in sheets of so many records.\n");
+    println!("{:<16} {:>10} {:>10} {:>10} {:>16}", "sheet", "2,000", "20,000", "200,000", "most over least");
+    let makers: [(&str, Make); 3] = [("grids", files::grids), ("mixed", files::mixed), ("small elements", files::elements)];
     for (name, make) in makers {
-        let sheets = [2_000, 20_000, 199_000].map(make);
+        let sizes = [2_000, 20_000, 199_000];
+        let sheets = sizes.map(|n| (0..199_000 / n).map(|seed| make(n, seed as u64)).collect::<Vec<_>>());
         let mut best = [f64::MAX; 3];
-        for _ in 0..ROUNDS {
-            for (file, best) in sheets.iter().zip(&mut best) {
-                let turns = 16_000_000 / file.len() + 1;
-                let seconds = least(turns, || judge_sheet(black_box(file), file.len()));
-                *best = best.min(seconds * 1e9 * RECORD as f64 / file.len() as f64);
+        for _ in 0..2 * ROUNDS {
+            for (sheets, best) in sheets.iter().zip(&mut best) {
+                let seconds = least(1, || sheets.iter().filter(|file| judge_sheet(black_box(file), file.len()).is_ok()).count());
+                let records = sheets.iter().map(|file| file.len() / RECORD).sum::<usize>();
+                *best = best.min(seconds * 1e9 / records as f64);
             }
         }
         let most = best.iter().copied().fold(0.0, f64::max);
@@ -153,27 +155,31 @@ fn edits() {
         "sheet", "place", "insert", "remove", "judging", "move", "insert", "remove"
     );
     let block = sheets::item(&mut Random(5), 2, 2).concat();
-    for (name, file) in [("mixed", files::mixed(199_000)), ("small elements", files::elements(199_000))] {
+    for (name, file) in [("mixed", files::mixed(199_000, 11)), ("small elements", files::elements(199_000, 11))] {
         let (first, last) = ends(&file);
         edit(name, &file, first, &block);
         edit(name, &file, last, &block);
     }
 }
 
-/// One call: `grids`, `mixed`, `elements` judge a sheet of so many records; `insert`, `remove` edit one of small elements at its first item.
+/// One call: `grids`, `mixed`, `elements` judge a sheet of so many records; `insert`, `remove` edit one of small elements at its first item, and
+/// `insert-last`, `remove-last` at its last.
 fn once(what: &str, records: usize) {
-    let make = match what {
+    let make: Make = match what {
         "grids" => files::grids,
         "mixed" => files::mixed,
         _ => files::elements,
     };
-    let mut file = make(records);
+    let mut file = make(records, 11);
     let used = file.len();
-    let (first, _) = if what == "grids" { (0, 0) } else { ends(&file) };
+    let (first, last) = if what == "grids" { (0, 0) } else { ends(&file) };
+    let place = if what.ends_with("last") { last } else { first };
     file.resize(used + 100 * RECORD, b' ');
     match what {
-        "insert" => println!("{:?}", insert(&mut file, used, first, &sheets::item(&mut Random(5), 2, 2).concat())),
-        "remove" => println!("{:?}", remove(&mut file, used, first)),
+        "insert" | "insert-last" => {
+            println!("{:?}", insert(&mut file, used, place, &sheets::item(&mut Random(5), 2, 2).concat()))
+        }
+        "remove" | "remove-last" => println!("{:?}", remove(&mut file, used, place)),
         _ => println!("{:?}", judge_sheet(&file, used)),
     }
 }
@@ -189,7 +195,7 @@ fn main() {
         }
         ["once", what, records] => once(what, records.parse().expect("a number of records")),
         _ => {
-            eprintln!("usage: bench | bench once grids|mixed|elements|insert|remove RECORDS");
+            eprintln!("usage: bench | bench once grids|mixed|elements|insert|insert-last|remove|remove-last RECORDS");
             std::process::exit(2);
         }
     }

@@ -4,6 +4,9 @@ use borrow.Author.Needs.{needs}
 use Rattle.judge.proofs.judge_body.Statement.{statement}
 use Rattle.judge.proofs.judge_body.Tie as tie
 
+begin-requires : tie.Need-begin-requires
+begin-requires c κs = search needs
+
 walk-body-requires : tie.Need-walk-body-requires
 walk-body-requires c κs = search needs
 
@@ -26,4 +29,4 @@ returns-3 : tie.Need-returns-3
 returns-3 c = search answers-accepted
 
 pub judge-body-spec : {M : Type 1} → statement M
-judge-body-spec = tie.close (tie.spec walk-body-requires returns sub-wrong-sheet wrong-sheet-requires first-of-requires returns-2 returns-3)
+judge-body-spec = tie.close (tie.spec begin-requires walk-body-requires returns sub-wrong-sheet wrong-sheet-requires first-of-requires returns-2 returns-3)
