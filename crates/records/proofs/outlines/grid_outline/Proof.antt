@@ -5,14 +5,14 @@ use borrow.Author.Needs.{needs}
 use Rattle.records.proofs.outlines.grid_outline.Statement.{statement}
 use Rattle.records.proofs.outlines.grid_outline.Tie as tie
 
-number-requires : tie.Need-number-requires
-number-requires c κs = search needs
+plain-number-requires : tie.Need-plain-number-requires
+plain-number-requires c κs = search needs
 
-number-requires-2 : tie.Need-number-requires-2
-number-requires-2 c κs = search needs
+plain-number-requires-2 : tie.Need-plain-number-requires-2
+plain-number-requires-2 c κs = search needs
 
-number-requires-3 : tie.Need-number-requires-3
-number-requires-3 c κs = search needs
+plain-number-requires-3 : tie.Need-plain-number-requires-3
+plain-number-requires-3 c κs = search needs
 
 grid-records-requires : tie.Need-grid-records-requires
 grid-records-requires c κs = search (one-digit, four-digits)
@@ -23,4 +23,4 @@ returns c = search grid-outlined
 pub grid-outline-spec : {M : Type 1} → statement M
 grid-outline-spec =
     tie.close
-    (tie.spec number-requires number-requires-2 number-requires-3 grid-records-requires returns)
+    (tie.spec plain-number-requires plain-number-requires-2 plain-number-requires-3 grid-records-requires returns)
