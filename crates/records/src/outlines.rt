@@ -1,11 +1,11 @@
 // The outline of a header or an item by its layout: each number from its own column, and no other column read. A walk over a sheet has nothing
 // else to do at a record, so the numbers are read with few instructions where the columns are as an accepted sheet has them.
 ghost use mathlib.Core.Path.{_≡_};
-ghost use Prim.Native.Nat.{_+_, _≤_, _<_};
+ghost use Prim.Native.Nat.{_≤_, _<_};
 ghost use lib.ListN.{length};
 ghost use Rattle.format.specs.Record.{gridStates, headerView, elementView, gridView, netView};
 ghost use Rattle.records.specs.Outline.{noOutline, outlineIn};
-ghost use Rattle.records.specs.Steps.{numberIn, elementType};
+ghost use Rattle.records.specs.Steps.{elementType};
 use super::reading;
 use super::rules;
 use layouts::Element;
@@ -25,31 +25,6 @@ const GRID_OR_NET: usize = 9;
 
 const NEITHER: usize = 10;
 
-// The number of a column: of spaces, then digits, in one pass with no branch, in which a byte's lower half is a digit's number, and 0 for a
-// space; of other bytes by `number`.
-fn plain_number(record: &[u8], start: usize, width: usize) -> usize
-    requires { ⌜ (length (now «record») ≡ 84) × (start + width ≤ 84) × (width ≤ 7) ⌝ }
-    ensures { λ r. ⌜ r ≡ numberIn (now («record» .entry)) start width ⌝ }
-{
-    let mut n: usize = 0;
-    let mut blank = true;
-    let mut plain = true;
-    let mut i = 0;
-    while i < width {
-        let b = record[start + i];
-        let space = b == b' ';
-        let digit = (b'0' <= b) & (b <= b'9');
-        plain = plain & (digit | (blank & space));
-        blank = blank & space;
-        n = n * 10 + (b % 16) as usize;
-        i += 1;
-    }
-    if plain & !blank {
-        return n;
-    }
-    reading::number(record, start, width)
-}
-
 pub(crate) fn no_outline() -> Outline
     ensures { λ r. ⌜ r ≡ noOutline ⌝ }
 {
@@ -64,7 +39,7 @@ pub(crate) fn header_outline(record: &[u8]) -> Outline
     requires { ⌜ length (now «record») ≡ 84 ⌝ }
     ensures { λ r. ⌜ r ≡ outlineIn (headerView (now («record» .entry))) ⌝ }
 {
-    let level = plain_number(record, Header::LEVEL_START, Header::LEVEL_WIDTH);
+    let level = reading::plain_number(record, Header::LEVEL_START, Header::LEVEL_WIDTH);
     Outline {
         kind: 0,
         level,
@@ -77,8 +52,8 @@ pub(crate) fn element_outline(record: &[u8], number: usize) -> Outline
     requires { ⌜ (length (now «record») ≡ 84) × (1 ≤ number) × (number ≤ 8) ⌝ }
     ensures { λ r. ⌜ r ≡ outlineIn (elementView (elementType number) (now («record» .entry))) ⌝ }
 {
-    let level = plain_number(record, Element::LEVEL_START, Element::LEVEL_WIDTH);
-    let records = plain_number(record, Element::RECORDS_START, Element::RECORDS_WIDTH);
+    let level = reading::plain_number(record, Element::LEVEL_START, Element::LEVEL_WIDTH);
+    let records = reading::plain_number(record, Element::RECORDS_START, Element::RECORDS_WIDTH);
     Outline {
         kind: number,
         level,
@@ -101,9 +76,13 @@ pub(crate) fn grid_outline(record: &[u8]) -> Outline
     requires { ⌜ length (now «record») ≡ 84 ⌝ }
     ensures { λ r. ⌜ r ≡ outlineIn (gridView (now («record» .entry))) ⌝ }
 {
-    let level = plain_number(record, GridHeader::LEVEL_START, GridHeader::LEVEL_WIDTH);
-    let records = plain_number(record, GridHeader::RECORDS_START, GridHeader::RECORDS_WIDTH);
-    let repeat = plain_number(record, GridHeader::REPEAT_START, GridHeader::REPEAT_WIDTH);
+    let level = reading::plain_number(record, GridHeader::LEVEL_START, GridHeader::LEVEL_WIDTH);
+    let records = reading::plain_number(
+        record,
+        GridHeader::RECORDS_START,
+        GridHeader::RECORDS_WIDTH,
+    );
+    let repeat = reading::plain_number(record, GridHeader::REPEAT_START, GridHeader::REPEAT_WIDTH);
     let states = grid_records(repeat, records);
     Outline {
         kind: GRID_OR_NET,
@@ -116,8 +95,8 @@ pub(crate) fn net_outline(record: &[u8]) -> Outline
     requires { ⌜ length (now «record») ≡ 84 ⌝ }
     ensures { λ r. ⌜ r ≡ outlineIn (netView (now («record» .entry))) ⌝ }
 {
-    let level = plain_number(record, NetHeader::LEVEL_START, NetHeader::LEVEL_WIDTH);
-    let records = plain_number(record, NetHeader::RECORDS_START, NetHeader::RECORDS_WIDTH);
+    let level = reading::plain_number(record, NetHeader::LEVEL_START, NetHeader::LEVEL_WIDTH);
+    let records = reading::plain_number(record, NetHeader::RECORDS_START, NetHeader::RECORDS_WIDTH);
     Outline {
         kind: GRID_OR_NET,
         level,

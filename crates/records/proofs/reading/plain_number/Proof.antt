@@ -1,9 +1,9 @@
--- `records::outlines::plain_number` meets its contract: the loop keeps what the bytes so far say; each turn leaves fewer bytes. Assumes nothing.
+-- `records::reading::plain_number` meets its contract: the loop keeps what the bytes so far say; each turn leaves fewer bytes. Assumes nothing.
 use Prim.Native.Nat.{_-_}
 use Rattle.records.proofs.Plain.{Kept, kept-first, tens-fit, digit-fits, kept-more, plainly}
 use borrow.Author.Needs.{needs}
-use Rattle.records.proofs.outlines.plain_number.Statement.{statement}
-use Rattle.records.proofs.outlines.plain_number.Tie as tie
+use Rattle.records.proofs.reading.plain_number.Statement.{statement}
+use Rattle.records.proofs.reading.plain_number.Tie as tie
 
 abbrev Inv-loop : tie.InvT-loop
 Inv-loop «record» start width n₀ blank₀ plain₀ i₀ n blank plain i = Kept «record» start width n blank plain i
