@@ -1,22 +1,20 @@
 -- A record of which no byte is in doubt: its columns are well formed and, but for those that must be above 0, inside their rules. Assumes nothing.
-use mathlib.Core.Path.{_≡_, refl, ap, sym, _∙_}
-use mathlib.Core.Bool.{Bool, true, false, cond, _&&_, _||_, false≢true}
+use mathlib.Core.Path.{_≡_, refl, sym}
+use mathlib.Core.Bool.{Bool, true, false, cond, _&&_, false≢true}
 use mathlib.Core.List.{List, [], _∷_, _++_}
-use Prim.Native.Nat.{ℕ, zero, suc, _+_, _-_, _*_, _^_, _≤_, _<_}
+use Prim.Native.Nat.{ℕ, zero, suc, _+_, _-_, _≤_, _<_}
 use native.Mathlib.Omega.{arith}
-use borrow.Author.Tests.{le-leb, leb-true, ltb-true, ltb-false, eqb-true, eqb-false, ne-eqb}
-use lib.Dec.{eqb, leb, ltb, leb·zero}
-use lib.IntN.{ℤ, pos, negsuc, negℤ, natAbs}
-use lib.Signed.{leZ}
+use borrow.Author.Tests.{le-leb, leb-true, ltb-false, eqb-true, eqb-false, ne-eqb}
+use lib.Dec.{eqb, leb, ltb}
+use lib.IntN.{pos, negℤ, natAbs}
 use lib.ListN.{length, take, drop, getD, replicate, length-drop, length-replicate}
 use lib.Seq.{drop-drop}
-use Rattle.format.specs.declared.Column.{Column}
-use Rattle.format.specs.declared.Column.the-variants.{Value, MinusZero, Malformed}
+use Rattle.format.specs.declared.Column.the-variants.{Value}
 use Rattle.format.specs.Column.{strip, isDigit, allDigits, valueOf, isNumber, negative, positive, signed, columnOf, formed, integer}
 use Rattle.format.specs.Layout.{Rule, anySign, atLeast, range, within, oneOf, inside, What, text, blank, integral, integralOrSpaces, Col, column, bytesOf, isFormed, isInside, allFormed, allInside, header, element, gridHeader, netHeader, dataNote}
 use Rattle.format.proofs.Basics.{and-true, true-and}
-use Rattle.byte_forms.specs.Doubt.{leastAt, mostAt, doubt}
-use Rattle.byte_forms.specs.Places.{placesIn, doubtsIn}
+use Rattle.byte_forms.specs.Doubt.{leastAt, mostAt}
+use Rattle.byte_forms.specs.Places.{doubtsIn}
 use Rattle.byte_forms.proofs.Neighbours.{Told, t-digit, t-space, t-minus, told, column-after, natural-after, value-after}
 use Rattle.byte_forms.proofs.Doubts.{right-at, doubts-append, length-places, column-right, column-loose}
 use Rattle.record_forms.specs.Sure.{ruled, placesFor, placesOf, surely}

@@ -3,7 +3,6 @@
 //
 // The bytes from 2 to 81 of a record, sixteen at a time, are compared with the places of its layout; its two first and two last bytes apart.
 ghost use mathlib.Core.Path.{_≡_};
-ghost use Prim.Native.Nat.{_+_};
 ghost use lib.ListN.{length, getD, drop};
 ghost use Rattle.format.specs.Layout.{header, element, gridHeader, netHeader, dataNote};
 ghost use Rattle.byte_forms.specs.Places.{doubtsIn};

@@ -1,11 +1,9 @@
 -- `data_columns::few_sure` meets its contract. The loop's invariant: `Counting`, of the doubts that count. The measure is the bytes still to come.
 -- Assumes nothing.
 use borrow.Author.Needs.{needs}
-use mathlib.Core.Path.{_≡_}
-use Prim.Native.Nat.{_+_, _-_, _≤_}
+use Prim.Native.Nat.{_-_, _≤_}
 use native.Mathlib.Omega.{arith}
 use Rattle.byte_forms.specs.Places.{behind, placesIn}
-use Rattle.byte_forms.proofs.Doubts.{at-most-one}
 use Rattle.data_columns.proofs.Doubts.{placesOf, columnsOf, behindFirst, behindFirstOf, Counting, counted-small, few-first-doubt, few-next-doubt, few-no-doubt}
 use Rattle.data_columns.proofs.few_sure.Statement.{statement}
 use Rattle.data_columns.proofs.few_sure.Tie as tie
