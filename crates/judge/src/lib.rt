@@ -161,58 +161,23 @@ fn entry_fault(entry: Entry, opened: usize) -> u8
     entry.rule_fault
 }
 
-// Bytes of a line of the processor's cache, and of a block of 256 lines.
-const LINE: usize = 64;
-
-const LINES: usize = 256;
-
-const BLOCK: usize = 16384;
-
-fn wide(byte: u8) -> usize
-    ensures { λ r. ⌜ r ≤ 255 ⌝ }
-{
-    byte as usize
-}
-
-// Reads one byte of each line of the block that starts here, as far as the file goes, and adds them up.
-fn read_block(file: &[u8], start: usize) -> usize
-    requires { ⌜ start ≤ length (now file) + 32768 ⌝ }
-    ensures { λ r. ⌜ r ≤ 65280 ⌝ }
-{
-    let mut sum: usize = 0;
-    let mut line = 0;
-    while line < LINES {
-        if file.len() <= start + LINE * line {
-            return sum;
-        }
-        sum += wide(file[start + LINE * line]);
-        line += 1;
-    }
-    sum
-}
-
-// The record behind record k. Where it enters a new block, the block after that is read for speed alone: so many reads at once wait for memory
-// once, where a record at a time waits at nearly every line. 256 bytes never add up to 65,536; the compiler does not know that, and keeps the
-// reads.
+// The record behind record k.
 fn next(file: &[u8], k: usize) -> usize
     requires { ⌜ 84 * k + 84 ≤ length (now file) ⌝ }
     ensures { λ r. ⌜ r ≡ k + 1 ⌝ }
 {
-    let block = 84 * k / BLOCK;
-    if (84 * k + 84) / BLOCK == block {
-        return k + 1;
+    if ahead::go_on(file, 84 * k, 84 * k + 84) {
+        k + 1
+    } else {
+        k
     }
-    let sum = read_block(file, (block + 2) * BLOCK);
-    if sum < 65536 { k + 1 } else { k }
 }
 
-// Record k, with the first two blocks of the file read ahead; `next` reads the others.
+// Record k, where the walk begins.
 fn begin(file: &[u8], k: usize) -> usize
     ensures { λ r. ⌜ r ≡ k ⌝ }
 {
-    let first = read_block(file, 0);
-    let second = read_block(file, BLOCK);
-    if first + second < 131072 { k } else { 0 }
+    if ahead::start(file) { k } else { 0 }
 }
 
 // The data records of the item at record k, whose entry this is.

@@ -103,6 +103,14 @@ module _ (file : List ℕ) (part at limit index opened start : ℕ) (headers : L
   pub next-fits : length file < 2 ^ 64 → index + e .«data_records» ≤ 1000000000000000000
   next-fits long = omega (arith, limited .1, ap (λ (x : Outline). x .«data_records») is, outline-data-records-most r wide)
 
+  pub next-inside : (next : ℕ) → length file < 2 ^ 64 → next ≡ nextIndex index (e .kind) (e .«data_records») → part + next ≤ 1000000000000000000
+  unfolding nextIndex
+  next-inside next long n = go (eqb (e .kind) 0) n
+    where
+      go : (t : Bool) → next ≡ cond t (index + 1) (index + 1 + e .«data_records») → part + next ≤ 1000000000000000000
+      go true h = omega (arith, limited .1)
+      go false h = omega (arith, limited .1, ap (λ (x : Outline). x .«data_records») is, outline-data-records-most r wide)
+
   header-is : (l : ℕ) → isHeaderAt l (getD (take at (bodyOf file part)) index absent) ≡ eqb (e .kind) 0 && eqb (e .level) l
   header-is l = rw (is-view, outline-head r wide, level-is, is)
 
@@ -121,6 +129,14 @@ module _ (file : List ℕ) (part at limit index opened start : ℕ) (headers : L
     goes-past t = goes next opened′ headers n o (w .nine) (left-alone (e .kind) (e .level) index headers (w .nine) (sym k ∙ t))
 
 -- the pass goes forward
+pub next-after : (index kind dataRecords next : ℕ) → next ≡ nextIndex index kind dataRecords → index ≤ next
+unfolding nextIndex
+next-after index kind dataRecords next n = go (eqb kind 0) n
+  where
+    go : (t : Bool) → next ≡ cond t (index + 1) (index + 1 + dataRecords) → index ≤ next
+    go true e = omega arith
+    go false e = omega arith
+
 pub goes-forward : (limit index kind dataRecords next : ℕ) → next ≡ nextIndex index kind dataRecords → index < limit → limit - next < limit - index
 unfolding nextIndex
 goes-forward limit index kind dataRecords next n h = go (eqb kind 0) n

@@ -53,6 +53,21 @@ fn next_index(index: usize, kind: usize, data_records: usize) -> usize
     index + 1 + data_records
 }
 
+// The walk goes on from one record of the body to another, perhaps past the file's end.
+fn go_on(file: &[u8], part: usize, from: usize, to: usize) -> usize
+    requires { ⌜ (from ≤ to) × (part + to ≤ 1000000000000000000) ⌝ }
+    ensures { λ r. ⌜ r ≡ to ⌝ }
+{
+    if file.len() / RECORD <= part + to {
+        return to;
+    }
+    if ahead::go_on(file, RECORD * (part + from), RECORD * (part + to)) {
+        to
+    } else {
+        from
+    }
+}
+
 // The open level behind a header or an item.
 fn opened_by(kind: usize, level: usize) -> usize
     ensures { λ r. ⌜ r ≡ openedBy kind level ⌝ }
@@ -87,7 +102,8 @@ pub fn locate(file: &[u8], part: usize, at: usize) -> Place
         }
         start = index + 1;
         opened = opened_by(outline.kind, level);
-        index = next_index(index, outline.kind, outline.data_records);
+        let next = next_index(index, outline.kind, outline.data_records);
+        index = go_on(file, part, index, next);
     }
     Place {
         due: index - limit,

@@ -1,12 +1,13 @@
 -- `locate` comes to what format's folds come to. The loop keeps that the folds from its index come to the same as those from the start; each turn
 -- leaves fewer records before the place. Assumes nothing.
 use mathlib.Core.Logic.{⊎-elim}
+use mathlib.Core.Path.{_∙_}
 use Prim.Native.Nat.{_-_, _<_}
 use native.Mathlib.Omega.{arith}
 use lib.ListN.{take}
 use Rattle.places.specs.Place.{bodyOf}
 use Rattle.places.proofs.Walked.{Walked, walk-start}
-use Rattle.places.proofs.Laws.{next-fits, goes-keeping, goes-past, goes-forward, level-inside, came-to-place}
+use Rattle.places.proofs.Laws.{next-fits, next-after, next-inside, goes-keeping, goes-past, goes-forward, level-inside, came-to-place}
 use borrow.Author.Needs.{needs}
 use Rattle.places.proofs.locate.Statement.{statement}
 use Rattle.places.proofs.locate.Tie as tie
@@ -53,11 +54,14 @@ opened-by-requires c κs = search needs
 next-index-requires : tie.Need-next-index-requires Inv-loop μ-loop
 next-index-requires c κs = search next-fits
 
+go-on-requires : tie.Need-go-on-requires Inv-loop μ-loop
+go-on-requires c κs = (search next-after, search next-inside)
+
 loop-less : tie.Need-loop-less Inv-loop μ-loop
-loop-less c = search goes-forward
+loop-less c = let n = c .go-on .ensures ∙ c .before .next-index .ensures in search goes-forward
 
 loop-again : tie.Need-loop-again Inv-loop μ-loop
-loop-again c = ⊎-elim (λ w. rw (w .1) (search goes-keeping)) (λ w. rw (w .1) (search goes-past)) (c .before .before .if1 .came)
+loop-again c = let n = c .go-on .ensures ∙ c .before .next-index .ensures in ⊎-elim (λ w. rw (w .1) (search goes-keeping)) (λ w. rw (w .1) (search goes-past)) (c .before .before .before .if1 .came)
 
 returns : tie.Need-returns Inv-loop μ-loop
 returns c = search came-to-place
@@ -80,6 +84,7 @@ locate-spec =
     add-start
     opened-by-requires
     next-index-requires
+    go-on-requires
     loop-less
     loop-again
     returns)

@@ -1,8 +1,8 @@
--- `judge::read_block` reads within the file and ends; 256 bytes add up to 65,280 at most. Assumes nothing.
+-- `ahead::read_block` reads within the file and ends; 256 bytes add up to 65,280 at most. Assumes nothing.
 use Prim.Native.Nat.{_-_, _*_, _≤_}
 use borrow.Author.Needs.{needs}
-use Rattle.judge.proofs.read_block.Statement.{statement}
-use Rattle.judge.proofs.read_block.Tie as tie
+use Rattle.ahead.proofs.read_block.Statement.{statement}
+use Rattle.ahead.proofs.read_block.Tie as tie
 
 abbrev Inv-loop : tie.InvT-loop
 Inv-loop file start sum₀ line₀ sum line = (sum ≤ 255 * line) × (line ≤ 256)
