@@ -413,11 +413,11 @@ data2D =
 -- Data note: I1 (0,1), direction I7, I5, I5, I2, A64
 unfoldable pub dataNote : List Col
 dataNote =
-    I "upright" 0 1 (range 0 1) ∷
+    I "writing direction" 0 1 (range 0 1) ∷
     I "direction" 1 7 anySign ∷
     I "letter size" 8 5 natural ∷
     I "letter spacing" 13 5 natural ∷
-    I "line number" 18 2 natural ∷
+    I "line weight" 18 2 natural ∷
     A "text" 20 64 ∷ []
 
 -- Data attribute: 84 free

@@ -102,7 +102,7 @@ dataColumns attributes behind = dataAttribute
 -- "A note direction is -45..45 when the first column is 0, -135..-45 when it is 1"
 unfoldable pub directionOk : List ℕ → Bool
 directionOk r =
-    cond (eqb (numberAt dataNote "upright" r) 0)
+    cond (eqb (numberAt dataNote "writing direction" r) 0)
     (leZ (minus 45) (integerAt dataNote "direction" r) && leZ (integerAt dataNote "direction" r) (pos 45))
     (leZ (minus 135) (integerAt dataNote "direction" r) && leZ (integerAt dataNote "direction" r) (minus 45))
 
@@ -298,6 +298,6 @@ unfoldable pub lower : (kind : ℕ) → List ℕ → List ℕ
 lower kind r = rewrite header (countName kind) (countIn r kind - 1) (rewrite header "total" (numberAt header "total" r - 1) r)
 
 -- every name that stands above is a column of its layout
-names-there : hasAll header ("level" ∷ "total" ∷ "groups" ∷ "area" ∷ "line" ∷ "circle" ∷ "arc" ∷ "point" ∷ "direction" ∷ "note" ∷ "attribute" ∷ "grid and net" ∷ []) && not (has header "none") && hasAll element ("level" ∷ "data kind" ∷ "data count" ∷ "records" ∷ []) && hasAll gridHeader ("level" ∷ "rows" ∷ "columns" ∷ "records" ∷ "repeat" ∷ []) && hasAll netHeader ("level" ∷ "triangles" ∷ "records" ∷ []) && hasAll dataNote ("upright" ∷ "direction" ∷ []) ≡ true
+names-there : hasAll header ("level" ∷ "total" ∷ "groups" ∷ "area" ∷ "line" ∷ "circle" ∷ "arc" ∷ "point" ∷ "direction" ∷ "note" ∷ "attribute" ∷ "grid and net" ∷ []) && not (has header "none") && hasAll element ("level" ∷ "data kind" ∷ "data count" ∷ "records" ∷ []) && hasAll gridHeader ("level" ∷ "rows" ∷ "columns" ∷ "records" ∷ "repeat" ∷ []) && hasAll netHeader ("level" ∷ "triangles" ∷ "records" ∷ []) && hasAll dataNote ("writing direction" ∷ "direction" ∷ []) ≡ true
 unfolding header element gridHeader netHeader dataNote
 names-there = refl

@@ -10,7 +10,7 @@ use super::Spans6;
 pub struct DataNote {}
 
 impl DataNote {
-    pub const UPRIGHT_WIDTH: usize = 1;
+    pub const WRITING_DIRECTION_WIDTH: usize = 1;
 
     pub const DIRECTION_WIDTH: usize = 7;
 
@@ -18,21 +18,21 @@ impl DataNote {
 
     pub const LETTER_SPACING_WIDTH: usize = 5;
 
-    pub const LINE_NUMBER_WIDTH: usize = 2;
+    pub const LINE_WEIGHT_WIDTH: usize = 2;
 
     pub const TEXT_WIDTH: usize = 64;
 
-    pub const UPRIGHT_START: usize = 0;
+    pub const WRITING_DIRECTION_START: usize = 0;
 
-    pub const DIRECTION_START: usize = Self::UPRIGHT_START + Self::UPRIGHT_WIDTH;
+    pub const DIRECTION_START: usize = Self::WRITING_DIRECTION_START + Self::WRITING_DIRECTION_WIDTH;
 
     pub const LETTER_SIZE_START: usize = Self::DIRECTION_START + Self::DIRECTION_WIDTH;
 
     pub const LETTER_SPACING_START: usize = Self::LETTER_SIZE_START + Self::LETTER_SIZE_WIDTH;
 
-    pub const LINE_NUMBER_START: usize = Self::LETTER_SPACING_START + Self::LETTER_SPACING_WIDTH;
+    pub const LINE_WEIGHT_START: usize = Self::LETTER_SPACING_START + Self::LETTER_SPACING_WIDTH;
 
-    pub const TEXT_START: usize = Self::LINE_NUMBER_START + Self::LINE_NUMBER_WIDTH;
+    pub const TEXT_START: usize = Self::LINE_WEIGHT_START + Self::LINE_WEIGHT_WIDTH;
 
     pub const END: usize = Self::TEXT_START + Self::TEXT_WIDTH;
 
@@ -46,11 +46,11 @@ impl DataNote {
         ensures { λ r. ⌜ r ≡ spansOf dataNote ⌝ }
     {
         [
-            Span(Self::UPRIGHT_START, Self::UPRIGHT_WIDTH),
+            Span(Self::WRITING_DIRECTION_START, Self::WRITING_DIRECTION_WIDTH),
             Span(Self::DIRECTION_START, Self::DIRECTION_WIDTH),
             Span(Self::LETTER_SIZE_START, Self::LETTER_SIZE_WIDTH),
             Span(Self::LETTER_SPACING_START, Self::LETTER_SPACING_WIDTH),
-            Span(Self::LINE_NUMBER_START, Self::LINE_NUMBER_WIDTH),
+            Span(Self::LINE_WEIGHT_START, Self::LINE_WEIGHT_WIDTH),
             Span(Self::TEXT_START, Self::TEXT_WIDTH),
         ]
     }

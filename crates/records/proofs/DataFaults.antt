@@ -36,10 +36,10 @@ first-some zero b h = absurd (h refl)
 first-some (suc a) b h = refl
 
 module _ (l : List ℕ) (whole : length l ≡ 84) where
-  note-rule : (upright : ℕ) (direction : ℤ) → upright ≡ numberIn l 0 1 → direction ≡ integer (columnAt l 1 7) → directionIn upright direction ≡ directionOk l
+  note-rule : (writing : ℕ) (direction : ℤ) → writing ≡ numberIn l 0 1 → direction ≡ integer (columnAt l 1 7) → directionIn writing direction ≡ directionOk l
   unfolding directionOk directionIn find dataNote
-  note-rule upright direction u d =
-      let u′ : upright ≡ numberAt dataNote "upright" l = u ∙ stated l whole dataNote "upright" 0 1 _ refl refl in
+  note-rule writing direction u d =
+      let u′ : writing ≡ numberAt dataNote "writing direction" l = u ∙ stated l whole dataNote "writing direction" 0 1 _ refl refl in
       let d′ : direction ≡ integerAt dataNote "direction" l = d ∙ sym (integer-is dataNote "direction" 1 7 _ refl refl l whole) in
       rw (u′, d′)
 
@@ -51,12 +51,12 @@ module _ (l : List ℕ) (whole : length l ≡ 84) where
     unfolding dataFault dataColumns
     note-refused some = rw own-note (first-some f (unless (directionOk l) 6) some)
 
-    module _ (upright : ℕ) (direction : ℤ) (r : Bool) (none : f ≡ 0) (u : upright ≡ numberIn l 0 1) (d : direction ≡ integer (columnAt l 1 7)) (fits : SFits w64 direction) (q : r ≡ directionIn upright (toZ w64 (ofZ w64 direction))) where
+    module _ (writing : ℕ) (direction : ℤ) (r : Bool) (none : f ≡ 0) (u : writing ≡ numberIn l 0 1) (d : direction ≡ integer (columnAt l 1 7)) (fits : SFits w64 direction) (q : r ≡ directionIn writing (toZ w64 (ofZ w64 direction))) where
       judged : dataFault notes 0 l ≡ unless r 6
       unfolding dataFault dataColumns
       judged =
-          let p : r ≡ directionIn upright direction = q ∙ rw (back direction fits) in
-          rw (own-note ∙ none, ← note-rule upright direction u d, ← p)
+          let p : r ≡ directionIn writing direction = q ∙ rw (back direction fits) in
+          rw (own-note ∙ none, ← note-rule writing direction u d, ← p)
 
       pub note-passed : r ≡ true → 0 ≡ dataFault notes 0 l
       note-passed t = sym (judged ∙ rw t)

@@ -179,6 +179,6 @@ module _ (l : List ℕ) (f : ℕ) (e : f ≡ faultIn netHeader l) (none : f ≡ 
   net-records = known l 26 6 _ (number-at netHeader "records" 26 6 _ refl refl l (sym e ∙ none) refl)
 
 module _ (l : List ℕ) (f : ℕ) (e : f ≡ faultIn dataNote l) (none : f ≡ 0) where
-  pub note-upright : Natural l 0 1
+  pub note-writing : Natural l 0 1
   unfolding find dataNote
-  note-upright = known l 0 1 _ (number-at dataNote "upright" 0 1 _ refl refl l (sym e ∙ none) refl)
+  note-writing = known l 0 1 _ (number-at dataNote "writing direction" 0 1 _ refl refl l (sym e ∙ none) refl)

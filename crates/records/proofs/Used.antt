@@ -91,19 +91,19 @@ module _ (held : Held) (behind : ℕ) where
 
 -- ---- `is_direction`: the left end, then the right one
 
-module _ (upright : ℕ) (z : ℤ) (f : SFits w64 z) where
-  pub level-left : upright ≡ 0 → leZ (negsuc 44) (toZ w64 (ofZ w64 z)) ≡ false → leZ (negsuc 44) (toZ w64 (ofZ w64 z)) ≡ directionIn upright z
+module _ (writing : ℕ) (z : ℤ) (f : SFits w64 z) where
+  pub across-left : writing ≡ 0 → leZ (negsuc 44) (toZ w64 (ofZ w64 z)) ≡ false → leZ (negsuc 44) (toZ w64 (ofZ w64 z)) ≡ directionIn writing z
   unfolding directionIn
-  level-left u t = let e : leZ (negsuc 44) z ≡ false = rw (back z f) at t in rw (u, back z f, e)
+  across-left u t = let e : leZ (negsuc 44) z ≡ false = rw (back z f) at t in rw (u, back z f, e)
 
-  pub level-right : upright ≡ 0 → leZ (negsuc 44) (toZ w64 (ofZ w64 z)) ≡ true → leZ (toZ w64 (ofZ w64 z)) (pos 45) ≡ directionIn upright z
+  pub across-right : writing ≡ 0 → leZ (negsuc 44) (toZ w64 (ofZ w64 z)) ≡ true → leZ (toZ w64 (ofZ w64 z)) (pos 45) ≡ directionIn writing z
   unfolding directionIn
-  level-right u t = let e : leZ (negsuc 44) z ≡ true = rw (back z f) at t in rw (u, back z f, e)
+  across-right u t = let e : leZ (negsuc 44) z ≡ true = rw (back z f) at t in rw (u, back z f, e)
 
-  pub upright-left : (upright ≡ 0 → ⊥) → leZ (negsuc 134) (toZ w64 (ofZ w64 z)) ≡ false → leZ (negsuc 134) (toZ w64 (ofZ w64 z)) ≡ directionIn upright z
+  pub down-left : (writing ≡ 0 → ⊥) → leZ (negsuc 134) (toZ w64 (ofZ w64 z)) ≡ false → leZ (negsuc 134) (toZ w64 (ofZ w64 z)) ≡ directionIn writing z
   unfolding directionIn
-  upright-left u t = let e : leZ (negsuc 134) z ≡ false = rw (back z f) at t in rw (ne-eqb upright 0 u, back z f, e)
+  down-left u t = let e : leZ (negsuc 134) z ≡ false = rw (back z f) at t in rw (ne-eqb writing 0 u, back z f, e)
 
-  pub upright-right : (upright ≡ 0 → ⊥) → leZ (negsuc 134) (toZ w64 (ofZ w64 z)) ≡ true → leZ (toZ w64 (ofZ w64 z)) (negsuc 44) ≡ directionIn upright z
+  pub down-right : (writing ≡ 0 → ⊥) → leZ (negsuc 134) (toZ w64 (ofZ w64 z)) ≡ true → leZ (toZ w64 (ofZ w64 z)) (negsuc 44) ≡ directionIn writing z
   unfolding directionIn
-  upright-right u t = let e : leZ (negsuc 134) z ≡ true = rw (back z f) at t in rw (ne-eqb upright 0 u, back z f, e)
+  down-right u t = let e : leZ (negsuc 134) z ≡ true = rw (back z f) at t in rw (ne-eqb writing 0 u, back z f, e)

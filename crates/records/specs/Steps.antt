@@ -55,8 +55,8 @@ columnsUsed Notes behind = 0
 columnsUsed Attributes behind = 0
 
 -- "A note direction is -45..45 when the first column is 0, -135..-45 when it is 1"
-unfoldable pub directionIn : (upright : ℕ) → (direction : ℤ) → Bool
-directionIn upright direction =
-    cond (eqb upright 0)
+unfoldable pub directionIn : (writing : ℕ) → (direction : ℤ) → Bool
+directionIn writing direction =
+    cond (eqb writing 0)
     (leZ (minus 45) direction && leZ direction (pos 45))
     (leZ (minus 135) direction && leZ direction (minus 45))

@@ -148,9 +148,9 @@ fn note_fault(record: &[u8]) -> u8
     if fault != 0 {
         return fault;
     }
-    let upright = reading::natural(record, DataNote::UPRIGHT_START, DataNote::UPRIGHT_WIDTH);
+    let writing_direction = reading::natural(record, DataNote::WRITING_DIRECTION_START, DataNote::WRITING_DIRECTION_WIDTH);
     let direction = reading::integer(record, DataNote::DIRECTION_START, DataNote::DIRECTION_WIDTH);
-    if data::is_direction(upright, direction) {
+    if data::is_direction(writing_direction, direction) {
         0
     } else {
         6

@@ -265,7 +265,7 @@ impl Layouts {
             )),
             three: Layout::of(&repeated(&["x", "y", "z"], 4, "I7 any")),
             two: Layout::of(&repeated(&["x", "y"], 6, "I7 any")),
-            note: Layout::of("upright I1 0..1, direction I7 any, size I5, spacing I5, line I2, text A64"),
+            note: Layout::of("writing direction I1 0..1, direction I7 any, size I5, spacing I5, line weight I2, text A64"),
             attribute: Layout::of("free A84"),
             heights: Layout::of(&repeated(&["h"], 12, "I7 any")),
             triangles: Layout::of(&repeated(&["x", "y", "z"], 4, "I7 any")),

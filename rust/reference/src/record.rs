@@ -137,7 +137,7 @@ impl Item {
         }
         if self.holds == Holds::Notes {
             let direction = layout.value("direction", record);
-            let right = match layout.value("upright", record) {
+            let right = match layout.value("writing direction", record) {
                 0 => (-45..=45).contains(&direction),
                 _ => (-135..=-45).contains(&direction),
             };

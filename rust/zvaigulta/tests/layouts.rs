@@ -120,7 +120,7 @@ fn a_malformed_column_is_5_exactly_where_an_integer_stands() {
 
 /// A column whose 6 hangs on another column too.
 fn is_joined(layout: &Layout, column: &Column) -> bool {
-    ["unit", "courses", "f records", "b records", "sheets", "upright"].contains(&column.name)
+    ["unit", "courses", "f records", "b records", "sheets", "writing direction"].contains(&column.name)
         || (layout.name == "note data" && column.name == "direction")
 }
 

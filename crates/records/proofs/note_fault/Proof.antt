@@ -1,6 +1,6 @@
 -- `records::note_fault` meets its contract: its columns, then its direction. Assumes nothing.
 use Rattle.records.proofs.DataFaults.{note-refused, note-passed, note-fails}
-use Rattle.records.proofs.Naturals.{note-upright}
+use Rattle.records.proofs.Naturals.{note-writing}
 use borrow.Author.Needs.{needs}
 use Rattle.records.proofs.note_fault.Statement.{statement}
 use Rattle.records.proofs.note_fault.Tie as tie
@@ -12,7 +12,7 @@ returns : tie.Need-returns
 returns c = search note-refused
 
 natural-requires : tie.Need-natural-requires
-natural-requires c κs = search (needs, note-upright)
+natural-requires c κs = search (needs, note-writing)
 
 integer-requires : tie.Need-integer-requires
 integer-requires c κs = search needs

@@ -152,11 +152,11 @@ pub static DATA_GRID: Layout = Layout {
 pub static DATA_NOTE: Layout = Layout {
     name: "note data",
     columns: &laid([
-        between("upright", 1, 0, 1),
+        between("writing direction", 1, 0, 1),
         any("direction", 7),
         i("letter size", 5),
         i("letter spacing", 5),
-        i("line number", 2),
+        i("line weight", 2),
         a("text", 64),
     ]),
 };
