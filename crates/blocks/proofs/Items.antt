@@ -8,7 +8,7 @@ use borrow.Author.Tests.{eq-eqb, ne-eqb, eqb-true, le-leb, leb-true, not-true, n
 use lib.Dec.{eqb, leb}
 use lib.ListN.{length, drop, getD, length-drop, length-map}
 use Rattle.format.specs.Basics.{unless, fine}
-use Rattle.format.specs.Record.{Kind, head, item, isHead, countIndex, Data, nothing, View, view}
+use Rattle.format.specs.Record.{Kind, head, item, neither, isHead, countIndex, Data, nothing, View, view}
 use Rattle.format.specs.Judge.{lowestLevel, highestLevel, openAfter, faultAt, walk}
 use Rattle.format.specs.Edit.{isBlock, blockOf}
 use Rattle.format.proofs.Basics.{and-true}
@@ -30,10 +30,12 @@ use Rattle.blocks.specs.Steps.{isItem, dataWalk}
 pub item-low : (k : Kind) → isHead k ≡ false → lowestLevel k ≡ 2
 item-low head e = absurd (true≢false e)
 item-low (item k) e = refl
+item-low neither e = refl
 
 pub item-high : (k : Kind) → isHead k ≡ false → highestLevel k ≡ 9
 item-high head e = absurd (true≢false e)
 item-high (item k) e = refl
+item-high neither e = refl
 
 -- what the test of the first record says
 record FirstRecord (e : Entry) (behind : ℕ) : Type 0 where

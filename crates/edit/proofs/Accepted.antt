@@ -9,10 +9,10 @@ use lib.Dec.{eqb}
 use lib.ListN.{length, take, drop, getD, length-append, length-drop, length-map, take-append-drop}
 use lib.Seq.{length-take-le}
 use Rattle.format.specs.Basics.{refused, none, fault, chunks, flat}
-use Rattle.format.specs.Record.{Kind, head, item, nothing, View, view}
+use Rattle.format.specs.Record.{Kind, head, item, neither, nothing, View, view}
 use Rattle.format.specs.Sheet.{partLength, sheetFault, statedElements, statedRecords}
 use Rattle.format.specs.Judge.{fileOf, items, headersAndItems, dueAfter, one-if-item, judgeSheet}
-use Rattle.format.specs.Edit.{Edit, insert, remove, RecordList, plain, conclude, insertFault, inserted, remove11, removed, blockOf, dueBehind, openBehind, before, after, at}
+use Rattle.format.specs.Edit.{Edit, insert, remove, RecordList, plain, conclude, insertFault, inserted, remove11, removed, blockOf, dueBehind, openBehind, before, after, bodyPlace}
 use Rattle.format.specs.Run.{Buffer, bufferOf, listOf, call}
 use Rattle.format.proofs.Run.{Opened, accepted-opened, call-plain}
 use Rattle.format.proofs.EditInsert.{fine-none}
@@ -34,6 +34,7 @@ items-few zero (r ∷ rs) = omega (arith, items-few (dueAfter 0 r) rs, one-most 
     one-most : (k : Kind) → one-if-item k ≤ 1
     one-most head = omega arith
     one-most (item k) = omega arith
+    one-most neither = omega arith
 items-few (suc due) (r ∷ rs) = omega (arith, items-few due rs)
 
 -- a refusal of judging is the answer
@@ -140,7 +141,7 @@ module _ (l : List ℕ) (used : ℕ) (a : Accepts l used) where
   -- ---- a place
   module _ (place : ℕ) where
     pub passed : Passes 0 0 nothing (before (fileOf (chunks (used / 84) l)) (drop used l) place)
-    passed = (passes-split 0 0 nothing (before (fileOf (chunks (used / 84) l)) (drop used l) place) (after (fileOf (chunks (used / 84) l)) (drop used l) place) (rw (take-append-drop (at (fileOf (chunks (used / 84) l)) (drop used l) place) ((fileOf (chunks (used / 84) l)) .body)) (held .ok .walks .0))) .0
+    passed = (passes-split 0 0 nothing (before (fileOf (chunks (used / 84) l)) (drop used l) place) (after (fileOf (chunks (used / 84) l)) (drop used l) place) (rw (take-append-drop (bodyPlace (fileOf (chunks (used / 84) l)) place) ((fileOf (chunks (used / 84) l)) .body)) (held .ok .walks .0))) .0
 
     pub behind : Passes (openBehind 0 0 (before (fileOf (chunks (used / 84) l)) (drop used l) place)) (dueBehind 0 (before (fileOf (chunks (used / 84) l)) (drop used l) place)) (sort 0 nothing (before (fileOf (chunks (used / 84) l)) (drop used l) place)) (after (fileOf (chunks (used / 84) l)) (drop used l) place)
-    behind = (passes-split 0 0 nothing (before (fileOf (chunks (used / 84) l)) (drop used l) place) (after (fileOf (chunks (used / 84) l)) (drop used l) place) (rw (take-append-drop (at (fileOf (chunks (used / 84) l)) (drop used l) place) ((fileOf (chunks (used / 84) l)) .body)) (held .ok .walks .0))) .1
+    behind = (passes-split 0 0 nothing (before (fileOf (chunks (used / 84) l)) (drop used l) place) (after (fileOf (chunks (used / 84) l)) (drop used l) place) (rw (take-append-drop (bodyPlace (fileOf (chunks (used / 84) l)) place) ((fileOf (chunks (used / 84) l)) .body)) (held .ok .walks .0))) .1

@@ -13,7 +13,7 @@ use Rattle.format.specs.Record.{isHead, countIndex, nothing, View, view, countI
 use Rattle.format.specs.Layout.{numberAt, header}
 use Rattle.format.specs.Sheet.{partLength}
 use Rattle.format.specs.Judge.{File, fileOf}
-use Rattle.format.specs.Edit.{absent, aboveIn, lastHeader, dueBehind, openBehind, notBelow, before, after, at}
+use Rattle.format.specs.Edit.{absent, aboveIn, lastHeader, dueBehind, openBehind, notBelow, before, after, bodyPlace}
 use Rattle.format.proofs.Above.{Split, find-in, lastHeader-split}
 use Rattle.format.proofs.EditInsert.{above-is}
 use Rattle.format.proofs.Lists.{wide-get}
@@ -37,7 +37,7 @@ module _ (l : List ℕ) (used place : ℕ) (a : Accepts l used) where
   pre = before (fileOf (chunks (used / 84) l)) (drop used l) place
 
   abbrev q : ℕ
-  q = at (fileOf (chunks (used / 84) l)) (drop used l) place
+  q = bodyPlace (fileOf (chunks (used / 84) l)) place
 
   abbrev here-record : List ℕ
   here-record = getD (chunks (used / 84) l) (partLength (chunks (used / 84) l) + q) []

@@ -13,7 +13,7 @@ use Rattle.format.specs.Layout.{numberAt, header}
 use Rattle.format.specs.Record.{countIndex, View, view, countIn}
 use Rattle.format.specs.Sheet.{partLength}
 use Rattle.format.specs.Judge.{File, fileOf}
-use Rattle.format.specs.Edit.{insertFault, insert11, fault12, fault13, fault14, from15, aboveBlock, blockOf, absent, aboveIn, dueBehind, openBehind, notBelow, before, after, at}
+use Rattle.format.specs.Edit.{insertFault, insert11, fault12, fault13, fault14, insert15, aboveBlock, blockOf, absent, aboveIn, dueBehind, openBehind, notBelow, before, after, bodyPlace}
 use Rattle.format.proofs.Basics.{and-true}
 use Rattle.format.proofs.Lists.{length-chunks, flat-chunks}
 use Rattle.records.specs.Entry.{entryOf}
@@ -100,21 +100,21 @@ module _ (l : List ℕ) (used place : ℕ) (block : List ℕ) (a : Accepts l use
     used-length = length-take-le used l (inside l used a)
 
     pub past-end : length (take used l) / 84 - part .length < place - part .length - 1 → InsertionPlanned l used place block (Refuse 11 0)
-    past-end k = refusal 10 (rw (behind-part, lt-leb (at file tail place) (length (file .body)) (omega (arith, k, used-length, length-is l used a part part-is, length-body l used a))))
+    past-end k = refusal 10 (rw (behind-part, lt-leb (bodyPlace file place) (length (file .body)) (omega (arith, k, used-length, length-is l used a part part-is, length-body l used a))))
 
     module _ (k : place - part .length - 1 ≤ length (take used l) / 84 - part .length) (here : Place) (here-is : here ≡ placeOf (take used l) (part .length) (place - part .length - 1)) where
-      at-inside : at file tail place ≤ length (file .body)
+      at-inside : bodyPlace file place ≤ length (file .body)
       at-inside = omega (arith, k, used-length, length-is l used a part part-is, length-body l used a)
 
       pub no-start : (here .due ≡ 0 → ⊥) → InsertionPlanned l used place block (Refuse 11 0)
-      no-start d = refusal 10 (rw (behind-part, le-leb (at file tail place) (length (file .body)) at-inside, ne-eqb (dueBehind 0 pre) 0 (λ z. d (due-is l used place a part part-is h here here-is ∙ z))))
+      no-start d = refusal 10 (rw (behind-part, le-leb (bodyPlace file place) (length (file .body)) at-inside, ne-eqb (dueBehind 0 pre) 0 (λ z. d (due-is l used place a part part-is h here here-is ∙ z))))
 
       module _ (d : here .due ≡ 0) where
         closed : dueBehind 0 pre ≡ 0
         closed = sym (due-is l used place a part part-is h here here-is) ∙ d
 
         eleven : insert11 file tail place ≡ 0
-        eleven = rw (behind-part, le-leb (at file tail place) (length (file .body)) at-inside, eq-eqb (dueBehind 0 pre) 0 closed)
+        eleven = rw (behind-part, le-leb (bodyPlace file place) (length (file .body)) at-inside, eq-eqb (dueBehind 0 pre) 0 closed)
 
         module _ (answer : Block) (answer-is : answer ≡ blockItem block) where
           pub no-item : answer ≡ NoItem → InsertionPlanned l used place block (Refuse 12 0)
@@ -159,7 +159,7 @@ module _ (l : List ℕ) (used place : ℕ) (block : List ℕ) (a : Accepts l use
                 low : 1 ≤ aboveIn level pre
                 low = above-low l used place a level at-inside (one .low) up-to
 
-                high : aboveIn level pre ≤ at file tail place
+                high : aboveIn level pre ≤ bodyPlace file place
                 high = above-high l used place a level at-inside (one .low) up-to
 
                 -- what the code computes stays small
@@ -211,7 +211,7 @@ module _ (l : List ℕ) (used place : ℕ) (block : List ℕ) (a : Accepts l use
                   unfolding hasRoom
                   fourteen = rw (total-seen, count-seen, ← (one .kind-is), records-then)
 
-                  fifteen : from15 file tail place views ≡ unless (leb (length block) (length l - used)) 15
+                  fifteen : insert15 file tail place views ≡ unless (leb (length block) (length l - used)) 15
                   fifteen = rw (length-map (blockOf block) view, long, length-drop used l)
 
                   fault-is : insertFault file tail place views ≡ first (unless room 14) (unless (leb (length block) (length l - used)) 15)
@@ -239,7 +239,7 @@ module _ (l : List ℕ) (used place : ℕ) (block : List ℕ) (a : Accepts l use
                     outcome = insert-stored l used place a block (bytes-block block (one .no-fault)) change fault at-inside (rw level-is (one .low)) (rw level-is up-to) (rw (← (one .kind-is)) (one .kind-most)) (rw level-is index-header) (one .kind-is) (ap (λ (z : List ℕ). numberAt header "total" z + 1) (rw level-is above-record)) (ap₂ (λ (z : List ℕ) (j : ℕ). countIn z j + 1) (rw level-is above-record) (one .kind-is)) (ap (λ (z : ℕ). z + 1) (elements-is l used a part part-is)) (ap₂ _+_ (records-is l used a part part-is) (sym (length-block block (one .no-fault)))) start-is long;
                   }
                     where
-                      start-is : 84 * (part .length + (place - part .length - 1)) ≡ 84 * (partLength rs + at file tail place)
+                      start-is : 84 * (part .length + (place - part .length - 1)) ≡ 84 * (partLength rs + bodyPlace file place)
                       start-is = ap (λ (z : ℕ). 84 * z) (index-is l used place a part part-is h here here-is)
 
                       x : (leb (numberAt header "total" above + 1) 99999 && (not (eqb kind 9) || leb (countIn above kind + 1) 9) ≡ true) × (leb (used / 84 + length block / 84) 200000 ≡ true)

@@ -14,7 +14,7 @@ use Rattle.format.specs.Layout.{numberAt, header}
 use Rattle.format.specs.Record.{isHead, countIndex, View, countIn}
 use Rattle.format.specs.Sheet.{partLength}
 use Rattle.format.specs.Judge.{File, fileOf}
-use Rattle.format.specs.Edit.{remove11, absent, aboveIn, dueBehind, openBehind, before, at}
+use Rattle.format.specs.Edit.{remove11, absent, aboveIn, dueBehind, openBehind, before, bodyPlace}
 use Rattle.format.proofs.EditItems.{item-low}
 use Rattle.format.proofs.RecordHeaders.{number-total}
 use Rattle.format.proofs.EditRemove.{cuts, enough}
@@ -58,7 +58,7 @@ module _ (l : List ℕ) (used place : ℕ) (a : Accepts l used) (part : SheetPar
   pre = before (fileOf (chunks (used / 84) l)) (drop used l) place
 
   abbrev q : ℕ
-  q = at (fileOf (chunks (used / 84) l)) (drop used l) place
+  q = bodyPlace (fileOf (chunks (used / 84) l)) place
 
   abbrev gone : View
   gone = getD ((fileOf (chunks (used / 84) l)) .body) q absent

@@ -10,7 +10,7 @@ use Rattle.format.specs.Layout.{numberAt, header}
 use Rattle.format.specs.Record.{countIndex, countName, View, countIn, rewrite, lower}
 use Rattle.format.specs.Sheet.{partLength, statedElements, statedRecords, writeCounts}
 use Rattle.format.specs.Judge.{File, fileOf}
-use Rattle.format.specs.Edit.{remove, plain, remove11, removed, alterAt, absent, aboveIn, openBehind, before, at}
+use Rattle.format.specs.Edit.{remove, plain, remove11, removed, alterAt, absent, aboveIn, openBehind, before, bodyPlace}
 use Rattle.format.specs.Run.{listOf, call}
 use Rattle.format.proofs.Lists.{Wide, wide-append, wide-take, wide-drop, length-alterAt}
 use Rattle.format.proofs.EditMoves.{as-records}
@@ -35,7 +35,7 @@ module _ (l : List ℕ) (used place : ℕ) (a : Accepts l used) (c : Change) whe
   pre = before (fileOf (chunks (used / 84) l)) (drop used l) place
 
   abbrev q : ℕ
-  q = at (fileOf (chunks (used / 84) l)) (drop used l) place
+  q = bodyPlace (fileOf (chunks (used / 84) l)) place
 
   abbrev item : View
   item = getD ((fileOf (chunks (used / 84) l)) .body) q absent

@@ -8,16 +8,16 @@ use lib.IntN.{ℤ}
 use lib.ListN.{length}
 use borrow.Author.Tests.{lt-leb}
 use Rattle.format.specs.Text.{bytes}
-use Rattle.format.specs.Basics.{given, refused, chunks}
-use Rattle.format.specs.Record.{View, isHead}
-use Rattle.format.specs.Program.{line}
+use Rattle.format.specs.Basics.{given, refused, none, chunks}
+use Rattle.format.specs.Record.{View, isHead, nothing}
+use Rattle.format.specs.Program.{line, printed}
 use Rattle.format.specs.Column.{readAlone, writeAlone}
 use Rattle.format.specs.Corner.{Corner, join, split}
-use Rattle.format.specs.Judge.{File, fileOf, headersAndItems, accepted, judge, judgeSheet}
+use Rattle.format.specs.Judge.{File, fileOf, headersAndItems, countUnder, walk, accepted, judge, judgeSheet}
 use Rattle.format.specs.Edit.{Edit, dueBehind}
 use Rattle.format.specs.Run.{Buffer, Runs, Sound}
-use Rattle.format.specs.Above.{literal}
-use Rattle.format.proofs.JudgeWalks.{headersAndItems-append}
+use Rattle.format.specs.Above.{countWithAbove}
+use Rattle.format.proofs.JudgeWalks.{headersAndItems-append, walk-passes}
 use Rattle.format.proofs.JudgeCounts.{Agree, counted-at}
 use Rattle.format.proofs.Above.{dataRecords-head}
 use Rattle.format.proofs.JudgeAccepted.{Ok, accepted-ok}
@@ -59,21 +59,25 @@ body-judged b n m e = sym (held-judged theLaws _ (o .held)) ∙ ap (λ (x : Buff
     o : Opened theLaws b
     o = accepted-opened theLaws b n m e
 
--- the counts of an accepted sheet, in document 01's own words: what a header states of a kind is the number of headers and items of that kind
--- whose header above it is
-pub counts-mean : (f : File) (n m : ℕ) → judge f ≡ accepted n m → (P Q : List View) (h : View) → f .body ≡ P ++ h ∷ Q → dueBehind 0 P ≡ 0 → isHead (h .kind) ≡ true → (j : ℕ) → j < 10 → h .count j ≡ literal (suc (length P)) j [] 0 (f .body)
-counts-mean f n m e P Q h is closed hh j l = agree .each j l ∙ sym (meaning (f .body) P h Q j (k .walks .0) is closed hh)
+-- the counts in document 01's own words, of every body that passes stage two: what stands one level below under a header, of a kind, are the
+-- headers and items of that kind whose header above it is. So the counts that 10 compares are these, accepted or refused
+pub counts-mean : (f : File) → walk 0 0 nothing 0 (suc (f .partLength)) (f .body) ≡ none → (P Q : List View) (h : View) → f .body ≡ P ++ h ∷ Q → dueBehind 0 P ≡ 0 → isHead (h .kind) ≡ true → (kind : ℕ) → countUnder (h .level) kind (headersAndItems 0 Q) ≡ countWithAbove (suc (length P)) kind [] 0 (f .body)
+counts-mean f e P Q h is due hh kind = sym (meaning (f .body) P h Q kind ((walk-passes 0 0 nothing 0 (suc (f .partLength)) (f .body) e) .0) is due hh)
+
+-- an accepted sheet's headers state them
+pub counts-stated : (f : File) (n m : ℕ) → judge f ≡ accepted n m → (P Q : List View) (h : View) → f .body ≡ P ++ h ∷ Q → dueBehind 0 P ≡ 0 → isHead (h .kind) ≡ true → (kind : ℕ) → kind < 10 → h .count kind ≡ countWithAbove (suc (length P)) kind [] 0 (f .body)
+counts-stated f n m e P Q h is due hh kind l = agree .each kind l ∙ sym (meaning (f .body) P h Q kind (k .walks .0) is due hh)
   where
     k : Ok f
     k = accepted-ok f n m e
 
     entries : headersAndItems 0 (f .body) ≡ headersAndItems 0 P ++ h ∷ headersAndItems 0 Q
-    entries = ap (headersAndItems 0) is ∙ headersAndItems-append 0 P (h ∷ Q) ∙ rw (closed, dataRecords-head h hh)
+    entries = ap (headersAndItems 0) is ∙ headersAndItems-append 0 P (h ∷ Q) ∙ rw (due, dataRecords-head h hh)
 
     agree : Agree h (headersAndItems 0 Q)
     agree = counted-at (headersAndItems 0 P) h (headersAndItems 0 Q) hh (rw entries at (k .counted))
 
 -- a longer input is not judged
-pub too-long : (input : List ℕ) → 65520 < length input → line input ≡ bytes "too long"
-unfolding line
+pub too-long : (input : List ℕ) → 65520 < length input → printed input ≡ bytes "too long" ++ 10 ∷ []
+unfolding printed line
 too-long input h = rw (lt-leb (length input) 65520 h)

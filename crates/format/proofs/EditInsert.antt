@@ -1,21 +1,22 @@
 -- An accepted insertion into an accepted sheet gives an accepted sheet. Assumes nothing.
 use mathlib.Core.Path.{_≡_, refl, ap, sym, _∙_}
 use mathlib.Core.Bool.{Bool, true, false, cond, not, _&&_, _||_, false≢true}
-use mathlib.Core.List.{List, _∷_, _++_}
+use mathlib.Core.List.{List, [], _∷_, _++_}
 use Prim.Native.Nat.{ℕ, suc, pred, _+_, _≤_, _<_}
 use native.Mathlib.Omega.{arith}
 use lib.Dec.{leb, ltb, eqb}
 use lib.ListN.{length, getD, take-append-drop}
 use borrow.Author.Tests.{leb-true, eqb-true, eqb-false, eq-eqb, ne-eqb, not-true}
 use Rattle.format.specs.Record.{Data, View, isHead, nothing, countIndex}
-use Rattle.format.specs.Basics.{Fault, fault, fine, none, unless}
+use Rattle.format.specs.Above.{NoHeaderOf}
+use Rattle.format.specs.Basics.{Fault, fault, fine, first, none, unless}
 use Rattle.format.specs.Judge.{File, headersAndItems, walk}
-use Rattle.format.specs.Edit.{aboveIn, after, at, before, absent, from12, from13, from14, from15, fault14, isBlock, fault13, notBelow, insert11, insertFault, dueBehind, openBehind}
+use Rattle.format.specs.Edit.{aboveIn, after, before, absent, fault12, insert13, insert14, insert15, fault14, isBlock, fault13, notBelow, insert11, insertFault, dueBehind, openBehind, bodyPlace}
 use Rattle.format.proofs.EditViews.{change, more, put}
 use Rattle.format.proofs.Basics.{and-true, first-zero, unless-zero}
 use lib.Seq.{getD-append-seam}
 use Rattle.format.proofs.JudgeWalks.{sort, Passes, good, dueBehind-append, walk-passes, passes-split}
-use Rattle.format.proofs.JudgeCounts.{Clear, OneMore, Agree, counted-at, sum-ge}
+use Rattle.format.proofs.JudgeCounts.{OneMore, Agree, counted-at, sum-ge}
 use Rattle.format.proofs.Above.{dataRecords-head, Split, find-in, lastHeader-split, alter-at}
 use Rattle.format.proofs.EditItems.{Alike, headersAndItems-pre, low-block, grow-counted, grow-items, grow-passes, grow-dueBehind}
 use Rattle.format.proofs.JudgeAccepted.{Ok}
@@ -54,6 +55,14 @@ more-one v j h = record { kinds = refl; levels = refl; totals = refl; counts = �
     go k true e = rw (e, eq-eqb k j (sym (eqb-true j k e))) (omega arith)
     go k false e = rw (e, ne-eqb k j (λ q. eqb-false j k e (sym q))) (omega arith)
 
+-- nothing stands before 12 to 15, of a block that no 11 refuses
+abbrev from13 : (f : File) (tail : List ℕ) (p : ℕ) → List View → ℕ
+from13 f tail p block = first (insert13 f tail p block) (first (insert14 f tail p block) (insert15 f tail p block))
+
+-- an empty block is refused
+pub empty-refused : (f : File) (tail : List ℕ) (p : ℕ) → insertFault f tail p [] ≡ 0 → ⊥
+empty-refused f tail p e = omega (arith, (first-zero 12 (from13 f tail p []) ((first-zero (insert11 f tail p) (first 12 (from13 f tail p [])) e) .1)) .0)
+
 -- what an insertion that is not refused has
 pub record Fits (pre suf : List View) (b : View) (ds : List View) (n : ℕ) : Type 0 where
   pub closed : dueBehind 0 pre ≡ 0
@@ -69,10 +78,10 @@ pub record Fits (pre suf : List View) (b : View) (ds : List View) (n : ℕ) : Ty
 pub fits : (f : File) (tail : List ℕ) (p : ℕ) (b : View) (ds : List View) → insertFault f tail p (b ∷ ds) ≡ 0 → Fits (before f tail p) (after f tail p) b ds (f .partLength + length (f .body) + length (b ∷ ds))
 fits f tail p b ds e = record { closed = eqb-true _ _ (a .1); is-item = not-true _ (i .0); passes = (walk-passes 8 0 nothing 0 0 (b ∷ ds) (fine-none _ (j .0))) .0; whole = eqb-true _ _ (j .1); near = leb-true _ _ (n .0); below = n .1; total-fits = leb-true _ _ (u .0); nine-fits = λ e₉. nine-of e₉ (u .1); file-fits = leb-true _ _ (v .1) }
   where
-    x : (insert11 f tail p ≡ 0) × (from12 f tail p (b ∷ ds) ≡ 0)
+    x : (insert11 f tail p ≡ 0) × (first (fault12 (b ∷ ds)) (from13 f tail p (b ∷ ds)) ≡ 0)
     x = first-zero (insert11 f tail p) _ e
 
-    a : (ltb (f .partLength) p && leb (at f tail p) (length (f .body)) ≡ true) × (eqb (dueBehind 0 (before f tail p)) 0 ≡ true)
+    a : (ltb (f .partLength) p && leb (bodyPlace f p) (length (f .body)) ≡ true) × (eqb (dueBehind 0 (before f tail p)) 0 ≡ true)
     a = and-true _ _ (unless-zero _ _ (x .0))
 
     y : (unless (isBlock b ds) 12 ≡ 0) × (from13 f tail p (b ∷ ds) ≡ 0)
@@ -84,7 +93,7 @@ fits f tail p b ds e = record { closed = eqb-true _ _ (a .1); is-item = not-true
     j : (fine (walk 8 0 nothing 0 0 (b ∷ ds)) ≡ true) × (eqb (length ds) (b .dataRecords) ≡ true)
     j = and-true _ _ (i .1)
 
-    z : (fault13 (openBehind 0 0 (before f tail p)) b (after f tail p) ≡ 0) × (from14 f tail p (b ∷ ds) ≡ 0)
+    z : (fault13 (openBehind 0 0 (before f tail p)) b (after f tail p) ≡ 0) × (first (insert14 f tail p (b ∷ ds)) (insert15 f tail p (b ∷ ds)) ≡ 0)
     z = first-zero (fault13 (openBehind 0 0 (before f tail p)) b (after f tail p)) _ (y .1)
 
     n : (leb (b .level) (suc (openBehind 0 0 (before f tail p))) ≡ true) × (notBelow (b .level) (after f tail p) ≡ true)
@@ -93,7 +102,7 @@ fits f tail p b ds e = record { closed = eqb-true _ _ (a .1); is-item = not-true
     h : View
     h = getD (before f tail p) (pred (aboveIn (b .level) (before f tail p))) absent
 
-    w : (fault14 h (countIndex (b .kind)) (f .partLength + length (f .body) + length (b ∷ ds)) ≡ 0) × (from15 f tail p (b ∷ ds) ≡ 0)
+    w : (fault14 h (countIndex (b .kind)) (f .partLength + length (f .body) + length (b ∷ ds)) ≡ 0) × (insert15 f tail p (b ∷ ds) ≡ 0)
     w = first-zero (fault14 h (countIndex (b .kind)) (f .partLength + length (f .body) + length (b ∷ ds))) _ (z .1)
 
     v : (leb (h .total + 1) 99999 && (not (eqb (countIndex (b .kind)) 9) || leb (h .count (countIndex (b .kind)) + 1) 9) ≡ true) × (leb (f .partLength + length (f .body) + length (b ∷ ds)) 200000 ≡ true)
@@ -113,7 +122,7 @@ module _ (f : File) (tail : List ℕ) (p : ℕ) (b : View) (ds : List View) (k :
   suf = after f tail p
 
   pub passed : Passes 0 0 nothing (before f tail p)
-  passed = (passes-split 0 0 nothing (before f tail p) (after f tail p) (rw (take-append-drop (at f tail p) (f .body)) (k .walks .0))) .0
+  passed = (passes-split 0 0 nothing (before f tail p) (after f tail p) (rw (take-append-drop (bodyPlace f p) (f .body)) (k .walks .0))) .0
 
   pub sp : Split (pred (b .level)) 0 (before f tail p)
   sp = find-in (pred (b .level)) nothing (before f tail p) passed (omega (arith, low-block b ds (t .is-item) (t .whole) 8 nothing ds (t .passes))) (omega (arith, t .near))
@@ -123,7 +132,7 @@ module _ (f : File) (tail : List ℕ) (p : ℕ) (b : View) (ds : List View) (k :
   above-counts = omega (arith, agree .whole, sum-ge 10 (sp .it .count) (countIndex (b .kind)) (omega (arith, (good 8 nothing b (t .passes .0)) .known)))
     where
       is-old : f .body ≡ sp .front ++ sp .it ∷ sp .back ++ after f tail p
-      is-old = sym (take-append-drop (at f tail p) (f .body)) ∙ ap (λ (x : List View). x ++ after f tail p) (sp .whole)
+      is-old = sym (take-append-drop (bodyPlace f p) (f .body)) ∙ ap (λ (x : List View). x ++ after f tail p) (sp .whole)
 
       agree : Agree (sp .it) (headersAndItems 0 (sp .back) ++ headersAndItems 0 (after f tail p))
       agree = counted-at (headersAndItems 0 (sp .front)) (sp .it) _ (sp .is-head) (rw (is-old, headersAndItems-pre (sp .front) (sp .back) (sp .closed) (back-closed _ _ sp (t .closed)) (sp .it) (sp .is-head) (after f tail p)) at (k .counted))
@@ -166,7 +175,7 @@ module _ (f : File) (tail : List ℕ) (p : ℕ) (b : View) (ds : List View) (k :
       hh : isHead (h .kind) ≡ true
       hh = sp .is-head
 
-      cl : Clear (h .level) (headersAndItems 0 B)
+      cl : NoHeaderOf (h .level) (headersAndItems 0 B)
       cl = rw (sp .is-level) (sp .clear)
 
       bi : isHead (b .kind) ≡ false
@@ -185,7 +194,7 @@ module _ (f : File) (tail : List ℕ) (p : ℕ) (b : View) (ds : List View) (k :
       small = omega (arith, (good 8 nothing b (t .passes .0)) .known)
 
       is-old : f .body ≡ F ++ h ∷ B ++ S
-      is-old = sym (take-append-drop (at f tail p) (f .body)) ∙ ap (λ (x : List View). x ++ S) (sp .whole)
+      is-old = sym (take-append-drop (bodyPlace f p) (f .body)) ∙ ap (λ (x : List View). x ++ S) (sp .whole)
 
       is-new : change (more v) b (before f tail p) ++ (b ∷ ds ++ S) ≡ F ++ h′ ∷ B ++ (b ∷ ds ++ S)
       is-new = ap (λ (x : List View). x ++ (b ∷ ds ++ S)) (change-split (more v) b (before f tail p) sp)

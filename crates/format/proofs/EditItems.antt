@@ -6,12 +6,13 @@ use Prim.Native.Nat.{ℕ, zero, suc, pred, _+_, _≤_, _<_}
 use native.Mathlib.Omega.{arith}
 use lib.ListN.{length, length-append}
 use borrow.Author.Tests.{le-leb}
-use Rattle.format.specs.Record.{Data, Kind, View, head, isHead, item, nothing, countIndex}
+use Rattle.format.specs.Record.{Data, Kind, View, head, isHead, item, neither, nothing, countIndex}
+use Rattle.format.specs.Above.{NoHeaderOf}
 use Rattle.format.specs.Judge.{faultAt, headersAndItems, items, dueAfter, lowestLevel, dueOf, one-if-item, openOf, openAfter}
 use Rattle.format.proofs.EditViews.{less, more}
 use Rattle.format.specs.Edit.{notBelow, dueBehind, openBehind}
 use Rattle.format.proofs.JudgeWalks.{Passes, good, reopen, sort, headersAndItems-append, dueBehind-append, openBehind-append, passes-split, passes-join}
-use Rattle.format.proofs.JudgeCounts.{Clear, Counted, OneMore, counts-up, counts-down}
+use Rattle.format.proofs.JudgeCounts.{Counted, OneMore, counts-up, counts-down}
 use Rattle.format.proofs.Above.{dataRecords-head}
 
 pub items-append : (a b : List View) → items (a ++ b) ≡ items a + items b
@@ -43,6 +44,7 @@ item-dataRecords b e = go (b .kind) e
     go : (k : Kind) → isHead k ≡ false → dueOf k (b .dataRecords) ≡ b .dataRecords
     go head e = absurd (true≢false e)
     go (item k) e = refl
+    go neither e = refl
 
 pub item-open : (o : ℕ) (b : View) → isHead (b .kind) ≡ false → openAfter o 0 b ≡ pred (b .level)
 item-open o b e = go (b .kind) e
@@ -50,6 +52,7 @@ item-open o b e = go (b .kind) e
     go : (k : Kind) → isHead k ≡ false → openOf k (b .level) ≡ pred (b .level)
     go head e = absurd (true≢false e)
     go (item k) e = refl
+    go neither e = refl
 
 pub item-low : (b : View) → isHead (b .kind) ≡ false → lowestLevel (b .kind) ≡ 2
 item-low b e = go (b .kind) e
@@ -57,6 +60,7 @@ item-low b e = go (b .kind) e
     go : (k : Kind) → isHead k ≡ false → lowestLevel k ≡ 2
     go head e = absurd (true≢false e)
     go (item k) e = refl
+    go neither e = refl
 
 -- two records that differ in their counts alone
 pub record Alike (h h′ : View) : Type 0 where
@@ -135,7 +139,7 @@ module _ (F B : List View) (clF : dueBehind 0 F ≡ 0) (clB : dueBehind 0 B ≡ 
   pub headersAndItems-with : (x : View) → isHead (x .kind) ≡ true → (b : View) (ds S : List View) → isHead (b .kind) ≡ false → length ds ≡ b .dataRecords → headersAndItems 0 (F ++ x ∷ B ++ (b ∷ ds ++ S)) ≡ headersAndItems 0 F ++ x ∷ (headersAndItems 0 B ++ b ∷ headersAndItems 0 S)
   headersAndItems-with x e b ds S bi bn = headersAndItems-pre x e (b ∷ ds ++ S) ∙ rw (item-dataRecords b bi, headersAndItems-data (b .dataRecords) ds S bn)
 
-module _ (F : List View) (h h′ : View) (B : List View) (b : View) (ds S : List View) (al : Alike h h′) (m : OneMore (countIndex (b .kind)) h h′) (clF : dueBehind 0 F ≡ 0) (clB : dueBehind 0 B ≡ 0) (hh : isHead (h .kind) ≡ true) (clear : Clear (h .level) (headersAndItems 0 B)) (bi : isHead (b .kind) ≡ false) (bl : b .level ≡ suc (h .level)) (bn : length ds ≡ b .dataRecords) (small : countIndex (b .kind) < 10) where
+module _ (F : List View) (h h′ : View) (B : List View) (b : View) (ds S : List View) (al : Alike h h′) (m : OneMore (countIndex (b .kind)) h h′) (clF : dueBehind 0 F ≡ 0) (clB : dueBehind 0 B ≡ 0) (hh : isHead (h .kind) ≡ true) (clear : NoHeaderOf (h .level) (headersAndItems 0 B)) (bi : isHead (b .kind) ≡ false) (bl : b .level ≡ suc (h .level)) (bn : length ds ≡ b .dataRecords) (small : countIndex (b .kind) < 10) where
   hh′ : isHead (h′ .kind) ≡ true
   hh′ = rw (al .kinds) hh
 
@@ -166,6 +170,7 @@ module _ (F : List View) (h h′ : View) (B : List View) (b : View) (ds S : List
           go : (k : Kind) → isHead k ≡ false → one-if-item k ≡ 1
           go head e = absurd (true≢false e)
           go (item k) e = refl
+          go neither e = refl
 
   pub grow-length : length new ≡ length old + suc (b .dataRecords)
   grow-length = simp length-append (omega arith)

@@ -8,8 +8,8 @@ use lib.ListN.{length, length-append, take, drop, getD, take-append-drop, length
 use lib.Seq.{length-take-le, drop-at}
 use Rattle.format.specs.Basics.{fine}
 use Rattle.format.specs.Judge.{File, fileOf, headersAndItems, items, dueAfter, one-if-item}
-use Rattle.format.specs.Record.{Data, Kind, View, asData, head, isHead, item, lower, nothing, raise, countIndex, view}
-use Rattle.format.specs.Edit.{RecordList, aboveIn, after, alterAt, at, before, absent, bodyRecords, changed, removed, removedItem, inserted}
+use Rattle.format.specs.Record.{Data, Kind, View, asData, head, isHead, item, neither, lower, nothing, raise, countIndex, view}
+use Rattle.format.specs.Edit.{RecordList, aboveIn, after, alterAt, before, absent, bodyRecords, changed, removed, removedItem, inserted, bodyPlace}
 use Rattle.format.proofs.EditViews.{alter, change, cut, gone, less, more, put}
 use Rattle.format.specs.Sheet.{statedElements, partLength, sheetFault, statedRecords, writeCounts}
 use Rattle.format.proofs.JudgeWalks.{good}
@@ -52,10 +52,10 @@ length-alter m zero (r ∷ l) = refl
 length-alter m (suc i) (r ∷ l) = ap suc (length-alter m i l)
 
 put-length : (f : File) (tail : List ℕ) (p : ℕ) (v : Data → ℕ → ℕ) (b : View) (ds : List View) → length ((put f tail p v (b ∷ ds)) .file .body) ≡ length (f .body) + suc (length ds)
-put-length f tail p v b ds = simp (length-append, length-alter) (omega (arith, simp length-append at (ap length (take-append-drop (at f tail p) (f .body)))))
+put-length f tail p v b ds = simp (length-append, length-alter) (omega (arith, simp length-append at (ap length (take-append-drop (bodyPlace f p) (f .body)))))
 
 cut-length : (f : File) (tail : List ℕ) (p : ℕ) (v : Data → ℕ → ℕ) → suc ((gone f tail p) .dataRecords) ≤ length (after f tail p) → length ((cut f tail p v) .file .body) ≡ length (f .body) - suc ((gone f tail p) .dataRecords)
-cut-length f tail p v h = rw (length-append (change (less v) (gone f tail p) (before f tail p)) (drop (suc ((gone f tail p) .dataRecords)) (after f tail p)), length-alter (less v (countIndex ((gone f tail p) .kind))) (pred (aboveIn ((gone f tail p) .level) (before f tail p))) (before f tail p), length-drop (suc ((gone f tail p) .dataRecords)) (after f tail p)) (omega (arith, simp length-append at (ap length (take-append-drop (at f tail p) (f .body)))))
+cut-length f tail p v h = rw (length-append (change (less v) (gone f tail p) (before f tail p)) (drop (suc ((gone f tail p) .dataRecords)) (after f tail p)), length-alter (less v (countIndex ((gone f tail p) .kind))) (pred (aboveIn ((gone f tail p) .level) (before f tail p))) (before f tail p), length-drop (suc ((gone f tail p) .dataRecords)) (after f tail p)) (omega (arith, simp length-append at (ap length (take-append-drop (bodyPlace f p) (f .body)))))
 
 -- no more items than records
 items-few : (n : ℕ) (rs : List View) → items (headersAndItems n rs) ≤ length rs
@@ -65,6 +65,7 @@ items-few zero (r ∷ rs) = omega (arith, items-few (dueAfter 0 r) rs, one-most 
     one-most : (k : Kind) → one-if-item k ≤ 1
     one-most head = omega arith
     one-most (item k) = omega arith
+    one-most neither = omega arith
 items-few (suc n) (r ∷ rs) = omega (arith, items-few n rs)
 
 module _ (L : Lawful) where
@@ -89,14 +90,14 @@ module _ (L : Lawful) where
   module _ (g : RecordList) (p : ℕ) (x : List ℕ) (xs : List (List ℕ)) (k : Held g) (t : Fits (before (fileOf (g .records)) (g .tail) p) (after (fileOf (g .records)) (g .tail) p) (view x) (map view xs) ((fileOf (g .records)) .partLength + length ((fileOf (g .records)) .body) + length (view x ∷ map view xs))) where
     -- the header that is written anew, as a data record
     abbrev says-more : Data → ℕ → ℕ
-    says-more = asData (raise (countIndex ((view x) .kind)) (getD (take (at (fileOf (g .records)) (g .tail) p) (bodyRecords g p)) (pred (aboveIn ((view x) .level) (before (fileOf (g .records)) (g .tail) p))) []))
+    says-more = asData (raise (countIndex ((view x) .kind)) (getD (take (bodyPlace (fileOf (g .records)) p) (bodyRecords g p)) (pred (aboveIn ((view x) .level) (before (fileOf (g .records)) (g .tail) p))) []))
 
     above : Split (pred ((view x) .level)) 0 (before (fileOf (g .records)) (g .tail) p)
     above = sp (fileOf (g .records)) (g .tail) p (view x) (map view xs) (k .ok) t
 
     pub changed-view : map view (changed g p raise (view x)) ≡ change (more says-more) (view x) (before (fileOf (g .records)) (g .tail) p)
     unfolding above
-    changed-view = map-alter view (raise (countIndex ((view x) .kind))) (more says-more (countIndex ((view x) .kind))) _ (take (at (fileOf (g .records)) (g .tail) p) (bodyRecords g p)) seen ∙ ap (λ (l : List View). alter (more says-more (countIndex ((view x) .kind))) (pred (aboveIn ((view x) .level) (before (fileOf (g .records)) (g .tail) p))) l) (map-take view (at (fileOf (g .records)) (g .tail) p) (bodyRecords g p))
+    changed-view = map-alter view (raise (countIndex ((view x) .kind))) (more says-more (countIndex ((view x) .kind))) _ (take (bodyPlace (fileOf (g .records)) p) (bodyRecords g p)) seen ∙ ap (λ (l : List View). alter (more says-more (countIndex ((view x) .kind))) (pred (aboveIn ((view x) .level) (before (fileOf (g .records)) (g .tail) p))) l) (map-take view (bodyPlace (fileOf (g .records)) p) (bodyRecords g p))
       where
         pre : List View
         pre = before (fileOf (g .records)) (g .tail) p
@@ -104,17 +105,17 @@ module _ (L : Lawful) where
         idx : ℕ
         idx = pred (aboveIn ((view x) .level) (before (fileOf (g .records)) (g .tail) p))
 
-        seen : (y : List ℕ) → y ≡ getD (take (at (fileOf (g .records)) (g .tail) p) (bodyRecords g p)) idx [] → view y ≡ getD (map view (take (at (fileOf (g .records)) (g .tail) p) (bodyRecords g p))) idx absent → idx < length (take (at (fileOf (g .records)) (g .tail) p) (bodyRecords g p)) → view (raise (countIndex ((view x) .kind)) y) ≡ more says-more (countIndex ((view x) .kind)) (view y)
+        seen : (y : List ℕ) → y ≡ getD (take (bodyPlace (fileOf (g .records)) p) (bodyRecords g p)) idx [] → view y ≡ getD (map view (take (bodyPlace (fileOf (g .records)) p) (bodyRecords g p))) idx absent → idx < length (take (bodyPlace (fileOf (g .records)) p) (bodyRecords g p)) → view (raise (countIndex ((view x) .kind)) y) ≡ more says-more (countIndex ((view x) .kind)) (view y)
         seen y y-is e l = lawful ∙ ap (λ (z : List ℕ). more (asData (raise (countIndex ((view x) .kind)) z)) (countIndex ((view x) .kind)) (view y)) y-is
           where
             is-pre : view y ≡ getD pre idx absent
-            is-pre = e ∙ ap (λ (z : List View). getD z idx absent) (map-take view (at (fileOf (g .records)) (g .tail) p) (bodyRecords g p))
+            is-pre = e ∙ ap (λ (z : List View). getD z idx absent) (map-take view (bodyPlace (fileOf (g .records)) p) (bodyRecords g p))
 
             is-it : view y ≡ above .it
             is-it = is-pre ∙ above-is ((view x) .level) pre above
 
             lawful : view (raise (countIndex ((view x) .kind)) y) ≡ more (asData (raise (countIndex ((view x) .kind)) y)) (countIndex ((view x) .kind)) (view y)
-            lawful = L .raised (countIndex ((view x) .kind)) y (ap length y-is ∙ wide-get idx (take (at (fileOf (g .records)) (g .tail) p) (bodyRecords g p)) (search (wide-take, wide-drop, k .wide)) l) ((good 8 nothing (view x) (t .passes .0)) .known) (rw is-it (above .is-head)) (rw is-it (above-good _ pre above (passed (fileOf (g .records)) (g .tail) p (view x) (map view xs) (k .ok) t))) (rw is-pre (t .total-fits)) (λ e₉. rw is-pre (t .nine-fits e₉)) (rw is-it (above-counts (fileOf (g .records)) (g .tail) p (view x) (map view xs) (k .ok) t))
+            lawful = L .raised (countIndex ((view x) .kind)) y (ap length y-is ∙ wide-get idx (take (bodyPlace (fileOf (g .records)) p) (bodyRecords g p)) (search (wide-take, wide-drop, k .wide)) l) ((good 8 nothing (view x) (t .passes .0)) .known) (rw is-it (above .is-head)) (rw is-it (above-good _ pre above (passed (fileOf (g .records)) (g .tail) p (view x) (map view xs) (k .ok) t))) (rw is-pre (t .total-fits)) (λ e₉. rw is-pre (t .nine-fits e₉)) (rw is-it (above-counts (fileOf (g .records)) (g .tail) p (view x) (map view xs) (k .ok) t))
 
     statedElements-few : (fileOf (g .records)) .statedElements ≤ length ((fileOf (g .records)) .body)
     statedElements-few = rw (k .ok .statedElements) (items-few 0 ((fileOf (g .records)) .body))
@@ -122,28 +123,28 @@ module _ (L : Lawful) where
     pub put-file : fileOf ((inserted g p (x ∷ xs)) .records) ≡ (put (fileOf (g .records)) (g .tail) p says-more (view x ∷ map view xs)) .file
     put-file = file-written g k _ _ (omega (arith, statedElements-few, t .file-fits)) (omega (arith, k .ok .statedRecords, t .file-fits, length-map xs view)) _ ∙ file-path _ _ refl refl (omega (arith, k .ok .statedRecords, length-map xs view, put-length (fileOf (g .records)) (g .tail) p says-more (view x) (map view xs))) bodies
       where
-        bodies : map view (changed g p raise (view x) ++ (x ∷ xs ++ drop (at (fileOf (g .records)) (g .tail) p) (bodyRecords g p))) ≡ change (more says-more) (view x) (before (fileOf (g .records)) (g .tail) p) ++ (view x ∷ map view xs ++ after (fileOf (g .records)) (g .tail) p)
-        bodies = rw (map-append view (changed g p raise (view x)) (x ∷ xs ++ drop (at (fileOf (g .records)) (g .tail) p) (bodyRecords g p)), changed-view, map-append view xs (drop (at (fileOf (g .records)) (g .tail) p) (bodyRecords g p)), map-drop view (at (fileOf (g .records)) (g .tail) p) (bodyRecords g p))
+        bodies : map view (changed g p raise (view x) ++ (x ∷ xs ++ drop (bodyPlace (fileOf (g .records)) p) (bodyRecords g p))) ≡ change (more says-more) (view x) (before (fileOf (g .records)) (g .tail) p) ++ (view x ∷ map view xs ++ after (fileOf (g .records)) (g .tail) p)
+        bodies = rw (map-append view (changed g p raise (view x)) (x ∷ xs ++ drop (bodyPlace (fileOf (g .records)) p) (bodyRecords g p)), changed-view, map-append view xs (drop (bodyPlace (fileOf (g .records)) p) (bodyRecords g p)), map-drop view (bodyPlace (fileOf (g .records)) p) (bodyRecords g p))
 
     pub put-held : Wide (x ∷ xs) → Held (inserted g p (x ∷ xs))
     put-held w = record {
       wide = let small : countIndex ((view x) .kind) ≤ 9 = (good 8 nothing (view x) (t .passes .0)) .known in search (wide-append, wide-alter, wide-take, wide-drop, L .write-wide, L .raise-wide, k .wide) depth 8;
-      few = simp (length-append, length-alterAt) (omega (arith, t .file-fits, length-map xs view, length-map (bodyRecords g p) view, length-take-le (partLength (g .records)) (g .records) (L .inside (g .records) (k .sheet)), simp length-append at (ap length (take-append-drop (at (fileOf (g .records)) (g .tail) p) (bodyRecords g p)))));
+      few = simp (length-append, length-alterAt) (omega (arith, t .file-fits, length-map xs view, length-map (bodyRecords g p) view, length-take-le (partLength (g .records)) (g .records) (L .inside (g .records) (k .sheet)), simp length-append at (ap length (take-append-drop (bodyPlace (fileOf (g .records)) p) (bodyRecords g p)))));
       sheet = L .sheet-kept (g .records) _ _ _ (k .wide) (k .sheet) (omega (arith, statedElements-few, t .file-fits)) (omega (arith, k .ok .statedRecords, t .file-fits, length-map xs view));
       ok = rw put-file (put-ok (fileOf (g .records)) (g .tail) p (view x) (map view xs) (k .ok) t says-more);
     }
 
   -- removal
-  module _ (g : RecordList) (p : ℕ) (k : Held g) (t : Cuts ((fileOf (g .records)) .body) (at (fileOf (g .records)) (g .tail) p)) where
+  module _ (g : RecordList) (p : ℕ) (k : Held g) (t : Cuts ((fileOf (g .records)) .body) (bodyPlace (fileOf (g .records)) p)) where
     -- the header that is written anew, as a data record
     abbrev says-less : Data → ℕ → ℕ
-    says-less = asData (lower (countIndex ((removedItem g p) .kind)) (getD (take (at (fileOf (g .records)) (g .tail) p) (bodyRecords g p)) (pred (aboveIn ((removedItem g p) .level) (before (fileOf (g .records)) (g .tail) p))) []))
+    says-less = asData (lower (countIndex ((removedItem g p) .kind)) (getD (take (bodyPlace (fileOf (g .records)) p) (bodyRecords g p)) (pred (aboveIn ((removedItem g p) .level) (before (fileOf (g .records)) (g .tail) p))) []))
 
     cut-above : Split (pred ((removedItem g p) .level)) 0 (before (fileOf (g .records)) (g .tail) p)
     cut-above = cut-sp (fileOf (g .records)) (g .tail) p (k .ok) t
 
     pub changed-view′ : map view (changed g p lower (removedItem g p)) ≡ change (less says-less) (removedItem g p) (before (fileOf (g .records)) (g .tail) p)
-    changed-view′ = map-alter view (lower (countIndex ((removedItem g p) .kind))) (less says-less (countIndex ((removedItem g p) .kind))) _ (take (at (fileOf (g .records)) (g .tail) p) (bodyRecords g p)) seen ∙ ap (λ (l : List View). alter (less says-less (countIndex ((removedItem g p) .kind))) (pred (aboveIn ((removedItem g p) .level) (before (fileOf (g .records)) (g .tail) p))) l) (map-take view (at (fileOf (g .records)) (g .tail) p) (bodyRecords g p))
+    changed-view′ = map-alter view (lower (countIndex ((removedItem g p) .kind))) (less says-less (countIndex ((removedItem g p) .kind))) _ (take (bodyPlace (fileOf (g .records)) p) (bodyRecords g p)) seen ∙ ap (λ (l : List View). alter (less says-less (countIndex ((removedItem g p) .kind))) (pred (aboveIn ((removedItem g p) .level) (before (fileOf (g .records)) (g .tail) p))) l) (map-take view (bodyPlace (fileOf (g .records)) p) (bodyRecords g p))
       where
         pre : List View
         pre = before (fileOf (g .records)) (g .tail) p
@@ -151,14 +152,14 @@ module _ (L : Lawful) where
         idx : ℕ
         idx = pred (aboveIn ((removedItem g p) .level) (before (fileOf (g .records)) (g .tail) p))
 
-        seen : (y : List ℕ) → y ≡ getD (take (at (fileOf (g .records)) (g .tail) p) (bodyRecords g p)) idx [] → view y ≡ getD (map view (take (at (fileOf (g .records)) (g .tail) p) (bodyRecords g p))) idx absent → idx < length (take (at (fileOf (g .records)) (g .tail) p) (bodyRecords g p)) → view (lower (countIndex ((removedItem g p) .kind)) y) ≡ less says-less (countIndex ((removedItem g p) .kind)) (view y)
+        seen : (y : List ℕ) → y ≡ getD (take (bodyPlace (fileOf (g .records)) p) (bodyRecords g p)) idx [] → view y ≡ getD (map view (take (bodyPlace (fileOf (g .records)) p) (bodyRecords g p))) idx absent → idx < length (take (bodyPlace (fileOf (g .records)) p) (bodyRecords g p)) → view (lower (countIndex ((removedItem g p) .kind)) y) ≡ less says-less (countIndex ((removedItem g p) .kind)) (view y)
         seen y y-is e l = lawful ∙ ap (λ (z : List ℕ). less (asData (lower (countIndex ((removedItem g p) .kind)) z)) (countIndex ((removedItem g p) .kind)) (view y)) y-is
           where
             is-it : view y ≡ cut-above .it
-            is-it = e ∙ ap (λ (z : List View). getD z idx absent) (map-take view (at (fileOf (g .records)) (g .tail) p) (bodyRecords g p)) ∙ above-is ((removedItem g p) .level) pre cut-above
+            is-it = e ∙ ap (λ (z : List View). getD z idx absent) (map-take view (bodyPlace (fileOf (g .records)) p) (bodyRecords g p)) ∙ above-is ((removedItem g p) .level) pre cut-above
 
             lawful : view (lower (countIndex ((removedItem g p) .kind)) y) ≡ less (asData (lower (countIndex ((removedItem g p) .kind)) y)) (countIndex ((removedItem g p) .kind)) (view y)
-            lawful = L .lowered (countIndex ((removedItem g p) .kind)) y (ap length y-is ∙ wide-get idx (take (at (fileOf (g .records)) (g .tail) p) (bodyRecords g p)) (search (wide-take, wide-drop, k .wide)) l) ((b-good (fileOf (g .records)) (g .tail) p (k .ok) t) .known) (rw is-it (cut-above .is-head)) (rw is-it (above-good _ pre cut-above ((parts (fileOf (g .records)) (g .tail) p (k .ok) t) .0)))
+            lawful = L .lowered (countIndex ((removedItem g p) .kind)) y (ap length y-is ∙ wide-get idx (take (bodyPlace (fileOf (g .records)) p) (bodyRecords g p)) (search (wide-take, wide-drop, k .wide)) l) ((b-good (fileOf (g .records)) (g .tail) p (k .ok) t) .known) (rw is-it (cut-above .is-head)) (rw is-it (above-good _ pre cut-above ((parts (fileOf (g .records)) (g .tail) p (k .ok) t) .0)))
 
     body-few : length ((fileOf (g .records)) .body) ≤ 200000
     body-few = rw (length-map (bodyRecords g p) view, length-drop (partLength (g .records)) (g .records)) (omega (arith, k .few))
@@ -169,13 +170,13 @@ module _ (L : Lawful) where
     pub cut-file : fileOf ((removed g p) .records) ≡ (cut (fileOf (g .records)) (g .tail) p says-less) .file
     cut-file = file-written g k _ _ (omega (arith, statedElements-few′, body-few)) (omega (arith, k .ok .statedRecords, body-few)) _ ∙ file-path _ _ refl refl (omega (arith, k .ok .statedRecords, cut-length (fileOf (g .records)) (g .tail) p says-less (enough (fileOf (g .records)) (g .tail) p (k .ok) t))) bodies
       where
-        bodies : map view (changed g p lower (removedItem g p) ++ drop (suc ((removedItem g p) .dataRecords)) (drop (at (fileOf (g .records)) (g .tail) p) (bodyRecords g p))) ≡ change (less says-less) (removedItem g p) (before (fileOf (g .records)) (g .tail) p) ++ drop (suc ((removedItem g p) .dataRecords)) (after (fileOf (g .records)) (g .tail) p)
-        bodies = rw (map-append view (changed g p lower (removedItem g p)) (drop (suc ((removedItem g p) .dataRecords)) (drop (at (fileOf (g .records)) (g .tail) p) (bodyRecords g p))), changed-view′, map-drop view (suc ((removedItem g p) .dataRecords)) (drop (at (fileOf (g .records)) (g .tail) p) (bodyRecords g p)), map-drop view (at (fileOf (g .records)) (g .tail) p) (bodyRecords g p))
+        bodies : map view (changed g p lower (removedItem g p) ++ drop (suc ((removedItem g p) .dataRecords)) (drop (bodyPlace (fileOf (g .records)) p) (bodyRecords g p))) ≡ change (less says-less) (removedItem g p) (before (fileOf (g .records)) (g .tail) p) ++ drop (suc ((removedItem g p) .dataRecords)) (after (fileOf (g .records)) (g .tail) p)
+        bodies = rw (map-append view (changed g p lower (removedItem g p)) (drop (suc ((removedItem g p) .dataRecords)) (drop (bodyPlace (fileOf (g .records)) p) (bodyRecords g p))), changed-view′, map-drop view (suc ((removedItem g p) .dataRecords)) (drop (bodyPlace (fileOf (g .records)) p) (bodyRecords g p)), map-drop view (bodyPlace (fileOf (g .records)) p) (bodyRecords g p))
 
     pub cut-held : Held (removed g p)
     cut-held = record {
       wide = let small : countIndex ((removedItem g p) .kind) ≤ 9 = (b-good (fileOf (g .records)) (g .tail) p (k .ok) t) .known in search (wide-append, wide-alter, wide-take, wide-drop, L .write-wide, L .lower-wide, k .wide) depth 8;
-      few = simp (length-append, length-alterAt, length-drop) (omega (arith, k .few, L .inside (g .records) (k .sheet), length-take-le (partLength (g .records)) (g .records) (L .inside (g .records) (k .sheet)), simp (length-append, length-drop) at (ap length (take-append-drop (at (fileOf (g .records)) (g .tail) p) (bodyRecords g p)))));
+      few = simp (length-append, length-alterAt, length-drop) (omega (arith, k .few, L .inside (g .records) (k .sheet), length-take-le (partLength (g .records)) (g .records) (L .inside (g .records) (k .sheet)), simp (length-append, length-drop) at (ap length (take-append-drop (bodyPlace (fileOf (g .records)) p) (bodyRecords g p)))));
       sheet = L .sheet-kept (g .records) _ _ _ (k .wide) (k .sheet) (omega (arith, statedElements-few′, body-few)) (omega (arith, k .ok .statedRecords, body-few));
       ok = rw cut-file ((cut-ok (fileOf (g .records)) (g .tail) p (k .ok) t says-less) .0);
     }

@@ -9,12 +9,13 @@ use lib.ListN.{length, take, drop, getD, take-append-drop}
 use lib.Seq.{drop-cons, length-take-le}
 use borrow.Author.Tests.{eqb-true, eqb-false, eq-eqb, ne-eqb, ltb-true, not-true}
 use Rattle.format.specs.Record.{Data, View, isHead, item, nothing, countIndex}
+use Rattle.format.specs.Above.{NoHeaderOf}
 use Rattle.format.specs.Judge.{File, headersAndItems, countsFor, dueAfter, countUnder}
-use Rattle.format.specs.Edit.{after, at, before, absent, remove11, dueBehind, openBehind}
+use Rattle.format.specs.Edit.{after, before, absent, remove11, dueBehind, openBehind, bodyPlace}
 use Rattle.format.proofs.EditViews.{change, cut, gone, less}
 use Rattle.format.proofs.Basics.{and-true, unless-zero}
 use Rattle.format.proofs.JudgeWalks.{Passes, Good, good, dueBehind-append, sort, passes-split}
-use Rattle.format.proofs.JudgeCounts.{Clear, OneMore, Agree, countUnder-in, counted-at, sum-ge}
+use Rattle.format.proofs.JudgeCounts.{OneMore, Agree, countUnder-in, counted-at, sum-ge}
 use Rattle.format.proofs.Above.{Split, find-in}
 use Rattle.format.proofs.EditItems.{Alike, headersAndItems-with, item-dataRecords, low-block, shrink-counted, shrink-passes, grow-items, grow-dueBehind}
 use Rattle.format.proofs.JudgeAccepted.{Ok}
@@ -44,24 +45,24 @@ pub record Cuts (body : List View) (q : ℕ) : Type 0 where
   pub closed : dueBehind 0 (take q body) ≡ 0
   pub is-item : isHead ((getD body q absent) .kind) ≡ false
 
-pub cuts : (f : File) (tail : List ℕ) (p : ℕ) → remove11 f tail p ≡ 0 → Cuts (f .body) (at f tail p)
+pub cuts : (f : File) (tail : List ℕ) (p : ℕ) → remove11 f tail p ≡ 0 → Cuts (f .body) (bodyPlace f p)
 cuts f tail p e = record { inside = ltb-true _ _ (z .1); closed = eqb-true _ _ (y .1); is-item = not-true _ (x .1) }
   where
-    x : (ltb (f .partLength) p && ltb (at f tail p) (length (f .body)) && eqb (dueBehind 0 (before f tail p)) 0 ≡ true) × (not (isHead ((getD (f .body) (at f tail p) absent) .kind)) ≡ true)
+    x : (ltb (f .partLength) p && ltb (bodyPlace f p) (length (f .body)) && eqb (dueBehind 0 (before f tail p)) 0 ≡ true) × (not (isHead ((getD (f .body) (bodyPlace f p) absent) .kind)) ≡ true)
     x = and-true _ _ (unless-zero _ _ e)
 
-    y : (ltb (f .partLength) p && ltb (at f tail p) (length (f .body)) ≡ true) × (eqb (dueBehind 0 (before f tail p)) 0 ≡ true)
+    y : (ltb (f .partLength) p && ltb (bodyPlace f p) (length (f .body)) ≡ true) × (eqb (dueBehind 0 (before f tail p)) 0 ≡ true)
     y = and-true _ _ (x .0)
 
-    z : (ltb (f .partLength) p ≡ true) × (ltb (at f tail p) (length (f .body)) ≡ true)
+    z : (ltb (f .partLength) p ≡ true) × (ltb (bodyPlace f p) (length (f .body)) ≡ true)
     z = and-true _ _ (y .0)
 
-module _ (f : File) (tail : List ℕ) (p : ℕ) (k : Ok f) (t : Cuts (f .body) (at f tail p)) where
+module _ (f : File) (tail : List ℕ) (p : ℕ) (k : Ok f) (t : Cuts (f .body) (bodyPlace f p)) where
   b : View
   b = gone f tail p
 
   abbrev X : List View
-  X = drop (suc (at f tail p)) (f .body)
+  X = drop (suc (bodyPlace f p)) (f .body)
 
   abbrev ds : List View
   ds = take ((gone f tail p) .dataRecords) X
@@ -70,10 +71,10 @@ module _ (f : File) (tail : List ℕ) (p : ℕ) (k : Ok f) (t : Cuts (f .body) (
   S = drop ((gone f tail p) .dataRecords) X
 
   after-is : after f tail p ≡ gone f tail p ∷ X
-  after-is = drop-cons (f .body) (at f tail p) absent (t .inside)
+  after-is = drop-cons (f .body) (bodyPlace f p) absent (t .inside)
 
   pub parts : Passes 0 0 nothing (before f tail p) × Passes (openBehind 0 0 (before f tail p)) (dueBehind 0 (before f tail p)) (sort 0 nothing (before f tail p)) (after f tail p)
-  parts = passes-split 0 0 nothing (before f tail p) (after f tail p) (rw (take-append-drop (at f tail p) (f .body)) (k .walks .0))
+  parts = passes-split 0 0 nothing (before f tail p) (after f tail p) (rw (take-append-drop (bodyPlace f p) (f .body)) (k .walks .0))
 
   b-passes : Passes (openBehind 0 0 (before f tail p)) 0 (sort 0 nothing (before f tail p)) (gone f tail p ∷ X)
   b-passes = rw (t .closed, after-is) at (parts .1)
@@ -85,7 +86,7 @@ module _ (f : File) (tail : List ℕ) (p : ℕ) (k : Ok f) (t : Cuts (f .body) (
   dueBehind-x = rw (item-dataRecords (gone f tail p) (t .is-item)) at whole
     where
       whole : dueBehind (dueAfter 0 (gone f tail p)) X ≡ 0
-      whole = rw (← (take-append-drop (at f tail p) (f .body)), dueBehind-append 0 (before f tail p) (after f tail p), t .closed, after-is) at (k .walks .1)
+      whole = rw (← (take-append-drop (bodyPlace f p) (f .body)), dueBehind-append 0 (before f tail p) (after f tail p), t .closed, after-is) at (k .walks .1)
 
   pub x-long : (gone f tail p) .dataRecords ≤ length X
   x-long = data-there _ _ _ X (rw (item-dataRecords (gone f tail p) (t .is-item)) at (b-passes .1)) dueBehind-x
@@ -97,7 +98,7 @@ module _ (f : File) (tail : List ℕ) (p : ℕ) (k : Ok f) (t : Cuts (f .body) (
   enough = omega (arith, x-long, ap length after-is)
 
   body-is : f .body ≡ before f tail p ++ (gone f tail p ∷ ds ++ S)
-  body-is = sym (take-append-drop (at f tail p) (f .body)) ∙ ap (λ (x : List View). before f tail p ++ x) (after-is ∙ ap (λ (y : List View). gone f tail p ∷ y) (sym (take-append-drop ((gone f tail p) .dataRecords) X)))
+  body-is = sym (take-append-drop (bodyPlace f p) (f .body)) ∙ ap (λ (x : List View). before f tail p ++ x) (after-is ∙ ap (λ (y : List View). gone f tail p ∷ y) (sym (take-append-drop ((gone f tail p) .dataRecords) X)))
 
   b-low : 2 ≤ (gone f tail p) .level
   b-low = low-block (gone f tail p) ds (t .is-item) ds-length _ (sort 0 nothing (before f tail p)) X b-passes
@@ -141,7 +142,7 @@ module _ (f : File) (tail : List ℕ) (p : ℕ) (k : Ok f) (t : Cuts (f .body) (
       hh : isHead (h′ .kind) ≡ true
       hh = sp .is-head
 
-      cl : Clear (h′ .level) (headersAndItems 0 B)
+      cl : NoHeaderOf (h′ .level) (headersAndItems 0 B)
       cl = rw (sp .is-level) (sp .clear)
 
       bi : isHead (c .kind) ≡ false

@@ -6,7 +6,7 @@ use lib.Dec.{eqb}
 use lib.ListN.{length, drop, getD, replicate}
 use Rattle.format.specs.Record.{View, Data, countIndex}
 use Rattle.format.specs.Judge.{File}
-use Rattle.format.specs.Edit.{aboveIn, absent, at, before, after}
+use Rattle.format.specs.Edit.{aboveIn, absent, before, after, bodyPlace}
 
 abbrev pub alter : (View → View) → ℕ → List View → List View
 alter f i [] = []
@@ -35,7 +35,7 @@ module _ (f : File) (tail : List ℕ) (p : ℕ) where
   put w blk = record { file = withBody f (f .statedElements + 1) (change (more w) (getD blk 0 absent) (before f tail p) ++ (blk ++ after f tail p)); tail = drop (84 * length blk) tail }
 
   abbrev pub gone : View
-  gone = getD (f .body) (at f tail p) absent
+  gone = getD (f .body) (bodyPlace f p) absent
 
   abbrev pub cut : (Data → ℕ → ℕ) → Book
   cut w = record { file = withBody f (f .statedElements - 1) (change (less w) gone (before f tail p) ++ drop (suc (gone .dataRecords)) (after f tail p)); tail = replicate (84 * suc (gone .dataRecords)) 32 ++ tail }

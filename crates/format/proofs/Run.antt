@@ -9,19 +9,19 @@ use borrow.Author.Tests.{leb-true, le-leb, eqb-true, eq-eqb, lt-ltb}
 use lib.ListN.{length, length-append, length-map, length-drop, drop, getD}
 use lib.Seq.{drop-at}
 use Rattle.format.specs.Basics.{Fault, none, fault, Answer, given, refused, chunks, flat, stageOneOk}
-use Rattle.format.specs.Run.{Buffer, call, bufferOf, listOf, insertions, repliesBuffer, repliesPlain, runBuffer, runPlain, sum-of, removals, Runs, Sound, Keeps, WayAnswered, elementCount, sheetOf, placeOf, itemOf, headerAbove, inFour, moved}
-use Rattle.format.specs.Above.{up}
+use Rattle.format.specs.Run.{Buffer, Step, call, bufferOf, listOf, insertions, repliesBuffer, repliesPlain, runBuffer, runPlain, sum-of, removals, Runs, Sound, Keeps, KeepsBytes, EachKeeps, elementCount, sheetOf, inFourColumns, moved}
+use Rattle.format.specs.Above.{up, WayAnswered}
 use Rattle.format.specs.Judge.{File, accepted, fileOf, judge, judgeRecords, judgeSheet, afterPart, afterStageOne}
 use Rattle.format.specs.Record.{nothing, view}
-use Rattle.format.specs.Edit.{Edit, RecordList, blockOf, conclude, remove11, removed, from12, from13, insert, plain, insert11, inserted, insertFault, remove}
+use Rattle.format.specs.Edit.{Edit, RecordList, blockOf, conclude, remove11, removed, insert, plain, insert11, inserted, insertFault, remove}
 use Rattle.format.specs.Sheet.{statedElements, partLength, sheetFault}
 use Rattle.format.proofs.Basics.{first-zero, and-true, true-and}
 use Rattle.format.proofs.JudgeAccepted.{accepted-ok, ok-accepted}
-use Rattle.format.proofs.EditInsert.{fits, fine-none}
+use Rattle.format.proofs.EditInsert.{fits, fine-none, empty-refused}
 use Rattle.format.proofs.EditRemove.{cuts, cut-ok}
 use Rattle.format.proofs.Lists.{Wide, block-wide, wide-chunks, chunks-flat, flat-chunks, length-flat, length-chunks}
 use Rattle.format.proofs.AboveWayUp.{way-up}
-use Rattle.format.proofs.RunKept.{KeepsList, plain-keeps}
+use Rattle.format.proofs.RunKept.{KeepsList, plain-keeps, plain-size}
 use Rattle.format.proofs.EditRecords.{Lawful, Held, put-held, cut-held, put-file, cut-file}
 
 list-path : (a b : RecordList) → a .records ≡ b .records → a .tail ≡ b .tail → a ≡ b
@@ -39,7 +39,7 @@ open-bufferOf g w = list-path _ _ (rw count (chunks-flat (g .records) (g .tail) 
 
 module _ (L : Lawful) where
   step-put : (g : RecordList) (p : ℕ) (blk : List (List ℕ)) → Held g → Wide blk → (n : ℕ) → insertFault (fileOf (g .records)) (g .tail) p (map view blk) ≡ n → Held ((conclude n g (inserted g p blk)) .list)
-  step-put g p [] k w zero e = absurd (omega (arith, (first-zero 12 (from13 (fileOf (g .records)) (g .tail) p []) ((first-zero (insert11 (fileOf (g .records)) (g .tail) p) (from12 (fileOf (g .records)) (g .tail) p []) e) .1)) .0))
+  step-put g p [] k w zero e = absurd (empty-refused (fileOf (g .records)) (g .tail) p e)
   step-put g p (x ∷ xs) k w zero e = put-held L g p x xs k (fits (fileOf (g .records)) (g .tail) p (view x) (map view xs) e) w
   step-put g p blk k w (suc n) e = k
 
@@ -104,7 +104,7 @@ module _ (L : Lawful) where
 
   -- the count of elements
   count-put : (g : RecordList) (p : ℕ) (bs : List ℕ) (blk : List (List ℕ)) → Held g → (n : ℕ) → insertFault (fileOf (g .records)) (g .tail) p (map view blk) ≡ n → (fileOf ((conclude n g (inserted g p blk)) .list .records)) .statedElements + removals (insert p bs) ((conclude n g (inserted g p blk)) .reply) ≡ (fileOf (g .records)) .statedElements + insertions (insert p bs) ((conclude n g (inserted g p blk)) .reply)
-  count-put g p bs [] k zero e = absurd (omega (arith, (first-zero 12 (from13 (fileOf (g .records)) (g .tail) p []) ((first-zero (insert11 (fileOf (g .records)) (g .tail) p) (from12 (fileOf (g .records)) (g .tail) p []) e) .1)) .0))
+  count-put g p bs [] k zero e = absurd (empty-refused (fileOf (g .records)) (g .tail) p e)
   count-put g p bs (x ∷ xs) k zero e = omega (arith, ap (λ (f : File). f .statedElements) (put-file L g p x xs k (fits (fileOf (g .records)) (g .tail) p (view x) (map view xs) e)))
   count-put g p bs blk k (suc n) e = refl
 
@@ -160,24 +160,39 @@ module _ (L : Lawful) where
       whole : (sheetOf b) .partLength + length ((sheetOf b) .body) ≡ b .used / 84
       whole = rw (length-map (drop (partLength ((listOf b) .records)) ((listOf b) .records)) view, length-drop (partLength ((listOf b) .records)) ((listOf b) .records)) (omega (arith, count, L .inside ((listOf b) .records) (o .held .sheet)))
 
-      ways : (number : ℕ) → (sheetOf b) .partLength < number → number ≤ b .used / 84 → WayAnswered b number
-      ways number l u = let a = way-up (sheetOf b) n m number (sym judged ∙ e) l (omega (arith, whole)) in record { answer = rw e (a .answer); levelLessOne = a .levelLessOne; most = a .most }
+      ways : (number : ℕ) → (sheetOf b) .partLength < number → number ≤ b .used / 84 → WayAnswered (sheetOf b) number (up (b .used) (b .bytes) number)
+      ways number l u = rw e (way-up (sheetOf b) number (o .held .ok .walks .0) l (omega (arith, whole)))
 
       keeps : (edit : Edit) → Keeps ((call edit b) .reply) edit b ((call edit b) .buffer)
-      keeps edit = rw is (go ((plain edit (listOf b)) .reply) (plain-keeps L edit (listOf b) (o .held)))
+      keeps edit = rw is (record { size = plain-size L edit (listOf b) (o .held) ∙ ap (λ (x : Buffer). length (x .bytes)) (o .same); bytes = go ((plain edit (listOf b)) .reply) (plain-keeps L edit (listOf b) (o .held)) })
         where
           is : call edit b ≡ record { reply = (plain edit (listOf b)) .reply; buffer = bufferOf ((plain edit (listOf b)) .list) }
           is = ap (call edit) (sym (o .same)) ∙ call-plain edit (listOf b) (o .held)
 
-          go : (r : Answer ℕ) → KeepsList r (inFour (headerAbove (listOf b) (placeOf edit) (itemOf edit (listOf b))) (itemOf edit (listOf b))) (listOf b) (moved edit (listOf b)) ((plain edit (listOf b)) .list) → Keeps r edit b (bufferOf ((plain edit (listOf b)) .list))
+          go : (r : Answer ℕ) → KeepsList r (inFourColumns edit (listOf b)) (listOf b) (moved edit (listOf b)) ((plain edit (listOf b)) .list) → KeepsBytes r edit b (bufferOf ((plain edit (listOf b)) .list))
           go (given u) h = h
           go (refused x y) h = ap bufferOf h ∙ o .same
+
+  -- a call leaves an accepted sheet accepted
+  still : (c : Edit) (b : Buffer) (n m : ℕ) → judgeSheet (b .used) (b .bytes) ≡ accepted n m → judgeSheet ((call c b) .buffer .used) ((call c b) .buffer .bytes) ≡ accepted (length ((plain c (listOf b)) .list .records)) (statedElements (getD ((plain c (listOf b)) .list .records) 1 []))
+  still c b n m e = ap (λ (x : Buffer). judgeSheet (x .used) (x .bytes)) same ∙ held-accepted _ (plain-held c (listOf b) (o .held))
+    where
+      o : Opened b
+      o = accepted-opened b n m e
+
+      same : (call c b) .buffer ≡ bufferOf ((plain c (listOf b)) .list)
+      same = ap (λ (x : Buffer). (call c x) .buffer) (sym (o .same)) ∙ ap (λ (x : Step). x .buffer) (call-plain c (listOf b) (o .held))
+
+  pub each-keeps : (cs : List Edit) (b : Buffer) (n m : ℕ) → judgeSheet (b .used) (b .bytes) ≡ accepted n m → EachKeeps cs b
+  each-keeps [] b n m e = tt
+  each-keeps (c ∷ cs) b n m e = ((sound b n m e) .keeps c, each-keeps cs ((call c b) .buffer) _ _ (still c b n m e))
 
   -- DEMAND 3
   pub demand3 : (cs : List Edit) (b : Buffer) (n m : ℕ) → judgeSheet (b .used) (b .bytes) ≡ accepted n m → Runs cs b
   demand3 cs b n m e = record {
     replies = same-replies;
     buffer = same-buffer;
+    kept = each-keeps cs b n m e;
     sound = sound (runBuffer cs b) _ _ (ap (λ (x : Buffer). judgeSheet (x .used) (x .bytes)) same-buffer ∙ held-accepted end last);
     counts = ap₂ (λ (x : ℕ) (rs : List (Answer ℕ)). x + sum-of removals cs rs) same-count same-replies ∙ run-count cs (listOf b) (o .held) ∙ ap (λ (rs : List (Answer ℕ)). elementCount b + sum-of insertions cs rs) (sym same-replies);
   }

@@ -7,7 +7,7 @@ use Prim.Native.String.{String}
 use native.Mathlib.Omega.{arith}
 use lib.Dec.{leb, ltb, eqb}
 use lib.IntN.{pos}
-use lib.ListN.{length, length-append, length-drop, length-map, take, drop, getD, replicate, List·getD-append}
+use lib.ListN.{length, length-append, length-drop, length-map, length-replicate, take, drop, take-append-drop, getD, replicate, List·getD-append}
 use lib.Seq.{getD-append-add, getD-take, getD-drop, length-take-le}
 use borrow.Author.Tests.{leb-true, leb-false, ltb-true, ltb-false}
 use Rattle.format.specs.Basics.{Answer, given, refused, flat, chunks}
@@ -16,20 +16,19 @@ use Rattle.format.specs.Layout.{Col, column, splice, find, numberAt, hea
 use Rattle.format.specs.Record.{View, view, nothing, countIn, countIndex, countName, rewrite, raise, lower}
 use Rattle.format.specs.Sheet.{partLength, writeCounts}
 use Rattle.format.specs.Judge.{File, fileOf}
-use Rattle.format.specs.Edit.{RecordList, alterAt, aboveIn, at, before, after, insert11, dueBehind, insertFault, from12, from13, remove11, inserted, removed, removedItem, firstView, bodyRecords, blockOf, conclude, Edit, insert, remove, plain}
-use Rattle.format.specs.Above.{numbered}
+use Rattle.format.specs.Edit.{RecordList, file, alterAt, aboveIn, before, after, fault12, insert11, insert13, insert14, insert15, dueBehind, insertFault, remove11, inserted, removed, removedItem, firstView, partRecords, bodyRecords, blockOf, conclude, Edit, insert, remove, plain, bodyPlace}
 use Rattle.format.specs.Run.{bufferOf, placeOf, itemOf, inColumn, inFour, headerAbove, withBlock, withoutItem, moved}
 use Rattle.format.proofs.Basics.{and-true, first-zero, unless-zero}
 use Rattle.format.proofs.Columns.{Apart, left, right, column-other, length-splice, length-written}
-use Rattle.format.proofs.Lists.{Wide, block-wide, wide-nil, wide-alter, wide-append, wide-take, wide-drop}
+use Rattle.format.proofs.Lists.{Wide, map-drop, block-wide, length-flat, length-alterAt, wide-nil, wide-alter, wide-append, wide-take, wide-drop}
 use Rattle.format.proofs.RecordHeaders.{place}
 use Rattle.format.proofs.JudgeWalks.{good}
 use Rattle.format.proofs.Above.{Split}
 use Rattle.format.proofs.AboveWayUp.{above-split}
-use Rattle.format.proofs.EditInsert.{Fits, fits, sp}
-use Rattle.format.proofs.EditRemove.{Cuts, cuts, b-good, sp as cut-sp}
+use Rattle.format.proofs.EditInsert.{Fits, fits, sp, empty-refused}
+use Rattle.format.proofs.EditRemove.{Cuts, cuts, enough, b-good, sp as cut-sp}
 use Rattle.format.proofs.EditMoves.{as-records}
-use Rattle.format.proofs.EditRecords.{Lawful, Held}
+use Rattle.format.proofs.EditRecords.{Lawful, Held, put-held, cut-held}
 
 -- ---- one byte of joined lists
 right-byte : (i : ℕ) (a c : List ℕ) → length a ≤ i → getD (a ++ c) i 0 ≡ getD c (i - length a) 0
@@ -144,25 +143,22 @@ lower-is : (j : ℕ) (r : List ℕ) → (x : ℕ) × (y : ℕ) × (lower j r ≡
 unfolding lower
 lower-is j r = (numberAt header "total" r - 1, countIn r j - 1, refl)
 
-numbered-suc : (n a : ℕ) → numbered n (suc a) ≡ suc (n + pred (suc a))
-numbered-suc n a = omega arith
-
-insert-place : (f : File) (tail : List ℕ) (p : ℕ) (block : List View) → insertFault f tail p block ≡ 0 → (f .partLength < p) × (at f tail p ≤ length (f .body))
+insert-place : (f : File) (tail : List ℕ) (p : ℕ) (block : List View) → insertFault f tail p block ≡ 0 → (f .partLength < p) × (bodyPlace f p ≤ length (f .body))
 insert-place f tail p block e =
-    let a = first-zero (insert11 f tail p) (from12 f tail p block) e in
-    let b = and-true (ltb (f .partLength) p && leb (at f tail p) (length (f .body))) _ (unless-zero _ _ (a .0)) in
-    let c = and-true (ltb (f .partLength) p) (leb (at f tail p) (length (f .body))) (b .0) in
+    let a = first-zero (insert11 f tail p) _ e in
+    let b = and-true (ltb (f .partLength) p && leb (bodyPlace f p) (length (f .body))) _ (unless-zero _ _ (a .0)) in
+    let c = and-true (ltb (f .partLength) p) (leb (bodyPlace f p) (length (f .body))) (b .0) in
     (ltb-true _ _ (c .0), leb-true _ _ (c .1))
 
 remove-place : (f : File) (tail : List ℕ) (p : ℕ) → remove11 f tail p ≡ 0 → f .partLength < p
 remove-place f tail p e =
-    let a = and-true (ltb (f .partLength) p && ltb (at f tail p) (length (f .body)) && eqb (dueBehind 0 (before f tail p)) 0) _ (unless-zero _ _ e) in
-    let b = and-true (ltb (f .partLength) p && ltb (at f tail p) (length (f .body))) _ (a .0) in
-    ltb-true _ _ ((and-true (ltb (f .partLength) p) (ltb (at f tail p) (length (f .body))) (b .0)) .0)
+    let a = and-true (ltb (f .partLength) p && ltb (bodyPlace f p) (length (f .body)) && eqb (dueBehind 0 (before f tail p)) 0) _ (unless-zero _ _ e) in
+    let b = and-true (ltb (f .partLength) p && ltb (bodyPlace f p) (length (f .body))) _ (a .0) in
+    ltb-true _ _ ((and-true (ltb (f .partLength) p) (ltb (bodyPlace f p) (length (f .body))) (b .0)) .0)
 
-module _ (L : Lawful) (g : RecordList) (p : ℕ) (k : Held g) (behind : partLength (g .records) < p) (room : at (fileOf (g .records)) (g .tail) p ≤ length ((fileOf (g .records)) .body)) where
+module _ (L : Lawful) (g : RecordList) (p : ℕ) (k : Held g) (behind : partLength (g .records) < p) (room : bodyPlace (fileOf (g .records)) p ≤ length ((fileOf (g .records)) .body)) where
   abbrev q : ℕ
-  q = at (fileOf (g .records)) (g .tail) p
+  q = bodyPlace (fileOf (g .records)) p
 
   abbrev pre : List View
   pre = before (fileOf (g .records)) (g .tail) p
@@ -176,7 +172,7 @@ module _ (L : Lawful) (g : RecordList) (p : ℕ) (k : Held g) (behind : partLeng
   -- the header above an item there, where there is one
   module _ (v : View) (s : Split (pred (v .level)) 0 pre) where
     above-number : headerAbove g p v ≡ suc (partLength (g .records) + pred (aboveIn (v .level) pre))
-    above-number = rw (above-split (v .level) pre s) (numbered-suc (partLength (g .records)) (length (s .front)))
+    above-number = rw (above-split (v .level) pre s) (omega arith)
 
     index-inside : pred (aboveIn (v .level) pre) < q
     index-inside = rw (above-split (v .level) pre s) (omega (arith, length-take-le q ((fileOf (g .records)) .body) room, simp length-append at (ap length (s .whole))))
@@ -195,10 +191,10 @@ KeepsList (refused n r) four old between new = new ≡ old
 
 module _ (L : Lawful) where
   keeps-put : (g : RecordList) (p : ℕ) (blk : List (List ℕ)) → Held g → Wide blk → (n : ℕ) → insertFault (fileOf (g .records)) (g .tail) p (map view blk) ≡ n → KeepsList ((conclude n g (inserted g p blk)) .reply) (inFour (headerAbove g p (firstView g p blk)) (firstView g p blk)) g (withBlock g p blk) ((conclude n g (inserted g p blk)) .list)
-  keeps-put g p [] k w zero e = absurd (omega (arith, (first-zero 12 (from13 (fileOf (g .records)) (g .tail) p []) ((first-zero (insert11 (fileOf (g .records)) (g .tail) p) (from12 (fileOf (g .records)) (g .tail) p []) e) .1)) .0))
+  keeps-put g p [] k w zero e = absurd (empty-refused (fileOf (g .records)) (g .tail) p e)
   keeps-put g p (x ∷ xs) k w zero e = λ i out. edit-keeps L g p k (there .0) (there .1) (view x) (sp (fileOf (g .records)) (g .tail) p (view x) (map view xs) (k .ok) t) raise raise-is ((good 8 nothing (view x) (t .passes .0)) .known) (x ∷ xs) 0 _ _ i (drop (84 * length (x ∷ xs)) (g .tail)) w out
     where
-      there : (partLength (g .records) < p) × (at (fileOf (g .records)) (g .tail) p ≤ length ((fileOf (g .records)) .body))
+      there : (partLength (g .records) < p) × (bodyPlace (fileOf (g .records)) p ≤ length ((fileOf (g .records)) .body))
       there = insert-place (fileOf (g .records)) (g .tail) p (map view (x ∷ xs)) e
 
       t : Fits (before (fileOf (g .records)) (g .tail) p) (after (fileOf (g .records)) (g .tail) p) (view x) (map view xs) ((fileOf (g .records)) .partLength + length ((fileOf (g .records)) .body) + length (view x ∷ map view xs))
@@ -208,7 +204,7 @@ module _ (L : Lawful) where
   keeps-cut : (g : RecordList) (p : ℕ) → Held g → (n : ℕ) → remove11 (fileOf (g .records)) (g .tail) p ≡ n → KeepsList ((conclude n g (removed g p)) .reply) (inFour (headerAbove g p (removedItem g p)) (removedItem g p)) g (withoutItem g p) ((conclude n g (removed g p)) .list)
   keeps-cut g p k zero e = λ i out. edit-keeps L g p k (remove-place (fileOf (g .records)) (g .tail) p e) (omega (arith, t .inside)) (removedItem g p) (cut-sp (fileOf (g .records)) (g .tail) p (k .ok) t) lower lower-is ((b-good (fileOf (g .records)) (g .tail) p (k .ok) t) .known) [] (suc ((removedItem g p) .dataRecords)) _ _ i (replicate (84 * suc ((removedItem g p) .dataRecords)) 32 ++ g .tail) wide-nil out
     where
-      t : Cuts ((fileOf (g .records)) .body) (at (fileOf (g .records)) (g .tail) p)
+      t : Cuts ((fileOf (g .records)) .body) (bodyPlace (fileOf (g .records)) p)
       t = cuts (fileOf (g .records)) (g .tail) p e
   keeps-cut g p k (suc n) e = refl
 
@@ -216,3 +212,43 @@ module _ (L : Lawful) where
   unfolding plain
   plain-keeps (insert p bs) g k = keeps-put g p (blockOf bs) k (block-wide bs) _ refl
   plain-keeps (remove p) g k = keeps-cut g p k _ refl
+
+-- an edit makes the buffer neither longer nor shorter
+insert-room : (f : File) (tail : List ℕ) (p : ℕ) (block : List View) → insertFault f tail p block ≡ 0 → 84 * length block ≤ length tail
+insert-room f tail p block e =
+    let a = first-zero (insert11 f tail p) _ e in
+    let b = first-zero (fault12 block) _ (a .1) in
+    let c = first-zero (insert13 f tail p block) _ (b .1) in
+    let d = first-zero (insert14 f tail p block) (insert15 f tail p block) (c .1) in
+    leb-true _ _ (unless-zero _ _ (d .1))
+
+module _ (L : Lawful) where
+  bytes-length : (g : RecordList) → Held g → length ((bufferOf g) .bytes) ≡ 84 * length (g .records) + length (g .tail)
+  bytes-length g k = rw (length-append (flat (g .records)) (g .tail), length-flat (g .records) (k .wide))
+
+  -- the sheet part and the body, and the body before and behind a place
+  halves : (g : RecordList) (p : ℕ) → (length (partRecords g p) + length (bodyRecords g p) ≡ length (g .records)) × (length (take (bodyPlace (file g p) p) (bodyRecords g p)) + length (drop (bodyPlace (file g p) p) (bodyRecords g p)) ≡ length (bodyRecords g p))
+  halves g p = (simp length-append at (ap length (take-append-drop (partLength (g .records)) (g .records))), simp length-append at (ap length (take-append-drop (bodyPlace (file g p) p) (bodyRecords g p))))
+
+  size-put : (g : RecordList) (p : ℕ) (blk : List (List ℕ)) → Held g → Wide blk → (n : ℕ) → insertFault (fileOf (g .records)) (g .tail) p (map view blk) ≡ n → length ((bufferOf ((conclude n g (inserted g p blk)) .list)) .bytes) ≡ length ((bufferOf g) .bytes)
+  size-put g p [] k w zero e = absurd (empty-refused (fileOf (g .records)) (g .tail) p e)
+  size-put g p (x ∷ xs) k w zero e = bytes-length _ (put-held L g p x xs k (fits (fileOf (g .records)) (g .tail) p (view x) (map view xs) e) w) ∙ simp (length-append, length-alterAt) (omega (arith, length-flat (g .records) (k .wide), room, length-map xs view, length-drop (84 * length (x ∷ xs)) (g .tail), halves g p .0, halves g p .1))
+    where
+      room : 84 * length (view x ∷ map view xs) ≤ length (g .tail)
+      room = insert-room (fileOf (g .records)) (g .tail) p (map view (x ∷ xs)) e
+  size-put g p blk k w (suc n) e = refl
+
+  size-cut : (g : RecordList) (p : ℕ) → Held g → (n : ℕ) → remove11 (fileOf (g .records)) (g .tail) p ≡ n → length ((bufferOf ((conclude n g (removed g p)) .list)) .bytes) ≡ length ((bufferOf g) .bytes)
+  size-cut g p k zero e = bytes-length _ (cut-held L g p k t) ∙ simp (length-append, length-alterAt, length-replicate) (omega (arith, length-flat (g .records) (k .wide), room, length-drop (suc ((removedItem g p) .dataRecords)) (drop (bodyPlace (file g p) p) (bodyRecords g p)), halves g p .0, halves g p .1))
+    where
+      t : Cuts ((fileOf (g .records)) .body) (bodyPlace (fileOf (g .records)) p)
+      t = cuts (fileOf (g .records)) (g .tail) p e
+
+      room : suc ((removedItem g p) .dataRecords) ≤ length (drop (bodyPlace (file g p) p) (bodyRecords g p))
+      room = rw (← length-map (drop (bodyPlace (file g p) p) (bodyRecords g p)) view, map-drop view (bodyPlace (fileOf (g .records)) p) (bodyRecords g p)) (enough (fileOf (g .records)) (g .tail) p (k .ok) t)
+  size-cut g p k (suc n) e = refl
+
+  pub plain-size : (c : Edit) (g : RecordList) → Held g → length ((bufferOf ((plain c g) .list)) .bytes) ≡ length ((bufferOf g) .bytes)
+  unfolding plain
+  plain-size (insert p bs) g k = size-put g p (blockOf bs) k (block-wide bs) _ refl
+  plain-size (remove p) g k = size-cut g p k _ refl

@@ -4,7 +4,7 @@ use lib.IntN.{ℤ}
 use Rattle.format.specs.Basics.{Answer, given, refused}
 use Rattle.format.specs.Corner.{Corner}
 use Rattle.format.specs.Judge.{Counts}
-use Rattle.format.specs.Above.{Way}
+use Rattle.format.specs.Above.{Way, noHeader, toHeader}
 use Rattle.format.specs.declared.Number.{Number}
 use Rattle.format.specs.declared.Number.the-variants as Number
 use Rattle.format.specs.declared.Written.{Written}
@@ -45,6 +45,6 @@ editedAnswer (Edited.Refused n r) = refused n r
 
 -- the way up: the header above, and how many headers were passed; "For a layer header: none, 0"
 unfoldable pub wayUpAnswer : WayUp → Answer Way
-wayUpAnswer (WayUp.Header h n) = given (record { header = h; passed = n })
-wayUpAnswer WayUp.LayerHeader = given (record { header = 0; passed = 0 })
+wayUpAnswer (WayUp.Header h n) = given (toHeader h n)
+wayUpAnswer WayUp.LayerHeader = given noHeader
 wayUpAnswer (WayUp.Refused n r) = refused n r

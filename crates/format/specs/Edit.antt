@@ -56,46 +56,44 @@ abbrev pub fault14 : (above : View) → (kind records : ℕ) → ℕ
 fault14 above kind records =
     unless (leb (above .total + 1) 99999 && (not (eqb kind 9) || leb (above .count kind + 1) 9) && leb records 200000) 14
 
--- ---- A place of a sheet is a record number, "Records number from 1"; behind the records stand the bytes of `tail`
-module _ (f : File) (tail : List ℕ) (place : ℕ) where
-  -- so many records of the body stand before the place
-  abbrev pub at : ℕ
-  at = place - suc (f .partLength)
+-- ---- A place of a sheet is a record number, "Records number from 1": so many records of the body stand before it
+abbrev pub bodyPlace : File → (place : ℕ) → ℕ
+bodyPlace f place = place - suc (f .partLength)
 
+-- behind the records stand the bytes of `tail`
+module _ (f : File) (tail : List ℕ) (place : ℕ) where
   abbrev pub before : List View
-  before = take at (f .body)
+  before = take (bodyPlace f place) (f .body)
 
   abbrev pub after : List View
-  after = drop at (f .body)
+  after = drop (bodyPlace f place) (f .body)
 
   -- 11: "edit place is no item or header start, nor (insertion) one past the end"
   abbrev pub insert11 : ℕ
-  insert11 = unless (ltb (f .partLength) place && leb at (length (f .body)) && eqb (dueBehind 0 before) 0) 11
+  insert11 = unless (ltb (f .partLength) place && leb (bodyPlace f place) (length (f .body)) && eqb (dueBehind 0 before) 0) 11
 
   -- 11: the same of a removal, and "removal at a header"; "12 to 15 never apply to a removal"
   abbrev pub remove11 : ℕ
-  remove11 = unless (ltb (f .partLength) place && ltb at (length (f .body)) && eqb (dueBehind 0 before) 0 && not (isHead ((getD (f .body) at absent) .kind))) 11
+  remove11 =
+      unless (ltb (f .partLength) place && ltb (bodyPlace f place) (length (f .body)) && eqb (dueBehind 0 before) 0 && not (isHead ((getD (f .body) (bodyPlace f place) absent) .kind))) 11
 
-  -- the header above a block there
+  -- 13 and 14 of a block there, by its first record and the header above it
+  abbrev pub insert13 : List View → ℕ
+  insert13 block = fault13 (openBehind 0 0 before) (getD block 0 absent) after
+
   abbrev pub aboveBlock : List View → View
   aboveBlock block = getD before (pred (aboveIn ((getD block 0 absent) .level) before)) absent
 
+  abbrev pub insert14 : List View → ℕ
+  insert14 block = fault14 (aboveBlock block) (countIndex ((getD block 0 absent) .kind)) (f .partLength + length (f .body) + length block)
+
   -- 15: "a buffer is too short for the result"
-  abbrev pub from15 : List View → ℕ
-  from15 block = unless (leb (84 * length block) (length tail)) 15
-
-  abbrev pub from14 : List View → ℕ
-  from14 block = first (fault14 (aboveBlock block) (countIndex ((getD block 0 absent) .kind)) (f .partLength + length (f .body) + length block)) (from15 block)
-
-  abbrev pub from13 : List View → ℕ
-  from13 block = first (fault13 (openBehind 0 0 before) (getD block 0 absent) after) (from14 block)
-
-  abbrev pub from12 : List View → ℕ
-  from12 block = first (fault12 block) (from13 block)
+  abbrev pub insert15 : List View → ℕ
+  insert15 block = unless (leb (84 * length block) (length tail)) 15
 
   -- "then 11 to 15 in order"; 0 where nothing refuses the block
   abbrev pub insertFault : List View → ℕ
-  insertFault block = first insert11 (from12 block)
+  insertFault block = first insert11 (first (fault12 block) (first (insert13 block) (first (insert14 block) (insert15 block))))
 
 -- ---- "The plain record list keeps records and behind them a tail"
 pub record RecordList : Type 0 where
@@ -119,31 +117,28 @@ module _ (list : RecordList) (place : ℕ) where
   abbrev pub bodyRecords : List (List ℕ)
   bodyRecords = drop (file .partLength) (list .records)
 
-  abbrev pub bodyPlace : ℕ
-  bodyPlace = place - suc (file .partLength)
-
   -- the body's records before the place, with the header above an item there changed in the item's count
   abbrev pub changed : ((kind : ℕ) → List ℕ → List ℕ) → View → List (List ℕ)
-  changed change itemView = alterAt (change (countIndex (itemView .kind))) (pred (aboveIn (itemView .level) (take bodyPlace (file .body)))) (take bodyPlace bodyRecords)
+  changed change itemView = alterAt (change (countIndex (itemView .kind))) (pred (aboveIn (itemView .level) (before file (list .tail) place))) (take (bodyPlace file place) bodyRecords)
 
   abbrev pub firstView : List (List ℕ) → View
   firstView block = getD (map view block) 0 absent
 
-  -- "the block goes in before the record at the place, or at the end; the tail loses as many bytes at its front. Then total and own
-  -- kind in the header above that item and the element count in record 2 rise .. by one, the record count there by the item's records"
+  -- "the block goes in before the record at the place, or at the end; the tail loses as many bytes at its front". "Then total and own kind
+  -- in the header above that item and the element count in record 2 rise .. by one, the record count there by the item's records"
   abbrev pub inserted : List (List ℕ) → RecordList
   inserted block = record {
-    records = alterAt (writeCounts (file .statedElements + 1) (file .statedRecords + length block)) 1 partRecords ++ (changed raise (firstView block) ++ (block ++ drop bodyPlace bodyRecords));
+    records = alterAt (writeCounts (file .statedElements + 1) (file .statedRecords + length block)) 1 partRecords ++ (changed raise (firstView block) ++ (block ++ drop (bodyPlace file place) bodyRecords));
     tail = drop (84 * length block) (list .tail);
   }
 
   abbrev pub removedItem : View
-  removedItem = getD (file .body) bodyPlace absent
+  removedItem = getD (file .body) (bodyPlace file place) absent
 
   -- "the item at the place goes out; the tail gains as many spaces at its front", and the four columns fall
   abbrev pub removed : RecordList
   removed = record {
-    records = alterAt (writeCounts (file .statedElements - 1) (file .statedRecords - suc (removedItem .dataRecords))) 1 partRecords ++ (changed lower removedItem ++ drop (suc (removedItem .dataRecords)) (drop bodyPlace bodyRecords));
+    records = alterAt (writeCounts (file .statedElements - 1) (file .statedRecords - suc (removedItem .dataRecords))) 1 partRecords ++ (changed lower removedItem ++ drop (suc (removedItem .dataRecords)) (drop (bodyPlace file place) bodyRecords));
     tail = replicate (84 * suc (removedItem .dataRecords)) 32 ++ list .tail;
   }
 

@@ -17,7 +17,7 @@ use Rattle.format.specs.Index.{indexFault}
 use Rattle.format.specs.Judge.{judge, judgeRecords, judgeIndexRecords, judgeSheet, judgeIndex}
 use Rattle.format.specs.Edit.{Edit, plain, insert, remove}
 use Rattle.format.specs.Run.{call, runBuffer, repliesBuffer}
-use Rattle.format.specs.Above.{up}
+use Rattle.format.specs.Above.{toHeader, up}
 use Rattle.format.specs.Program.{line, printed}
 
 -- "five sheet records, one layer, one E2 of 7 points in 2D": the five, the layer, and the line with its two data records
@@ -80,13 +80,13 @@ table =
     edits (remove 6 ∷ remove 8 ∷ remove 7 ∷ insert 7 (rows item) ∷ []) example (refused 11 0 ∷ refused 11 0 ∷ given 504 ∷ given 756 ∷ []) example ∷ []
 
 abbrev pub Says : Example → Type 0
-Says (prints input text) = line input ≡ bytes text
+Says (prints input text) = printed input ≡ bytes text ++ 10 ∷ []
 Says (gridNeed rows columns records) = gridNeeds rows columns ≡ records
 Says (gridStated repeat column records) = gridStates repeat column ≡ records
 Says (elementNeed kind count records) = elementRecords kind count ≡ records
 Says (index record1 number at) = judgeIndex 84 (bytes record1) ≡ refused number at
 Says (cornersAre file millimetres) = corners (chunks (length file / 84) file) ≡ millimetres
-Says (upwards file number header passed) = up (length file) file number ≡ given (record { header = header; passed = passed })
+Says (upwards file number header passed) = up (length file) file number ≡ given (toHeader header passed)
 Says (edits calls file replies after) =
     (repliesBuffer calls (record { bytes = file; used = length file }) ≡ replies)
     × ((runBuffer calls (record { bytes = file; used = length file })) .bytes ≡ after)

@@ -5,7 +5,7 @@ use Prim.Native.Nat.{ℕ, zero, suc, pred, _+_, _/_}
 use lib.Dec.{leb, eqb}
 use lib.ListN.{length, drop, getD}
 use Rattle.format.specs.Basics.{Answer, given, refused, first, unless, Fault, none, fault, orElse, toFault, chunks, stageOneOk}
-use Rattle.format.specs.Record.{Kind, head, item, isHead, countIndex, Data, nothing, View, view}
+use Rattle.format.specs.Record.{Kind, isHead, isHeaderOrItem, countIndex, Data, nothing, View, view}
 use Rattle.format.specs.Sheet.{partLength, sheetFault, statedElements, statedRecords}
 use Rattle.format.specs.Index.{indexFault}
 
@@ -15,22 +15,18 @@ use Rattle.format.specs.Index.{indexFault}
 
 -- so many data records are due behind a header or an item that states `dataRecords`
 abbrev pub dueOf : Kind → ℕ → ℕ
-dueOf head dataRecords = 0
-dueOf (item k) dataRecords = dataRecords
+dueOf kind dataRecords = cond (isHead kind) 0 dataRecords
 
 -- "The open level is that of the last header, or one less than the last item's"
 abbrev pub openOf : Kind → ℕ → ℕ
-openOf head level = level
-openOf (item k) level = pred level
+openOf kind level = cond (isHead kind) level (pred level)
 
 -- "A layer header has level 1, a group header 2 to 8. An item ..; its level is 2 to 9"
 abbrev pub lowestLevel : Kind → ℕ
-lowestLevel head = 1
-lowestLevel (item k) = 2
+lowestLevel kind = cond (isHead kind) 1 2
 
 abbrev pub highestLevel : Kind → ℕ
-highestLevel head = 8
-highestLevel (item k) = 9
+highestLevel kind = cond (isHead kind) 8 9
 
 -- what the walk keeps behind one record more: a header or an item sets all of it anew, of data records one less is due
 abbrev pub openAfter : (opened due : ℕ) → View → ℕ
@@ -54,10 +50,10 @@ abbrev pub levelOk : (opened : ℕ) → View → Bool
 levelOk opened r = leb (lowestLevel (r .kind)) (r .level) && leb (r .level) (highestLevel (r .kind)) && leb (r .level) (suc opened)
 
 -- the first fault of the record reached, 0 for none: where a header or an item is due, 4, 5, 6, 7, 8 in that order; where data is
--- due, 5 and 6. A record that is neither header nor item has no place among the counts: 4
+-- due, 5 and 6. 4: "not H, E1..E8, G or T where one is due"
 abbrev pub faultAt : (opened due : ℕ) → Data → View → ℕ
 faultAt opened zero held r =
-    first (unless (leb (countIndex (r .kind)) 9) 4) (first (r .columnFault) (first (unless (levelOk opened r) 7) (r .ruleFault)))
+    first (unless (isHeaderOrItem (r .kind)) 4) (first (r .columnFault) (first (unless (levelOk opened r) 7) (r .ruleFault)))
 faultAt opened (suc due) held r = r .faultAsData held due
 
 -- 3: "a needed record is missing", at "its item's header"
@@ -122,8 +118,7 @@ countFault (suc due) number (r ∷ rs) = countFault due (suc number) rs
 
 -- how many items there are among headers and items
 abbrev pub one-if-item : Kind → ℕ
-one-if-item head = 0
-one-if-item (item k) = 1
+one-if-item kind = cond (isHead kind) 0 1
 
 abbrev pub items : List View → ℕ
 items [] = 0

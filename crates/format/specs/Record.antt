@@ -31,11 +31,12 @@ typeOf r =
     cond (begins "G " r) G (
     cond (begins "T " r) T other))))))))))
 
--- the kind of a record, by which a header counts it: a header, or an item. Items 0 to 7 are the elements E1 to E8, item 8 is a grid or
--- a net, which share a count; any later one is neither header nor item
+-- the kind of a record, by which a header counts it: a header; an item, 0 to 7 for the elements E1 to E8, 8 for a grid or a net, which
+-- share a count; or neither of the two
 pub data Kind : Type 0 where
   head : Kind
   item : ℕ → Kind
+  neither : Kind
 
 abbrev pub kindOf : RecordType → Kind
 kindOf H = head
@@ -49,16 +50,22 @@ kindOf E7 = item 6
 kindOf E8 = item 7
 kindOf G = item 8
 kindOf T = item 8
-kindOf other = item 9
+kindOf other = neither
 
 abbrev pub isHead : Kind → Bool
 isHead head = true
 isHead (item k) = false
+isHead neither = false
 
--- the count of a header that a record belongs to: 0 groups, 1 to 8 the elements by type, 9 grid and net; a later one there is not
+-- the count of a header that a record belongs to: 0 groups, 1 to 8 the elements by type, 9 grid and net; 10 is no count
 abbrev pub countIndex : Kind → ℕ
 countIndex head = 0
 countIndex (item k) = suc k
+countIndex neither = 10
+
+-- a header has these ten counts, so a record of another is neither header nor item
+abbrev pub isHeaderOrItem : Kind → Bool
+isHeaderOrItem kind = leb (countIndex kind) 9
 
 -- the name of that count's column in the header
 unfoldable pub countName : ℕ → String
@@ -83,7 +90,8 @@ dataOf kind count =
     cond (eqb kind 5) attributes nothing)))
 
 -- how many points or heights are used in a data record that has so many data records behind it, where a record takes `each` of the
--- `count` in all: the last record takes what the full ones before it leave
+-- `count` in all: the last record takes what the full ones before it leave. Of 7 points in 2D, six to a record, the first record of two
+-- uses `usedIn 6 7 1`, which is 6, and the last `usedIn 6 7 0`, which is 7 - 6 x (2 - 1), 1; of 12 it uses 6
 abbrev pub usedIn : (each count behind : ℕ) → ℕ
 usedIn each count zero = count - each * (roundUp count each - 1)
 usedIn each count (suc behind) = each
@@ -242,7 +250,7 @@ netView r = record {
 -- no header and no item
 unfoldable pub otherView : List ℕ → View
 otherView r = record {
-  kind = item 9;
+  kind = neither;
   level = 0;
   dataRecords = 0;
   dataHeld = nothing;

@@ -10,8 +10,8 @@ use Rattle.format.specs.Layout.{Col, find, header, sheetB}
 use Rattle.format.specs.Record.{View, countIndex, countName}
 use Rattle.format.specs.Sheet.{statedElements}
 use Rattle.format.specs.Judge.{Counts, File, fileOf, accepted, judgeSheet}
-use Rattle.format.specs.Edit.{RecordList, Edit, insert, remove, PlainStep, plain, aboveIn, bodyPlace, blockOf, firstView, removedItem}
-use Rattle.format.specs.Above.{levelAt, numbered, up, wayFrom}
+use Rattle.format.specs.Edit.{RecordList, Edit, insert, remove, PlainStep, plain, aboveIn, before, blockOf, firstView, removedItem}
+use Rattle.format.specs.Above.{up, WayAnswered}
 
 -- a lent buffer and the used length
 pub record Buffer : Type 0 where
@@ -81,7 +81,7 @@ abbrev pub elementCount : Buffer → ℕ
 elementCount b = statedElements (getD ((listOf b) .records) 1 [])
 
 -- ---- "moves the rest unchanged": every byte is kept but those of four columns
--- the item that an edit puts in or takes out, at its place
+-- the item that an edit puts in or takes out, and its place
 abbrev pub placeOf : Edit → ℕ
 placeOf (insert place block) = place
 placeOf (remove place) = place
@@ -92,18 +92,20 @@ itemOf (remove place) list = removedItem list place
 
 -- the record number of the header above an item there
 abbrev pub headerAbove : RecordList → (place : ℕ) → (itemView : View) → ℕ
-headerAbove list place itemView =
-    numbered ((fileOf (list .records)) .partLength) (aboveIn (itemView .level) (take (bodyPlace list place) ((fileOf (list .records)) .body)))
+headerAbove list place itemView = (fileOf (list .records)) .partLength + aboveIn (itemView .level) (before (fileOf (list .records)) (list .tail) place)
 
 -- byte i of a buffer lies in this column of this record
 abbrev pub inColumn : (number : ℕ) → Col → (i : ℕ) → Bool
 inColumn number column i = leb (84 * pred number + column .start) i && ltb i (84 * pred number + column .start + column .width)
 
--- "rewrites four columns .. (total and own kind in the header above, both sheet counts)"
+-- "rewrites four columns .. (total and own kind in the header above, both sheet counts)": byte i lies in one of them
 abbrev pub inFour : (above : ℕ) → (itemView : View) → (i : ℕ) → Bool
 inFour above itemView i =
     (inColumn above (find "total" header) i || inColumn above (find (countName (countIndex (itemView .kind))) header) i)
     || (inColumn 2 (find "element count" sheetB) i || inColumn 2 (find "record count" sheetB) i)
+
+abbrev pub inFourColumns : Edit → RecordList → (i : ℕ) → Bool
+inFourColumns edit list i = inFour (headerAbove list (placeOf edit) (itemOf edit list)) (itemOf edit list) i
 
 -- the block put in at a place, or the item there taken out, and nothing else
 abbrev pub withBlock : RecordList → (place : ℕ) → (block : List (List ℕ)) → RecordList
@@ -122,27 +124,35 @@ abbrev pub moved : Edit → RecordList → RecordList
 moved (insert place block) list = withBlock list place (blockOf block)
 moved (remove place) list = withoutItem list place
 
--- what a call that answered so keeps of the buffer: a refused one all of it
-abbrev pub Keeps : Answer ℕ → Edit → (old new : Buffer) → Type 0
-Keeps (given used) edit old new = (i : ℕ) → inFour (headerAbove (listOf old) (placeOf edit) (itemOf edit (listOf old))) (itemOf edit (listOf old)) i ≡ false → getD (new .bytes) i 0 ≡ getD ((bufferOf (moved edit (listOf old))) .bytes) i 0
-Keeps (refused number at) edit old new = new ≡ old
+abbrev pub byteAt : Buffer → (i : ℕ) → ℕ
+byteAt b i = getD (b .bytes) i 0
 
--- ---- "the way up answers the header above with the number of headers met": `wayFrom` is those two by definition. The number is level
--- less one, at most eight
+-- the bytes that a call which answered so leaves: of an accepted one all but those of the four columns are where the move put them, a
+-- refused one leaves all as it was
+abbrev pub KeepsBytes : Answer ℕ → Edit → (old new : Buffer) → Type 0
+KeepsBytes (given used) edit old new =
+    (i : ℕ) → inFourColumns edit (listOf old) i ≡ false → byteAt new i ≡ byteAt (bufferOf (moved edit (listOf old))) i
+KeepsBytes (refused number at) edit old new = new ≡ old
+
+-- and no call makes the buffer longer or shorter
+pub record Keeps (reply : Answer ℕ) (edit : Edit) (old new : Buffer) : Type 0 where
+  pub size : length (new .bytes) ≡ length (old .bytes)
+  pub bytes : KeepsBytes reply edit old new
+
+-- each call of a list, in order, keeps so of the buffer that it got
+abbrev pub EachKeeps : List Edit → Buffer → Type 0
+EachKeeps [] b = Unit {0}
+EachKeeps (c ∷ cs) b = Keeps ((call c b) .reply) c b ((call c b) .buffer) × EachKeeps cs ((call c b) .buffer)
+
+-- ---- What holds of an accepted sheet at every moment
 abbrev pub sheetOf : Buffer → File
 sheetOf b = fileOf ((listOf b) .records)
 
-pub record WayAnswered (b : Buffer) (number : ℕ) : Type 0 where
-  pub answer : up (b .used) (b .bytes) number ≡ given (wayFrom (sheetOf b) number)
-  pub levelLessOne : (wayFrom (sheetOf b) number) .passed ≡ levelAt ((sheetOf b) .body) (number - (sheetOf b) .partLength) - 1
-  pub most : (wayFrom (sheetOf b) number) .passed ≤ 8
-
--- ---- What holds of an accepted sheet at every moment
 pub record Sound (b : Buffer) : Type 0 where
   -- accepted, with the records that its length makes and the items that record 2 states
   pub accepts : judgeSheet (b .used) (b .bytes) ≡ accepted (b .used / 84) (elementCount b)
   -- the way up from any record after the sheet part
-  pub ways : (number : ℕ) → (sheetOf b) .partLength < number → number ≤ b .used / 84 → WayAnswered b number
+  pub ways : (number : ℕ) → (sheetOf b) .partLength < number → number ≤ b .used / 84 → WayAnswered (sheetOf b) number (up (b .used) (b .bytes) number)
   -- the next call, whatever it is
   pub keeps : (edit : Edit) → Keeps ((call edit b) .reply) edit b ((call edit b) .buffer)
 
@@ -152,7 +162,9 @@ pub record Runs (cs : List Edit) (b : Buffer) : Type 0 where
   pub replies : repliesBuffer cs b ≡ repliesPlain cs (listOf b)
   -- "at the end the buffer equals its records followed by its tail"
   pub buffer : runBuffer cs b ≡ bufferOf (runPlain cs (listOf b))
-  -- the file is still accepted, the way up still right, and nothing lost
+  -- every call of the list kept every byte but those of its four columns, and the buffer's length
+  pub kept : EachKeeps cs b
+  -- the file is still accepted, the way up still right, and the next call keeps as much
   pub sound : Sound (runBuffer cs b)
   -- the element count is the first one, with the accepted insertions and without the accepted removals
   pub counts : elementCount (runBuffer cs b) + sum-of removals cs (repliesBuffer cs b) ≡ elementCount b + sum-of insertions cs (repliesBuffer cs b)

@@ -7,7 +7,7 @@ use native.Mathlib.Omega.{arith}
 use native.Mathlib.Numerals.{add-one}
 use lib.ListN.{getD}
 use Rattle.format.specs.Basics.{none}
-use Rattle.format.specs.Record.{Kind, head, item, isHead, countIndex, View, view}
+use Rattle.format.specs.Record.{Kind, head, item, neither, isHead, countIndex, View, view}
 use Rattle.format.specs.Judge.{countUnder, countsAgree}
 use Rattle.judge.specs.declared.Walked.{Walked}
 use Rattle.judge.specs.declared.WalkedBody.{WalkedBody}
@@ -22,10 +22,12 @@ use Rattle.judge.proofs.Joined.{step-item, joins-item, item-counted, st
 item-of : (k : Kind) → isHead k ≡ false → k ≡ item (pred (countIndex k))
 item-of head e = cc
 item-of (item k) e = refl
+item-of neither e = refl
 
 head-of : (k : Kind) → isHead k ≡ true → k ≡ head
 head-of head e = refl
 head-of (item k) e = cc
+head-of neither e = cc
 
 module _ (file : List ℕ) (n k : ℕ) (here : k < n) where
   abbrev one : View

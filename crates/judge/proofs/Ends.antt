@@ -4,7 +4,7 @@ use mathlib.Core.List.{List, _∷_}
 use Prim.Native.Nat.{ℕ, _-_, _≤_}
 use native.Mathlib.Omega.{arith}
 use Rattle.format.specs.Basics.{none}
-use Rattle.format.specs.Record.{nothing, Kind, head, item, View}
+use Rattle.format.specs.Record.{nothing, Kind, head, item, neither, View}
 use Rattle.format.specs.Judge.{faultAt, lowestLevel, countUnder}
 use Rattle.format.proofs.JudgeWalks.{good, good-faultAt, walk-passes}
 use Rattle.format.proofs.JudgeSteps.{walk-step, countUnder-low}
@@ -13,6 +13,7 @@ use Rattle.judge.specs.Walks.{faultFrom, entries}
 from-one : (k : Kind) → 1 ≤ lowestLevel k
 from-one head = omega arith
 from-one (item k) = omega arith
+from-one neither = omega arith
 
 module _ (opened i : ℕ) (r : View) (rs : List View) (well : faultAt opened 0 nothing r ≡ 0) where
   pub level-some : 1 ≤ r .level

@@ -11,7 +11,7 @@ use lib.ListN.{length, drop, length-drop}
 use lib.Seq.{length-take-le}
 use Rattle.format.specs.Basics.{first, unless}
 use Rattle.records.specs.declared.items.Entry.{Entry}
-use Rattle.format.specs.Record.{nothing, Kind, head, item, isHead, countIndex, view}
+use Rattle.format.specs.Record.{nothing, Kind, head, item, neither, isHead, countIndex, view}
 use Rattle.format.specs.Judge.{lowestLevel, highestLevel, levelOk, faultAt}
 use Rattle.format.proofs.Basics.{first-zero}
 use Rattle.format.proofs.JudgeWalks.{good}
@@ -62,11 +62,13 @@ lowest-is : (k : Kind) → lowestOf (countIndex k) ≡ lowestLevel k
 unfolding lowestOf
 lowest-is head = refl
 lowest-is (item k) = rw (ne-eqb (suc k) 0 (λ e. omega arith))
+lowest-is neither = rw (ne-eqb 10 0 (λ e. omega arith))
 
 highest-is : (k : Kind) → highestOf (countIndex k) ≡ highestLevel k
 unfolding highestOf
 highest-is head = refl
 highest-is (item k) = rw (ne-eqb (suc k) 0 (λ e. omega arith))
+highest-is neither = rw (ne-eqb 10 0 (λ e. omega arith))
 
 first-same : (a b c : ℕ) → (a ≡ 0 → b ≡ c) → first a b ≡ first a c
 first-same zero b c e = e refl
@@ -75,14 +77,17 @@ first-same (suc a) b c e = refl
 head-first : (k : Kind) → countIndex k ≡ 0 → isHead k ≡ true
 head-first head e = refl
 head-first (item k) e = absurd (omega arith)
+head-first neither e = absurd (omega arith)
 
 item-later : (k : Kind) → (countIndex k ≡ 0 → ⊥) → isHead k ≡ false
 item-later head ne = absurd (ne refl)
 item-later (item k) ne = refl
+item-later neither ne = refl
 
 header-to-8 : (k : Kind) → countIndex k ≡ 0 → highestLevel k ≡ 8
 header-to-8 head e = refl
 header-to-8 (item k) e = absurd (omega arith)
+header-to-8 neither e = absurd (omega arith)
 
 module _ (l : List ℕ) (whole : length l ≡ 84) (opened : ℕ) where
   level-tested : (entryOf l) .fault ≡ 0 → levelFits ((entryOf l) .kind) ((entryOf l) .level) opened ≡ levelOk opened (view l)

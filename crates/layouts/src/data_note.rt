@@ -24,7 +24,8 @@ impl DataNote {
 
     pub const WRITING_DIRECTION_START: usize = 0;
 
-    pub const DIRECTION_START: usize = Self::WRITING_DIRECTION_START + Self::WRITING_DIRECTION_WIDTH;
+    pub const DIRECTION_START: usize = Self::WRITING_DIRECTION_START
+        + Self::WRITING_DIRECTION_WIDTH;
 
     pub const LETTER_SIZE_START: usize = Self::DIRECTION_START + Self::DIRECTION_WIDTH;
 

@@ -10,7 +10,7 @@ use borrow.Author.Tests.{eq-eqb, ne-eqb, eqb-true, eqb-false, lt-ltb, ltb-true}
 use lib.Dec.{eqb, ltb}
 use lib.ListN.{length, take, getD, set, length-set}
 use lib.Seq.{getD-take, getD-set-same, getD-set-other}
-use Rattle.format.specs.Record.{Kind, head, item, countIndex, view}
+use Rattle.format.specs.Record.{Kind, head, item, neither, countIndex, view}
 use Rattle.format.specs.Judge.{dueOf, openOf, dueAfter, openAfter, isHeaderAt}
 use Rattle.format.specs.Edit.{dueBehind, openBehind, lastHeader, absent}
 use Rattle.format.specs.Above.{lastStart}
@@ -30,11 +30,13 @@ next-by : (k : Kind) (index dataRecords : ℕ) → nextIndex index (countIndex k
 unfolding nextIndex
 next-by head index dataRecords = omega arith
 next-by (item k) index dataRecords = rw (ne-eqb (suc k) 0 (λ e. omega arith)) (omega arith)
+next-by neither index dataRecords = rw (ne-eqb 10 0 (λ e. omega arith)) (omega arith)
 
 opened-by : (k : Kind) (level : ℕ) → openedBy (countIndex k) level ≡ openOf k level
 unfolding openedBy
 opened-by head level = refl
 opened-by (item k) level = rw (ne-eqb (suc k) 0 (λ e. omega arith)) (let e : level - 1 ≡ pred level = omega arith in e)
+opened-by neither level = rw (ne-eqb 10 0 (λ e. omega arith)) (let e : level - 1 ≡ pred level = omega arith in e)
 
 -- a header is kept at its level
 module _ (kind level index : ℕ) (headers : List ℕ) (nine : length headers ≡ 9) where

@@ -10,7 +10,7 @@ use lib.Dec.{leb, eqb}
 use lib.ListN.{length, getD}
 use Rattle.format.specs.Basics.{first, unless}
 use Rattle.format.specs.Layout.{find, numberAt, header, element, gridHeader, netHeader}
-use Rattle.format.specs.Record.{RecordType, H, E1, E2, E3, E4, E5, E6, E7, E8, G, T, other, typeOf, Kind, head, item, isHead, countIndex, Data, nothing, points3D, points2D, triangles, heights, notes, attributes, gridStates, View, countIn, asData, headerView, elementView, gridView, netView, otherView, viewAs, view}
+use Rattle.format.specs.Record.{RecordType, H, E1, E2, E3, E4, E5, E6, E7, E8, G, T, other, typeOf, Kind, head, item, neither, isHead, countIndex, Data, nothing, points3D, points2D, triangles, heights, notes, attributes, gridStates, View, countIn, asData, headerView, elementView, gridView, netView, otherView, viewAs, view}
 use Rattle.format.specs.Judge.{levelOk, faultAt, countUnder, sum, all, countAgrees, countsAgree}
 use Rattle.format.proofs.Basics.{first-zero, unless-zero}
 use Rattle.layout_faults.proofs.Laws.{number-small}
@@ -32,6 +32,7 @@ held-data attributes = refl
 pub head-index : (k : Kind) → isHead k ≡ eqb (countIndex k) 0
 head-index head = refl
 head-index (item k) = sym (ne-eqb (suc k) 0 (λ (e : suc k ≡ 0). omega arith))
+head-index neither = sym (ne-eqb 10 0 (λ (e : 10 ≡ 0). omega arith))
 
 fault-in : (v : View) → (entryIn v) .fault ≡ viewFault v
 unfolding entryIn

@@ -48,10 +48,10 @@ pub(crate) fn columns_used(held: Held, behind: usize) -> usize
 }
 
 // The direction of a note, in degrees: from -45 to 45 for 0 in the first column, else from -135 to -45.
-pub(crate) fn is_direction(writing_direction: usize, direction: i64) -> bool
-    ensures { λ r. ⌜ r ≡ directionIn writing_direction direction ⌝ }
+pub(crate) fn is_direction(writing: usize, direction: i64) -> bool
+    ensures { λ r. ⌜ r ≡ directionIn writing direction ⌝ }
 {
-    if writing_direction == 0 {
+    if writing == 0 {
         return -45 <= direction && direction <= 45;
     }
     -135 <= direction && direction <= -45

@@ -148,9 +148,13 @@ fn note_fault(record: &[u8]) -> u8
     if fault != 0 {
         return fault;
     }
-    let writing_direction = reading::natural(record, DataNote::WRITING_DIRECTION_START, DataNote::WRITING_DIRECTION_WIDTH);
+    let writing = reading::natural(
+        record,
+        DataNote::WRITING_DIRECTION_START,
+        DataNote::WRITING_DIRECTION_WIDTH,
+    );
     let direction = reading::integer(record, DataNote::DIRECTION_START, DataNote::DIRECTION_WIDTH);
-    if data::is_direction(writing_direction, direction) {
+    if data::is_direction(writing, direction) {
         0
     } else {
         6
