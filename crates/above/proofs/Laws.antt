@@ -3,19 +3,21 @@ use mathlib.Core.Path.{_≡_, refl, ap, sym, _∙_}
 use mathlib.Core.List.{List, [], map}
 use Prim.Native.Nat.{ℕ, zero, suc, pred, _+_, _-_, _/_, _^_, _≤_, _<_}
 use native.Mathlib.Omega.{arith}
-use borrow.Author.Tests.{le-ltb, lt-ltb, lt-leb}
+use mathlib.Core.Bool.{cond}
+use lib.Dec.{eqb}
+use borrow.Author.Tests.{le-ltb, lt-ltb, lt-leb, le-leb, ne-eqb}
 use lib.ListN.{length, take, drop, getD}
 use Rattle.format.specs.Basics.{Answer, given, Fault, none, fault}
 use Rattle.format.specs.Record.{View, view, nothing}
 use Rattle.format.specs.Sheet.{sheetFault}
 use Rattle.format.specs.Judge.{Counts, File, fileOf, judge, judgeRecords, afterPart}
 use Rattle.format.specs.Edit.{absent, lastHeader}
-use Rattle.format.specs.Above.{own, levelAt, aboveAt, numbered, upFrom}
+use Rattle.format.specs.Above.{own, levelAt, aboveAt, noHeader, toHeader, upFrom}
 use Rattle.format.specs.Answers.{wayUpAnswer}
 use Rattle.format.specs.declared.WayUp.the-variants.{Header, LayerHeader, Refused}
 use Rattle.format.proofs.JudgeWalks.{Passes}
 use Rattle.format.proofs.JudgeAccepted.{accepted-ok}
-use Rattle.format.proofs.AboveWayUp.{Answered, way-up}
+use Rattle.format.proofs.AboveWayUp.{Climbs, climbs}
 use Rattle.records.specs.declared.items.Entry.{Entry}
 use Rattle.records.specs.Entry.{viewFault, entryOf}
 use Rattle.records.proofs.Laws.{entry-fault, entry-level}
@@ -36,10 +38,6 @@ part-given none answer counts e = (refl, e)
 part-given (fault number at) answer counts e = let z : _≡_ {A = ℕ} 0 1 = cc in absurd (omega arith)
 
 -- a header that there is has a record number
-numbered-some : (part above : ℕ) → 0 < above → numbered part above ≡ part + above
-numbered-some part zero h = absurd (omega arith)
-numbered-some part (suc above) h = refl
-
 module _ (file : List ℕ) (number : ℕ) (accepted : AcceptedSheet file) (part : SheetPart) (found : part ≡ sheetPartOf file) where
   -- ---- the sheet
   both : (sheetFault (Part.recordsOf file) ≡ none) × (judge (fileOf (Part.recordsOf file)) ≡ given (accepted .counts))
@@ -90,11 +88,11 @@ module _ (file : List ℕ) (number : ℕ) (accepted : AcceptedSheet file) (part 
     within : number ≤ part .length + length body
     within = omega (arith, length-body file (part .length), sound .inside)
 
-    answer : wayIn file number ≡ given (record { header = numbered (part .length) (aboveAt body at); passed = levelAt body at - 1 })
-    answer = way-is ∙ answered .answer ∙ ap (λ (n : ℕ). given (record { header = numbered (part .length) (aboveAt body at); passed = n })) (answered .levelLessOne)
+    answer : wayIn file number ≡ given (cond (eqb (aboveAt body at) 0) noHeader (toHeader (part .length + aboveAt body at) (levelAt body at - 1)))
+    answer = way-is ∙ rw (lt-ltb (part .length) number behind, le-leb number (part .length + length body) within, c .passed number (omega (arith, c .within)))
       where
-        answered : Answered sheet number
-        answered = way-up sheet (accepted .counts .records) (accepted .counts .items) number judged behind within
+        c : Climbs body at
+        c = climbs body passes at (omega arith) (omega (arith, within))
 
     o : OwnRecord body at
     o = own-record body passes at (omega arith) (omega (arith, within))
@@ -133,7 +131,7 @@ module _ (file : List ℕ) (number : ℕ) (accepted : AcceptedSheet file) (part 
 
         pub layer-header : e .level - 1 ≡ 0 → wayUpAnswer LayerHeader ≡ wayIn file number
         unfolding wayUpAnswer
-        layer-header z = sym (answer ∙ rw (o .none-above (omega (arith, level-is, o .least)), ← level-is, z))
+        layer-header z = sym (answer ∙ rw (o .none-above (omega (arith, level-is, o .least))))
 
         header-is : getD (place .headers) (e .level - 1) 0 ≡ aboveAt body at
         header-is = place-header place file (part .length) at located (e .level - 1) (omega (arith, level-most)) ∙ ap (λ (level : ℕ). lastHeader level 0 1 0 (take at body)) less ∙ sym (o .above)
@@ -146,4 +144,4 @@ module _ (file : List ℕ) (number : ℕ) (accepted : AcceptedSheet file) (part 
 
         pub header-above : (e .level - 1 ≡ 0 → ⊥) → wayUpAnswer (Header (part .length + getD (place .headers) (e .level - 1) 0) (e .level - 1)) ≡ wayIn file number
         unfolding wayUpAnswer
-        header-above some = sym (answer ∙ rw (numbered-some (part .length) (aboveAt body at) (o .one-above (omega (arith, level-is))), ← header-is, ← level-is))
+        header-above some = sym (answer ∙ rw (ne-eqb (aboveAt body at) 0 (λ z. omega (arith, z, o .one-above (omega (arith, level-is)))), ← header-is, ← level-is))

@@ -10,7 +10,7 @@ use lib.Seq.{getD-append-seam, length-take-le}
 use Rattle.format.specs.Record.{View, nothing, isHead, countIndex}
 use Rattle.format.specs.Judge.{dueAfter, isHeaderAt}
 use Rattle.format.specs.Edit.{dueBehind, openBehind, lastHeader, absent}
-use Rattle.format.specs.Above.{lastStart, own, levelAt, aboveAt, headersMet, metFrom}
+use Rattle.format.specs.Above.{lastStart, own, levelAt, aboveAt}
 use Rattle.format.proofs.JudgeWalks.{Passes, Good}
 use Rattle.format.proofs.AboveWayUp.{Owner, Owned, mine, none-yet, owned, owner, Climbs, climbs, level-at, above-at, r-good}
 use Rattle.records.specs.Entry.{viewFault}
@@ -106,26 +106,14 @@ module _ (body : List View) (passes : Passes 0 0 nothing body) (place : ℕ) (lo
       few : length (w .back) ≤ dueAfter 0 (w .it)
       few = its-data 0 1 0 (w .front) (w .it) (w .back) (w .closed) (ap (lastStart 0 1 0) (sym (w .whole)) ∙ w .found 1 0)
 
-  -- there is a header above exactly where the way up passes one
-  met : metFrom (aboveAt body place) (headersMet (levelAt body place) body) ≡ levelAt body place - 1
-  met = c .passed (suc (levelAt body place)) (omega arith)
-
-  nothing-met : (above : ℕ) → metFrom above (headersMet (levelAt body place) body) ≡ levelAt body place - 1 → levelAt body place ≡ 1 → above ≡ 0
-  nothing-met zero e one = refl
-  nothing-met (suc above) e one = absurd (omega (arith, e))
-
-  something-met : (above : ℕ) → metFrom above (headersMet (levelAt body place) body) ≡ levelAt body place - 1 → 1 < levelAt body place → 0 < above
-  something-met zero e more = absurd (omega (arith, e))
-  something-met (suc above) e more = omega arith
-
   pub own-record : OwnRecord body place
   own-record = record {
     some = omega (arith, own-is);
     inside = omega (arith, own-is, size);
     reads = rw it-is it-reads;
     above = above-is;
-    none-above = nothing-met (aboveAt body place) met;
-    one-above = something-met (aboveAt body place) met;
+    none-above = c .none-above;
+    one-above = λ more. omega (arith, (c .one-above more) .1);
     low-above = omega (arith, above-is, header-inside (pred (levelAt body place)) 0 1 0 place (take place body) (omega arith) (omega (arith, length-take-le place body high)));
     least = c .least;
     most = omega (arith, c .most);

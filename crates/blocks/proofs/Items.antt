@@ -7,10 +7,10 @@ use native.Mathlib.Omega.{arith}
 use borrow.Author.Tests.{eq-eqb, ne-eqb, eqb-true, le-leb, leb-true, not-true, not-false}
 use lib.Dec.{eqb, leb}
 use lib.ListN.{length, drop, getD, length-drop, length-map}
-use Rattle.format.specs.Basics.{unless, fine}
+use Rattle.format.specs.Basics.{Answer, given, refused, unless, fine}
 use Rattle.format.specs.Record.{Kind, head, item, neither, isHead, countIndex, Data, nothing, View, view}
 use Rattle.format.specs.Judge.{lowestLevel, highestLevel, openAfter, faultAt, walk}
-use Rattle.format.specs.Edit.{isBlock, blockOf}
+use Rattle.format.specs.Edit.{BlockItem, itemIn, blockItem, isBlock, blockOf}
 use Rattle.format.proofs.Basics.{and-true}
 use Rattle.format.proofs.JudgeSteps.{walk-step}
 use Rattle.format.proofs.EditItems.{item-dataRecords}
@@ -21,9 +21,9 @@ use Rattle.records.specs.Entry.{toData, viewFault, entryOf}
 use Rattle.records.proofs.Laws.{entry-fault, entry-kind, entry-level, entry-data-records, entry-held, entry-rule, entry-head, entry-counted, entry-columns}
 use Rattle.places.specs.Place.{recordsOf}
 use Rattle.places.proofs.Reading.{length-records, record-wide}
-use Rattle.blocks.specs.declared.Block.{Block}
-use Rattle.blocks.specs.declared.Block.the-variants.{Item, NoItem}
-use Rattle.blocks.specs.Block.{itemIn, blockItem}
+use Rattle.format.specs.declared.Block.{Block}
+use Rattle.format.specs.declared.Block.the-variants.{Item, NoItem}
+use Rattle.format.specs.Answers.{blockAnswer}
 use Rattle.blocks.specs.Steps.{isItem, dataWalk}
 
 -- the bounds of an item's level
@@ -60,6 +60,10 @@ passed : (e : Entry) (behind : ℕ) → FirstRecord e behind → isItem e behind
 unfolding isItem
 passed e behind f = rw (eq-eqb (e .fault) 0 (f .no-fault), f .no-head, le-leb 2 (e .level) (f .low), le-leb (e .level) 9 (f .high), eq-eqb (e .«rule_fault») 0 (f .ruled), eq-eqb (e .«data_records») behind (f .stated))
 
+decided : (header walks whole : Bool) → header ≡ false → whole ≡ true → not header && (walks && whole) ≡ walks
+decided header true whole h w = rw (h, w)
+decided header false whole h w = rw h
+
 -- the first record l, and the data records behind it
 module _ (l : List ℕ) (ds : List View) (whole : length l ≡ 84) where
   view-fault : Good 8 (view l) → (entryOf l) .fault ≡ 0
@@ -85,7 +89,7 @@ module _ (l : List ℕ) (ds : List View) (whole : length l ≡ 84) where
 
   -- where it does, the data records decide
   first-block : FirstRecord (entryOf l) (length ds) → isBlock (view l) ds ≡ fine (walk (openAfter 8 0 (view l)) (length ds) (toData ((entryOf l) .held)) 0 1 ds)
-  first-block f = rw (is-item, eq-eqb (length ds) ((view l) .dataRecords) many) (both ∙ ap fine stepped)
+  first-block f = decided (isHead ((view l) .kind)) (fine (walk 8 0 nothing 0 0 (view l ∷ ds))) (eqb (length ds) ((view l) .dataRecords)) is-item (eq-eqb (length ds) ((view l) .dataRecords) many) ∙ ap fine stepped
     where
       z : (entryOf l) .fault ≡ 0
       z = f .no-fault
@@ -112,24 +116,17 @@ module _ (l : List ℕ) (ds : List View) (whole : length l ≡ 84) where
       stepped : walk 8 0 nothing 0 0 (view l ∷ ds) ≡ walk (openAfter 8 0 (view l)) (length ds) (toData ((entryOf l) .held)) 0 1 ds
       stepped = walk-step 8 0 nothing 0 0 (view l) ds passes ∙ ap₂ (λ (due : ℕ) (held : Data). walk (openAfter 8 0 (view l)) due held 0 1 ds) (item-dataRecords (view l) is-item ∙ sym many) (sym (entry-held l whole z))
 
-      both : fine (walk 8 0 nothing 0 0 (view l ∷ ds)) && true ≡ fine (walk 8 0 nothing 0 0 (view l ∷ ds))
-      both = and-right (fine (walk 8 0 nothing 0 0 (view l ∷ ds)))
-        where
-          and-right : (t : Bool) → t && true ≡ t
-          and-right true = refl
-          and-right false = refl
-
 -- ---- `read_block`
 
 module _ (block : List ℕ) where
-  no-block : map view (blockOf block) ≡ [] → NoItem ≡ blockItem block
-  unfolding blockItem
+  no-block : map view (blockOf block) ≡ [] → blockAnswer NoItem ≡ blockItem block
+  unfolding blockItem blockAnswer
   no-block e = sym (ap itemIn e)
 
-  pub not-whole : (length block % 84 ≡ 0 → ⊥) → NoItem ≡ blockItem block
+  pub not-whole : (length block % 84 ≡ 0 → ⊥) → blockAnswer NoItem ≡ blockItem block
   not-whole h = no-block (rw (ne-eqb (length block % 84) 0 h))
 
-  pub empty : length block ≡ 0 → NoItem ≡ blockItem block
+  pub empty : length block ≡ 0 → blockAnswer NoItem ≡ blockItem block
   empty h = no-block (rw h)
 
   module _ (whole : length block % 84 ≡ 0) (some : length block ≡ 0 → ⊥) (r : List ℕ) (read : r ≡ getD (recordsOf block) 0 []) (e : Entry) (is : e ≡ entryOf r) where
@@ -156,18 +153,19 @@ module _ (block : List ℕ) where
     unfolding blockItem recordsOf
     block-records = rw (eq-eqb (length block % 84) 0 whole)
 
-    picked : (t : Bool) (a b : Block) → cond (eqb (unless t 12) 0) a b ≡ cond t a b
+    picked : (t : Bool) (a b : Answer BlockItem) → cond (eqb (unless t 12) 0) a b ≡ cond t a b
     picked true a b = refl
     picked false a b = refl
 
-    is-block : blockItem block ≡ cond (isBlock (view r) (drop 1 (map view (recordsOf block)))) (Item (countIndex ((view r) .kind)) ((view r) .level)) NoItem
-    is-block = block-records ∙ ap itemIn views-are ∙ picked (isBlock (view r) (drop 1 (map view (recordsOf block)))) (Item (countIndex ((view r) .kind)) ((view r) .level)) NoItem
+    is-block : blockItem block ≡ cond (isBlock (view r) (drop 1 (map view (recordsOf block)))) (given (record { count = countIndex ((view r) .kind); level = (view r) .level })) (refused 12 0)
+    is-block = block-records ∙ ap itemIn views-are ∙ picked (isBlock (view r) (drop 1 (map view (recordsOf block)))) (given (record { count = countIndex ((view r) .kind); level = (view r) .level })) (refused 12 0)
 
-    refuse : isBlock (view r) (drop 1 (map view (recordsOf block))) ≡ false → NoItem ≡ blockItem block
+    refuse : isBlock (view r) (drop 1 (map view (recordsOf block))) ≡ false → blockAnswer NoItem ≡ blockItem block
+    unfolding blockAnswer
     refuse f = sym (is-block ∙ rw f)
 
     module _ (flag : Bool) (flag-is : flag ≡ isItem e (length block / 84 - 1)) where
-      pub not-item : not flag ≡ true → NoItem ≡ blockItem block
+      pub not-item : not flag ≡ true → blockAnswer NoItem ≡ blockItem block
       not-item t = refuse (go (isBlock (view r) (drop 1 (map view (recordsOf block)))) refl)
         where
           go : (b : Bool) → isBlock (view r) (drop 1 (map view (recordsOf block))) ≡ b → b ≡ false
@@ -185,8 +183,9 @@ module _ (block : List ℕ) where
             left : length (drop 1 (map view (recordsOf block))) ≡ length (map view (recordsOf block)) - 1
             left = length-drop 1 (map view (recordsOf block))
 
-        pub data-wrong : in-order ≡ false → NoItem ≡ blockItem block
+        pub data-wrong : in-order ≡ false → blockAnswer NoItem ≡ blockItem block
         data-wrong f = refuse (decides ∙ f)
 
-        pub one-item : in-order ≡ true → Item (e .kind) (e .level) ≡ blockItem block
+        pub one-item : in-order ≡ true → blockAnswer (Item (e .kind) (e .level)) ≡ blockItem block
+        unfolding blockAnswer
         one-item f = sym (is-block ∙ rw (decides, f, is, entry-kind r wide (one .no-fault), entry-level r wide (one .no-fault)))

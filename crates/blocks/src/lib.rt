@@ -3,21 +3,17 @@ ghost use mathlib.Core.Path.{_≡_};
 ghost use mathlib.Core.List.{map};
 ghost use Prim.Native.Nat.{ℕ, _-_};
 ghost use Rattle.format.specs.Record.{view};
+ghost use Rattle.format.specs.Edit.{blockItem};
+ghost use Rattle.format.specs.Answers.{blockAnswer};
 ghost use Rattle.records.specs.Entry.{toData};
 ghost use Rattle.places.specs.Place.{recordsOf};
-ghost use Rattle.blocks.specs.Block.{blockItem};
 ghost use Rattle.blocks.specs.Steps.{isItem, dataWalk};
+use format::Block;
 use records::Entry;
 use records::Held;
 
 // Bytes of a record.
 const RECORD: usize = 84;
-
-// An item by kind (1 to 8 for E1 to E8, 9 for grid and net) and level; or no item: 12.
-pub enum Block {
-    Item(usize, usize),
-    NoItem,
-}
 
 // The first record of a block: an item in order, of level 2 to 9, that states the data records behind it.
 fn is_item(entry: Entry, behind: usize) -> bool
@@ -49,7 +45,7 @@ fn data_in_order(block: &[u8], held: Held) -> bool
 
 // The item that a block is.
 pub fn read_block(block: &[u8]) -> Block
-    ensures { λ r. ⌜ r ≡ blockItem (now (block .entry)) ⌝ }
+    ensures { λ r. ⌜ blockAnswer r ≡ blockItem (now (block .entry)) ⌝ }
 {
     if block.len() % RECORD != 0 {
         return Block::NoItem;

@@ -11,7 +11,7 @@ use Rattle.format.specs.declared.Column.{Column}
 use Rattle.format.specs.declared.Number.{Number}
 use Rattle.format.specs.declared.Number.the-variants as Number
 use Rattle.format.specs.declared.Written.the-variants as Written
-use Rattle.format.specs.Column.{columnOf, readAnswer, readAlone, writeAlone}
+use Rattle.format.specs.Column.{columnOf, columnAnswer, readAlone, writeAlone}
 use Rattle.format.specs.Answers.{numberAnswer, writtenAnswer}
 use Rattle.columns.specs.declared.Rest.{Rest}
 use Rattle.columns.specs.declared.Choice.{Choice}
@@ -31,9 +31,9 @@ module _ (l : List ℕ) where
   too-wide k h = simp (le-leb 1 (length l) k, lt-leb (length l) 18 h)
 
   -- what the column says, in the arm c′ that was found
-  pub is-read : (c c′ : Column) (r : Number) → 1 ≤ length l → length l ≤ 18 → c ≡ columnOf l → c ≡ c′ → numberAnswer r ≡ readAnswer c′ → numberAnswer r ≡ readAlone l
+  pub is-read : (c c′ : Column) (r : Number) → 1 ≤ length l → length l ≤ 18 → c ≡ columnOf l → c ≡ c′ → numberAnswer r ≡ columnAnswer c′ → numberAnswer r ≡ readAlone l
   unfolding readAlone
-  is-read c c′ r k h e f g = simp (le-leb 1 (length l) k, le-leb (length l) 18 h) (g ∙ ap readAnswer (sym f ∙ e))
+  is-read c c′ r k h e f g = simp (le-leb 1 (length l) k, le-leb (length l) 18 h) (g ∙ ap columnAnswer (sym f ∙ e))
 
 -- ---- `write`
 

@@ -13,7 +13,7 @@ use Rattle.format.specs.Layout.{numberAt, header}
 use Rattle.format.specs.Record.{countIndex, View, view, countIn}
 use Rattle.format.specs.Sheet.{partLength}
 use Rattle.format.specs.Judge.{File, fileOf}
-use Rattle.format.specs.Edit.{insertFault, insert11, fault12, fault13, fault14, insert15, aboveBlock, blockOf, absent, aboveIn, dueBehind, openBehind, notBelow, before, after, bodyPlace}
+use Rattle.format.specs.Edit.{blockItem, insertFault, insert11, fault12, fault13, fault14, insert15, aboveBlock, blockOf, absent, aboveIn, dueBehind, openBehind, notBelow, before, after, bodyPlace}
 use Rattle.format.proofs.Basics.{and-true}
 use Rattle.format.proofs.Lists.{length-chunks, flat-chunks}
 use Rattle.records.specs.Entry.{entryOf}
@@ -21,9 +21,9 @@ use Rattle.parts.specs.declared.SheetPart.{SheetPart}
 use Rattle.parts.specs.Result as Parts
 use Rattle.places.specs.declared.Place.{Place}
 use Rattle.places.specs.Place.{recordsOf, placeOf}
-use Rattle.blocks.specs.declared.Block.{Block}
-use Rattle.blocks.specs.declared.Block.the-variants.{Item, NoItem}
-use Rattle.blocks.specs.Block.{blockItem}
+use Rattle.format.specs.declared.Block.{Block}
+use Rattle.format.specs.declared.Block.the-variants.{Item, NoItem}
+use Rattle.format.specs.Answers.{blockAnswer}
 use Rattle.blocks.proofs.Laws.{OneItem, read-item, read-none}
 use Rattle.edit.specs.declared.counts.Change.{Change}
 use Rattle.edit.specs.declared.plans.Plan.{Plan}
@@ -116,7 +116,7 @@ module _ (l : List ℕ) (used place : ℕ) (block : List ℕ) (a : Accepts l use
         eleven : insert11 file tail place ≡ 0
         eleven = rw (behind-part, le-leb (bodyPlace file place) (length (file .body)) at-inside, eq-eqb (dueBehind 0 pre) 0 closed)
 
-        module _ (answer : Block) (answer-is : answer ≡ blockItem block) where
+        module _ (answer : Block) (answer-is : blockAnswer answer ≡ blockItem block) where
           pub no-item : answer ≡ NoItem → InsertionPlanned l used place block (Refuse 12 0)
           no-item e = refusal 11 (rw (eleven, read-none block answer answer-is e))
 

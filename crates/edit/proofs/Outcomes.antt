@@ -21,7 +21,7 @@ use Rattle.edit.specs.declared.plans.Plan.{Plan}
 use Rattle.edit.specs.declared.plans.Plan.the-variants.{Refuse, Store}
 use Rattle.edit.specs.Counts.{withCounts}
 use Rattle.edit.specs.Plans.{Accepts, storedStep, putIn, CanPut, InsertionReady, InsertionPlanned, takenOut, CanTake, RemovalReady, RemovalPlanned}
-use Rattle.edit.specs.Step.{stepFor}
+use Rattle.format.specs.Answers.{stepFor}
 use Rattle.edit.proofs.Accepted.{not-accepted}
 
 -- ---- judging

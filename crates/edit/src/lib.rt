@@ -4,7 +4,7 @@ ghost use Rattle.format.specs.Edit.{insert, remove};
 ghost use Rattle.format.specs.Run.{call};
 ghost use Rattle.edit.specs.Counts.{withCounts};
 ghost use Rattle.edit.specs.Plans.{putIn, takenOut, CanPut, CanTake};
-ghost use Rattle.edit.specs.Step.{stepFor};
+ghost use Rattle.format.specs.Answers.{stepFor};
 use counts::Change;
 use format::Edited;
 use plans::Plan;

@@ -8,7 +8,7 @@ ghost use Rattle.places.specs.Place.{recordsOf};
 ghost use Rattle.edit.specs.Plans.{AboveIn, targetAt, hasRoom, Targeted, raisedPlan, loweredPlan, Accepts, InsertionPlanned, RemovalPlanned};
 use super::counts;
 use super::counts::Change;
-use blocks::Block;
+use format::Block;
 use format::Judged;
 use parts::SheetPart;
 

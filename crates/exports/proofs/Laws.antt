@@ -23,7 +23,7 @@ use Rattle.format.specs.Above.{Way}
 use Rattle.format.specs.Run.{Step}
 use Rattle.format.specs.declared.Edited.{Edited}
 use Rattle.format.specs.declared.Edited.the-variants as Edited
-use Rattle.edit.specs.Step.{stepFor}
+use Rattle.format.specs.Answers.{stepFor}
 use Rattle.format.specs.declared.WayUp.{WayUp}
 use Rattle.format.specs.declared.WayUp.the-variants as WayUp
 use Rattle.exports.specs.declared.ZvWay.{ZvWay}

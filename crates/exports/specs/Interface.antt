@@ -5,7 +5,7 @@ use lib.IntN.{ℤ, pos}
 use Rattle.format.specs.Basics.{Answer, given, refused, Outcome}
 use Rattle.format.specs.Corner.{Corner}
 use Rattle.format.specs.Judge.{Counts}
-use Rattle.format.specs.Above.{Way}
+use Rattle.format.specs.Above.{Way, noHeader, toHeader}
 use Rattle.format.specs.Run.{Step}
 use Rattle.exports.specs.declared.ZvWay.{ZvWay}
 use Rattle.exports.specs.declared.ZvNumber.{ZvNumber}
@@ -29,8 +29,10 @@ abbrev pub lengthOf : Answer ℕ → ZvLength
 lengthOf (given n) = record { refusal = 0; at = 0; length = n }
 lengthOf (refused number at) = record { refusal = number; at = at; length = 0 }
 
+-- "For a layer header: none, 0": no header has record number 0
 abbrev pub wayOf : Answer Way → ZvWay
-wayOf (given w) = record { refusal = 0; at = 0; header = w .header; passed = w .passed }
+wayOf (given noHeader) = record { refusal = 0; at = 0; header = 0; passed = 0 }
+wayOf (given (toHeader number passed)) = record { refusal = 0; at = 0; header = number; passed = passed }
 wayOf (refused number at) = record { refusal = number; at = at; header = 0; passed = 0 }
 
 -- a call that writes: its answer, and all bytes of the lent buffer afterwards

@@ -11,7 +11,7 @@ ghost use Rattle.format.specs.Edit.{insert, remove};
 ghost use Rattle.format.specs.Run.{call};
 ghost use Rattle.format.specs.Normal.{normalSheet, normalIndex};
 ghost use Rattle.format.specs.Answers.{numberAnswer, writtenAnswer, partsAnswer, judgedAnswer, wayUpAnswer, editedAnswer};
-ghost use Rattle.report.specs.Report.{reportTo};
+ghost use Rattle.format.specs.Program.{reportTo};
 ghost use Rattle.exports.specs.Interface.{numberOf, cornerOf, countsOf, lengthOf, wayOf, Wrote, wroteOf, editedOf};
 use format::Edited;
 use format::Judged;

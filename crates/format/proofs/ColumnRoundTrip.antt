@@ -11,7 +11,7 @@ use lib.Seq.{take-all}
 use lib.IntN.{ℤ, pos, negsuc, negℤ}
 use Rattle.format.specs.declared.Column.the-variants.{Value, MinusZero, Malformed}
 use Rattle.format.specs.Basics.{given, refused, Outcome}
-use Rattle.format.specs.Column.{strip, valueOf, isNumber, negative, positive, signed, columnOf, numberOf, digitsIn, digits, textOf, fits, written, widthOk, readAnswer, readAlone, writeAlone}
+use Rattle.format.specs.Column.{strip, valueOf, isNumber, negative, positive, signed, columnOf, numberOf, digitsIn, digits, textOf, fits, written, widthOk, columnAnswer, readAlone, writeAlone}
 use Rattle.format.proofs.Basics.{and-true}
 use Rattle.format.proofs.Columns.{Byte, v-space, v-minus, v-digit, v-other, byte, strip-spaces, length-written, read-written, number-below}
 use Rattle.format.proofs.ColumnFits.{fit, fits-plus}
@@ -111,7 +111,7 @@ reads-given : {column : List ℕ} {z : ℤ} {o : Outcome ℕ} (n : ℕ) → Outc
 unfolding readAlone
 reads-given {column} {z} n (wrote p e) a =
     let h = and-true (leb 1 (length column)) (leb (length column) 18) p in
-    rw (length-written (length column) z) (simp p (ap readAnswer (reads-back (length column) (leb-true 1 (length column) (h .0)) (leb-true (length column) 18 (h .1)) z e)))
+    rw (length-written (length column) z) (simp p (ap columnAnswer (reads-back (length column) (leb-true 1 (length column) (h .0)) (leb-true (length column) 18 (h .1)) z e)))
 reads-given n refuses a = let x : _≡_ {A = ℕ} 0 1 = cc in absurd (omega arith)
 
 -- refused or not, the column keeps its width

@@ -95,13 +95,14 @@ written width z = take width (replicate (width - length (textOf z)) 32 ++ textOf
 abbrev pub widthOk : ℕ → Bool
 widthOk width = leb 1 width && leb width 18
 
-abbrev pub readAnswer : Column → Answer ℤ
-readAnswer (Value z) = given z
-readAnswer MinusZero = refused 5 0
-readAnswer Malformed = refused 5 0
+-- this paper's answer for each case of the enum: the number, or 5 at record 0
+abbrev pub columnAnswer : Column → Answer ℤ
+columnAnswer (Value z) = given z
+columnAnswer MinusZero = refused 5 0
+columnAnswer Malformed = refused 5 0
 
 unfoldable pub readAlone : List ℕ → Answer ℤ
-readAlone column = cond (widthOk (length column)) (readAnswer (columnOf column)) (refused 16 0)
+readAlone column = cond (widthOk (length column)) (columnAnswer (columnOf column)) (refused 16 0)
 
 -- "number does not fit the width, width .. not allowed": 16. The column is the lent buffer, so its length is the width; the answer
 -- is the number of bytes written

@@ -165,3 +165,18 @@ unfoldable pub plain : Edit → RecordList → PlainStep
 plain (insert place block) list =
     conclude (insertFault (fileOf (list .records)) (list .tail) place (map view (blockOf block))) list (inserted list place (blockOf block))
 plain (remove place) list = conclude (remove11 (fileOf (list .records)) (list .tail) place) list (removed list place)
+
+-- ---- A block alone: the item that it is, by the count of a header that it belongs to and its level; else 12, "block is not exactly one item that
+-- passes 4 to 9 but for nesting, level 2..9"
+pub record BlockItem : Type 0 where
+  pub count : ℕ
+  pub level : ℕ
+
+abbrev pub itemIn : List View → Answer BlockItem
+itemIn block =
+    cond (eqb (fault12 block) 0)
+    (given (record { count = countIndex ((getD block 0 absent) .kind); level = (getD block 0 absent) .level }))
+    (refused 12 0)
+
+unfoldable pub blockItem : List ℕ → Answer BlockItem
+blockItem block = itemIn (map view (blockOf block))

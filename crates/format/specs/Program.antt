@@ -3,9 +3,9 @@ use mathlib.Core.Bool.{cond}
 use mathlib.Core.List.{List, [], _∷_, _++_}
 use Prim.Native.Nat.{ℕ}
 use lib.Dec.{leb}
-use lib.ListN.{length}
+use lib.ListN.{length, drop}
 use Rattle.format.specs.Text.{bytes, begins}
-use Rattle.format.specs.Basics.{Answer, given, refused}
+use Rattle.format.specs.Basics.{Answer, given, refused, Outcome}
 use Rattle.format.specs.Column.{digits}
 use Rattle.format.specs.Judge.{Counts, judgeSheet, judgeIndex}
 
@@ -25,3 +25,14 @@ line input = cond (leb (length input) 65520) (lineOf (judgeInput input)) (bytes 
 -- the line, and its end
 unfoldable pub printed : List ℕ → List ℕ
 printed input = line input ++ (10 ∷ [])
+
+-- the same in a lent buffer: the line at its start, the bytes behind it as before, and the line's length; "a buffer is too short for the result" is 15
+-- at record 0
+unfoldable pub lineTo : (line out : List ℕ) → Outcome ℕ
+lineTo line out =
+    cond (leb (length line) (length out))
+    (record { answer = given (length line); bytes = line ++ drop (length line) out })
+    (record { answer = refused 15 0; bytes = out })
+
+unfoldable pub reportTo : (input out : List ℕ) → Outcome ℕ
+reportTo input out = lineTo (printed input) out

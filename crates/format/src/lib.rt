@@ -37,6 +37,13 @@ pub enum Edited {
     Refused(u8, usize),
 }
 
+// A block that is to be inserted: the item that it is, by the count of a header that it belongs to (1 to 8 for E1 to E8, 9 for a grid or a net) and its
+// level; or that it is not exactly one item.
+pub enum Block {
+    Item(usize, usize),
+    NoItem,
+}
+
 // The way up: the record number of the header above and how many headers were passed; a layer header has none above it.
 pub enum WayUp {
     Header(usize, u8),

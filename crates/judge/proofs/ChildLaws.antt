@@ -2,16 +2,17 @@
 use mathlib.Core.Path.{_≡_, refl, sym, ap, _∙_}
 use mathlib.Core.Bool.{Bool, true, false}
 use mathlib.Core.List.{List, _∷_}
-use Prim.Native.Nat.{ℕ, suc, pred, _+_, _-_, _<_}
+use Prim.Native.Nat.{ℕ, suc, pred, _+_, _-_, _≤_, _<_}
 use native.Mathlib.Omega.{arith}
 use native.Mathlib.Numerals.{add-one}
 use lib.ListN.{getD}
 use Rattle.format.specs.Basics.{none}
-use Rattle.format.specs.Record.{Kind, head, item, neither, isHead, countIndex, View, view}
+use Rattle.format.specs.Record.{Kind, head, item, neither, isHead, countIndex, nothing, View, view}
 use Rattle.format.specs.Judge.{countUnder, countsAgree}
 use Rattle.judge.specs.declared.Walked.{Walked}
 use Rattle.judge.specs.declared.WalkedBody.{WalkedBody}
 use Rattle.judge.specs.Walks.{Room, recordAt, viewsFrom, faultFrom, entries, Joins, Item, HeaderAt, Child, Body, passedOf}
+use Rattle.format.proofs.JudgeWalks.{good}
 use Rattle.records.specs.Entry.{toData, statesCounts}
 use Rattle.records.specs.declared.items.Entry.{Entry}
 use Rattle.records.proofs.Laws.{counts-agree-at}
@@ -19,10 +20,10 @@ use Rattle.judge.proofs.Steps.{views-more}
 use Rattle.judge.proofs.EntryLaws.{Sound, wide-at}
 use Rattle.judge.proofs.Joined.{step-item, joins-item, item-counted, step-header, joins-agreed, joins-differing, header-counted}
 
-item-of : (k : Kind) → isHead k ≡ false → k ≡ item (pred (countIndex k))
-item-of head e = cc
-item-of (item k) e = refl
-item-of neither e = refl
+item-of : (k : Kind) → isHead k ≡ false → countIndex k ≤ 9 → k ≡ item (pred (countIndex k))
+item-of head e l = cc
+item-of (item k) e l = refl
+item-of neither e l = absurd (omega arith)
 
 head-of : (k : Kind) → isHead k ≡ true → k ≡ head
 head-of head e = refl
@@ -42,7 +43,7 @@ module _ (file : List ℕ) (n k : ℕ) (here : k < n) where
   -- an item, by its entry
   module _ (opened : ℕ) (e : Entry) (s : Sound file k opened e) (deep : opened < e .level) (is : e .kind ≡ 0 → ⊥) (w : Walked) (d : Item file n k (e .«data_records») (toData (e .held)) w) where
     kind-is : one .kind ≡ item (pred (countIndex (one .kind)))
-    kind-is = item-of (one .kind) (s .no-header is)
+    kind-is = item-of (one .kind) (s .no-header is) ((good opened nothing one (s .well)) .known)
 
     level-is : one .level ≡ suc opened
     level-is = omega (arith, s .level-is, s .near)

@@ -62,13 +62,13 @@ lowest-is : (k : Kind) → lowestOf (countIndex k) ≡ lowestLevel k
 unfolding lowestOf
 lowest-is head = refl
 lowest-is (item k) = rw (ne-eqb (suc k) 0 (λ e. omega arith))
-lowest-is neither = rw (ne-eqb 10 0 (λ e. omega arith))
+lowest-is neither = refl
 
 highest-is : (k : Kind) → highestOf (countIndex k) ≡ highestLevel k
 unfolding highestOf
 highest-is head = refl
 highest-is (item k) = rw (ne-eqb (suc k) 0 (λ e. omega arith))
-highest-is neither = rw (ne-eqb 10 0 (λ e. omega arith))
+highest-is neither = refl
 
 first-same : (a b c : ℕ) → (a ≡ 0 → b ≡ c) → first a b ≡ first a c
 first-same zero b c e = e refl

@@ -30,13 +30,13 @@ next-by : (k : Kind) (index dataRecords : ℕ) → nextIndex index (countIndex k
 unfolding nextIndex
 next-by head index dataRecords = omega arith
 next-by (item k) index dataRecords = rw (ne-eqb (suc k) 0 (λ e. omega arith)) (omega arith)
-next-by neither index dataRecords = rw (ne-eqb 10 0 (λ e. omega arith)) (omega arith)
+next-by neither index dataRecords = omega arith
 
 opened-by : (k : Kind) (level : ℕ) → openedBy (countIndex k) level ≡ openOf k level
 unfolding openedBy
 opened-by head level = refl
 opened-by (item k) level = rw (ne-eqb (suc k) 0 (λ e. omega arith)) (let e : level - 1 ≡ pred level = omega arith in e)
-opened-by neither level = rw (ne-eqb 10 0 (λ e. omega arith)) (let e : level - 1 ≡ pred level = omega arith in e)
+opened-by neither level = let e : level - 1 ≡ pred level = omega arith in e
 
 -- a header is kept at its level
 module _ (kind level index : ℕ) (headers : List ℕ) (nine : length headers ≡ 9) where

@@ -11,7 +11,7 @@ use Rattle.format.specs.Column.{digits}
 use Rattle.format.specs.declared.Judged.{Judged}
 use Rattle.format.specs.declared.Judged.the-variants as Judged
 use Rattle.format.specs.Program.{judgeInput, line, printed}
-use Rattle.report.specs.Report.{lineTo, reportTo}
+use Rattle.format.specs.Program.{lineTo, reportTo}
 use Rattle.report.specs.Steps.{numberLine, lineFor}
 
 pub accepted-line : (j : Judged) (records items : ℕ) (out : List ℕ) (o : Outcome ℕ) → j ≡ Judged.Accepted records items → o ≡ lineTo (numberLine (bytes "accepted ") records (bytes " records ") items (bytes " items" ++ 10 ∷ [])) out → o ≡ lineTo (lineFor j) out

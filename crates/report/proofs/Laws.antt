@@ -16,7 +16,7 @@ use Rattle.format.specs.Answers.{writtenAnswer}
 use Rattle.format.specs.Program.{judgeInput, lineOf, line, printed}
 use Rattle.format.specs.declared.Written.{Written}
 use Rattle.format.specs.declared.Written.the-variants as Written
-use Rattle.report.specs.Report.{lineTo, reportTo}
+use Rattle.format.specs.Program.{lineTo, reportTo}
 
 -- a line that is answered stands in the buffer whole
 line-inside : (line out out′ : List ℕ) (n : ℕ) → record { answer = given n; bytes = out′ } ≡ lineTo line out → n ≤ length out′

@@ -10,7 +10,7 @@ use lib.Seq.{take-at, drop-at, drop-drop, length-take-le}
 use Rattle.format.specs.Answers.{writtenAnswer}
 use Rattle.format.specs.declared.Written.the-variants as Written
 use Rattle.format.specs.Column.{digits}
-use Rattle.report.specs.Report.{lineTo}
+use Rattle.format.specs.Program.{lineTo}
 use Rattle.report.specs.Steps.{placed, numberLine}
 
 -- ---- a text placed behind another

@@ -7,7 +7,7 @@ ghost use Rattle.format.specs.Column.{digits};
 ghost use Rattle.format.specs.Text.{begins};
 ghost use Rattle.format.specs.Answers.{judgedAnswer, writtenAnswer};
 ghost use Rattle.format.specs.Program.{judgeInput};
-ghost use Rattle.report.specs.Report.{lineTo, reportTo};
+ghost use Rattle.format.specs.Program.{lineTo, reportTo};
 ghost use Rattle.report.specs.Steps.{placed, numberLine, lineFor};
 use format::Judged;
 use format::Written;
