@@ -28,14 +28,10 @@ use Rattle.blocks.specs.Steps.{isItem, dataWalk}
 
 -- the bounds of an item's level
 pub item-low : (k : Kind) → isHead k ≡ false → lowestLevel k ≡ 2
-item-low head e = absurd (true≢false e)
-item-low (item k) e = refl
-item-low neither e = refl
+item-low k e = rw e
 
 pub item-high : (k : Kind) → isHead k ≡ false → highestLevel k ≡ 9
-item-high head e = absurd (true≢false e)
-item-high (item k) e = refl
-item-high neither e = refl
+item-high k e = rw e
 
 -- what the test of the first record says
 record FirstRecord (e : Entry) (behind : ℕ) : Type 0 where

@@ -39,28 +39,13 @@ headersAndItems-data zero (d ∷ ds) s e = absurd (omega arith)
 headersAndItems-data (suc n) (d ∷ ds) s e = headersAndItems-data n ds s (omega arith)
 
 pub item-dataRecords : (b : View) → isHead (b .kind) ≡ false → dueAfter 0 b ≡ b .dataRecords
-item-dataRecords b e = go (b .kind) e
-  where
-    go : (k : Kind) → isHead k ≡ false → dueOf k (b .dataRecords) ≡ b .dataRecords
-    go head e = absurd (true≢false e)
-    go (item k) e = refl
-    go neither e = refl
+item-dataRecords b e = rw e
 
 pub item-open : (o : ℕ) (b : View) → isHead (b .kind) ≡ false → openAfter o 0 b ≡ pred (b .level)
-item-open o b e = go (b .kind) e
-  where
-    go : (k : Kind) → isHead k ≡ false → openOf k (b .level) ≡ pred (b .level)
-    go head e = absurd (true≢false e)
-    go (item k) e = refl
-    go neither e = refl
+item-open o b e = rw e
 
 pub item-low : (b : View) → isHead (b .kind) ≡ false → lowestLevel (b .kind) ≡ 2
-item-low b e = go (b .kind) e
-  where
-    go : (k : Kind) → isHead k ≡ false → lowestLevel k ≡ 2
-    go head e = absurd (true≢false e)
-    go (item k) e = refl
-    go neither e = refl
+item-low b e = rw e
 
 -- two records that differ in their counts alone
 pub record Alike (h h′ : View) : Type 0 where

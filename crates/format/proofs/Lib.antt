@@ -21,7 +21,10 @@ pub mod EditInsert
 pub mod EditRemove
 pub mod EditRecords
 pub mod EditMoves
+pub mod Nested
 pub mod SheetCounts
 pub mod RunKept
 pub mod Run
 pub mod Claims
+pub mod ClaimsNested
+pub mod ClaimsAnswers
