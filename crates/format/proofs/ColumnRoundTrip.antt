@@ -17,7 +17,7 @@ use Rattle.format.proofs.Columns.{Byte, v-space, v-minus, v-digit, v-ot
 use Rattle.format.proofs.ColumnFits.{fit, fits-plus}
 
 -- ---- WHAT WAS WRITTEN READS AS THAT NUMBER
-spaces-before : (k : ℕ) (t : List ℕ) → columnOf (replicate k 32 ++ t) ≡ columnOf t
+pub spaces-before : (k : ℕ) (t : List ℕ) → columnOf (replicate k 32 ++ t) ≡ columnOf t
 unfolding columnOf
 spaces-before k t = ap signed (strip-spaces k t)
 

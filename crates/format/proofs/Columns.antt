@@ -49,12 +49,12 @@ unfolding strip
 strip-spaces zero t = refl
 strip-spaces (suc k) t = strip-spaces k t
 
-digit-is : (d : ℕ) → d < 10 → isDigit (48 + d) ≡ true
+pub digit-is : (d : ℕ) → d < 10 → isDigit (48 + d) ≡ true
 unfolding isDigit
 digit-is d h = simp (le-leb 48 (48 + d) (omega arith), le-leb (48 + d) 57 (omega arith))
 
 -- ---- one digit more at the end
-all-snoc : (t : List ℕ) (x : ℕ) → isDigit x ≡ true → allDigits t ≡ true → allDigits (t ++ (x ∷ [])) ≡ true
+pub all-snoc : (t : List ℕ) (x : ℕ) → isDigit x ≡ true → allDigits t ≡ true → allDigits (t ++ (x ∷ [])) ≡ true
 unfolding allDigits
 all-snoc [] x h e = simp h
 all-snoc (b ∷ bs) x h e =
@@ -64,19 +64,19 @@ all-snoc (b ∷ bs) x h e =
 pow-snoc : (t : List ℕ) (x : ℕ) → 10 ^ length (t ++ (x ∷ [])) ≡ 10 ^ length t * 10
 pow-snoc t x = rw (length-append t (x ∷ []), add-one, pow-suc)
 
-value-snoc : (t : List ℕ) (x : ℕ) → valueOf (t ++ (x ∷ [])) ≡ valueOf t * 10 + (x - 48)
+pub value-snoc : (t : List ℕ) (x : ℕ) → valueOf (t ++ (x ∷ [])) ≡ valueOf t * 10 + (x - 48)
 unfolding valueOf
 value-snoc [] x = omega arith
 value-snoc (b ∷ bs) x =
     omega (arith, value-snoc bs x, ap (λ (k : ℕ). (b - 48) * k) (pow-snoc bs x), mul-assoc (b - 48) (10 ^ length bs) 10)
 
 -- ---- the digits of n are digits, and their value is n
-record Means (t : List ℕ) (n : ℕ) : Type 0 where
-  all : allDigits t ≡ true
-  value : valueOf t ≡ n
-  some : 0 < length t
+pub record Means (t : List ℕ) (n : ℕ) : Type 0 where
+  pub all : allDigits t ≡ true
+  pub value : valueOf t ≡ n
+  pub some : 0 < length t
 
-means-one : (n : ℕ) → n < 10 → Means ((48 + n) ∷ []) n
+pub means-one : (n : ℕ) → n < 10 → Means ((48 + n) ∷ []) n
 unfolding allDigits valueOf
 means-one n h = record { all = simp (digit-is n h); value = omega arith; some = omega arith }
 
@@ -95,7 +95,7 @@ mean-next f n (above h) ih b =
     let b′ : n < 10 ^ suc f * 10 = rw pow-suc at b in
     simp (le-ltb n 10 h) (means-more (digitsIn f (n / 10)) n (ih (omega arith)))
 
-digits-mean : (f n : ℕ) → n < 10 ^ suc f → Means (digitsIn f n) n
+pub digits-mean : (f n : ℕ) → n < 10 ^ suc f → Means (digitsIn f n) n
 unfolding digitsIn
 digits-mean zero n b = means-one n b
 digits-mean (suc f) n b = mean-next f n (size-of n) (digits-mean f (n / 10)) b
@@ -110,7 +110,7 @@ pub length-more : (f n : ℕ) → 10 ≤ n → length (digitsIn (suc f) n) ≡ s
 unfolding digitsIn
 length-more f n h = simp (le-ltb n 10 h) (length-append (digitsIn f (n / 10)) ((48 + n % 10) ∷ []) ∙ add-one (length (digitsIn f (n / 10))))
 
-abbrev Short : ℕ → Type 0
+abbrev pub Short : ℕ → Type 0
 Short f = (w n : ℕ) → 0 < w → n < 10 ^ w → length (digitsIn f n) ≤ w
 
 short-next : (f : ℕ) → Short f → (w n : ℕ) → Size n → 0 < w → n < 10 ^ w → length (digitsIn (suc f) n) ≤ w
@@ -121,7 +121,7 @@ short-next f ih (suc (suc w)) n (above h) p b =
     let b′ : n < 10 ^ suc w * 10 = rw pow-suc at b in
     rw (length-more f n h) (suc-le-suc (ih (suc w) (n / 10) (omega arith) (omega arith)))
 
-short : (f : ℕ) → Short f
+pub short : (f : ℕ) → Short f
 unfolding digitsIn
 short zero w n p b = p
 short (suc f) w n p b = short-next f (short f) w n (size-of n) p b
@@ -134,11 +134,11 @@ digit-head b bs (v-minus e) h = absurd (false≢true (rw e at h))
 digit-head b bs (v-digit p q r) h = simp (p, q, h)
 digit-head b bs (v-other p q r) h = absurd (false≢true (simp r at h))
 
-digits-column : (t : List ℕ) (n : ℕ) → Means t n → columnOf t ≡ Value (pos n)
+pub digits-column : (t : List ℕ) (n : ℕ) → Means t n → columnOf t ≡ Value (pos n)
 digits-column [] n m = absurd (omega (arith, m .some))
 digits-column (b ∷ bs) n m = digit-head b bs (byte b) (m .all) ∙ ap (λ (k : ℕ). Value (pos k)) (m .value)
 
-pow-up : (a b : ℕ) → a ≤ b → 10 ^ a ≤ 10 ^ b
+pub pow-up : (a b : ℕ) → a ≤ b → 10 ^ a ≤ 10 ^ b
 pow-up zero b h = one-le-pow b 10 (omega arith)
 pow-up (suc a) zero h = absurd (omega arith)
 pow-up (suc a) (suc b) h = rw (pow-suc 10 a, pow-suc 10 b) (omega (arith, pow-up a b (omega arith)))
@@ -164,7 +164,7 @@ module _ (w n : ℕ) (some : 0 < w) (most : w ≤ 20) (l : n < 10 ^ w) where
   read-written = ap columnOf whole ∙ stripped ∙ digits-column (digitsIn 19 n) n (digits-mean 19 n below-20)
 
 -- ---- A COLUMN OF w BYTES READS BELOW 10 ^ w
-digits-below : (bs : List ℕ) → allDigits bs ≡ true → valueOf bs < 10 ^ length bs
+pub digits-below : (bs : List ℕ) → allDigits bs ≡ true → valueOf bs < 10 ^ length bs
 unfolding allDigits valueOf isDigit
 digits-below [] e = omega arith
 digits-below (b ∷ bs) e = rw (pow-suc 10 (length bs)) (omega (arith, digits-below bs (p .1), times))

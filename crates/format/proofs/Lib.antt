@@ -4,6 +4,8 @@ pub mod Lists
 pub mod Columns
 pub mod ColumnFits
 pub mod ColumnRoundTrip
+pub mod ColumnMeaning
+pub mod ColumnAlone
 pub mod Corners
 pub mod LayoutRewriting
 pub mod RecordHeaders
@@ -25,6 +27,7 @@ pub mod Nested
 pub mod SheetCounts
 pub mod RunKept
 pub mod Run
+pub mod ClaimsColumns
 pub mod Claims
 pub mod ClaimsNested
 pub mod ClaimsAnswers
