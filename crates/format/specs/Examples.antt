@@ -20,14 +20,21 @@ use Rattle.format.specs.Run.{call, runBuffer, repliesBuffer}
 use Rattle.format.specs.Above.{toHeader, up}
 use Rattle.format.specs.Program.{line, printed}
 
--- "five sheet records, one layer, one E2 of 7 points in 2D": the five, the layer, and the line with its two data records
+-- "five sheet records, one layer, one E2 of 7 points in 2D": the five, of them d and e by name, the layer, and the line with its two
+-- data records
+abbrev pub d : String
+d = "2408240700Plotter                       Approval 1                    100           "
+
+abbrev pub e : String
+e = "Survey office                            -56  50   0   0   0  50 -56   0            "
+
 abbrev pub five : List String
 five =
     "M 09LD1234Example sheet         500Town plan                      010               " ∷
     "  -1234   5678   -934   5978        1      4  1   -934   5678  -1234   5978         " ∷
     "                                                                                    " ∷
-    "2408240700Plotter                       Approval 1                    100           " ∷
-    "Survey office                            -56  50   0   0   0  50 -56   0            " ∷ []
+    d ∷
+    e ∷ []
 
 abbrev pub layer : String
 layer = "H 2100 0   0   0 1    1    0    0    1    0    0    0    0    0    002408         0 "
@@ -47,6 +54,7 @@ wrong = rows five ++ (bytes "H 2100 0   0   0 1    2    0    0    1    0    0   
 
 -- ---- One table, one claim
 pub data Example : Type 0 where
+  reads : (column : String) → Answer ℤ → Example
   prints : (input : List ℕ) → (text : String) → Example
   gridNeed : (rows columns records : ℕ) → Example
   gridStated : (repeat column records : ℕ) → Example
@@ -58,6 +66,15 @@ pub data Example : Type 0 where
 
 abbrev pub table : List Example
 table =
+    -- "All spaces, a plus sign, inner spaces and a minus before zeros only are refused", with however many zeros; "at most one minus", before
+    -- the digits; and what is taken: leading zeros behind a minus too
+    reads "+5" (refused 5 0) ∷
+    reads "1 2" (refused 5 0) ∷
+    reads "- 5" (refused 5 0) ∷
+    reads "-00" (refused 5 0) ∷
+    reads "--5" (refused 5 0) ∷
+    reads "5-" (refused 5 0) ∷
+    reads " -05" (given (minus 5)) ∷
     -- "prints, whole: `accepted 9 records 1 items`"
     prints example "accepted 9 records 1 items" ∷
     -- "With header total 2 it prints `refused 10 at record 6`"
@@ -80,6 +97,7 @@ table =
     edits (remove 6 ∷ remove 8 ∷ remove 7 ∷ insert 7 (rows item) ∷ []) example (refused 11 0 ∷ refused 11 0 ∷ given 504 ∷ given 756 ∷ []) example ∷ []
 
 abbrev pub Says : Example → Type 0
+Says (reads column a) = readAlone (bytes column) ≡ a
 Says (prints input text) = printed input ≡ bytes text ++ 10 ∷ []
 Says (gridNeed rows columns records) = gridNeeds rows columns ≡ records
 Says (gridStated repeat column records) = gridStates repeat column ≡ records
@@ -97,4 +115,4 @@ Every (e ∷ es) = Says e × Every es
 
 pub examples : Every table
 unfolding bytes rows begins strip isDigit allDigits valueOf isNumber negative positive signed columnOf digitsIn digits textOf fits written readAlone writeAlone fractionOk millimetres join split column splice find integerAt numberAt allFormed allInside columnFault indexA indexB indexC sheetA sheetB sheetC sheetD sheetE sheetF header element gridHeader netHeader data3D data2D dataNote dataAttribute dataGrid dataNet typeOf countName dataColumns directionOk dataFault elementRecords elementRule gridStates gridNeeds netNeeds headerView elementView gridView netView otherView view rewrite raise lower wholesOf fractionsOf partLength sheetFault corners statedElements statedRecords writeCounts indexFault judge judgeRecords judgeIndexRecords judgeSheet judgeIndex plain call up line printed
-examples = (refl, (refl, (refl, (refl, (refl, (refl, (refl, (refl, (refl, (refl, ((refl, refl), tt)))))))))))
+examples = (refl, (refl, (refl, (refl, (refl, (refl, (refl, (refl, (refl, (refl, (refl, (refl, (refl, (refl, (refl, (refl, (refl, ((refl, refl), tt))))))))))))))))))

@@ -45,7 +45,7 @@ abbrev pub ownerAfter : (due owner number : ℕ) → ℕ
 ownerAfter zero owner number = number
 ownerAfter (suc due) owner number = owner
 
--- 7: "Other levels are 7. .. A record's level may be at most the open level plus 1"
+-- 7: "Other levels are 7. .. A record's level may be at most the open level plus 1"; so "a body may hold groups", as deep as level 8
 abbrev pub levelOk : (opened : ℕ) → View → Bool
 levelOk opened r = leb (lowestLevel (r .kind)) (r .level) && leb (r .level) (highestLevel (r .kind)) && leb (r .level) (suc opened)
 
@@ -61,7 +61,8 @@ abbrev pub missing : (due owner : ℕ) → Fault
 missing zero owner = none
 missing (suc due) owner = fault 3 owner
 
--- the first fault of the records from the one with this number on: "A missing record is reached past the end, after those before it"
+-- the first fault of the records from the one with this number on: "A missing record is reached past the end, after those before it". They may end
+-- behind any header, and before the first: "Empty layers, groups and sheets are allowed"
 abbrev pub walk : (opened due : ℕ) → Data → (owner number : ℕ) → List View → Fault
 walk opened due held owner number [] = missing due owner
 walk opened due held owner number (r ∷ rs) =

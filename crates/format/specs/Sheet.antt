@@ -109,8 +109,8 @@ partLength rs = partFrom sheetMachine due-a rs
 unfoldable pub sheetFault : List (List ℕ) → Fault
 sheetFault rs = partFault sheetMachine due-a 1 rs
 
--- "The last e record gives the corners (house rule); all are judged": eight numbers in millimetres, in the order of b. `latest`
--- are the corners of the e records so far
+-- "The last e record gives the corners (house rule); all are judged": eight numbers in millimetres, in the order of b. No call of
+-- document 01 answers them; order 8 of document 02 will. `latest` are the corners of the last e record so far
 abbrev pub joinAll : ℕ → List ℤ → List ℤ → List ℤ
 joinAll unit [] fs = []
 joinAll unit (w ∷ ws) [] = []
