@@ -111,18 +111,18 @@ see-minus : (bs : List ℕ) → Seen (45 ∷ bs) (negative bs)
 unfolding negative
 see-minus bs = at-test (isNumber bs) (valueOf bs) refl refl
   where
-    at-test : (t : Bool) (v : ℕ) → isNumber bs ≡ t → valueOf bs ≡ v → Seen (45 ∷ bs) (cond t (cond (eqb v 0) MinusZero (Value (negℤ (pos v)))) Malformed)
-    at-test true zero p q = zeros (zeros-behind bs p q)
-    at-test true (suc v) p q = simp eqb·suc-zero (minus v (record { spaces = 0; digits = bs; bytes = refl; number = rw q at (numbered bs p) }))
-    at-test false v p q = no-shape
+    at-test : (t : Bool) (v : ℕ) → isNumber bs ≡ t → valueOf bs ≡ v → Seen (45 ∷ bs) (negative bs)
+    at-test true zero p q = simp (p, q) (zeros (zeros-behind bs p q))
+    at-test true (suc v) p q = simp (p, q, eqb·suc-zero) (minus v (record { spaces = 0; digits = bs; bytes = refl; number = rw q at (numbered bs p) }))
+    at-test false v p q = simp p no-shape
 
 see-plain : (t : List ℕ) → Seen t (positive t)
 unfolding positive
 see-plain t = at-test (isNumber t) refl
   where
-    at-test : (u : Bool) → isNumber t ≡ u → Seen t (cond u (Value (pos (valueOf t))) Malformed)
-    at-test true e = plain (valueOf t) (record { spaces = 0; digits = t; bytes = refl; number = numbered t e })
-    at-test false e = no-shape
+    at-test : (u : Bool) → isNumber t ≡ u → Seen t (positive t)
+    at-test true e = simp e (plain (valueOf t) (record { spaces = 0; digits = t; bytes = refl; number = numbered t e }))
+    at-test false e = simp e no-shape
 
 see-first : (b : ℕ) (bs : List ℕ) → Byte b → Seen bs (columnOf bs) → Seen (b ∷ bs) (columnOf (b ∷ bs))
 unfolding columnOf strip signed
