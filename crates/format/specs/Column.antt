@@ -44,7 +44,8 @@ unfoldable pub signed : List ℕ → Column
 signed [] = Malformed
 signed (b ∷ bs) = cond (eqb b 45) (negative bs) (positive (b ∷ bs))
 
--- what a column says: "right-justified: leading spaces, then at most one minus, then one digit or more to the last column"
+-- what a column says: "right-justified: leading spaces, then at most one minus, then one digit or more to the last column". Each answer for
+-- exactly which bytes, in the words of Shape: proofs/ClaimsColumns
 unfoldable pub columnOf : List ℕ → Column
 columnOf l = signed (strip l)
 

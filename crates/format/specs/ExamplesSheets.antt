@@ -80,7 +80,7 @@ twoTriangles =
 abbrev pub net : (records : String) → List String
 net records = "T 7201 0   0   1 2 0     2" ∷ records ∷ "2408        21                                      " ∷ []
 
--- two revisions: d, e, f, then d, e with other fractions
+-- one revision, so two sets: d, e, f, then d, e with other fractions
 abbrev pub revised : List ℕ
 revised = rows (abc " 1" "     0      0" ++ dOneCourse ∷ e ∷ f ∷ d ∷ eNewer ∷ [])
 
