@@ -13,7 +13,7 @@ use lib.IntN.{ℤ, pos, negsuc, natAbs}
 use Rattle.format.specs.declared.Column.{Column}
 use Rattle.format.specs.declared.Column.the-variants.{Value, MinusZero, Malformed}
 use Rattle.format.specs.Basics.{given, refused, Outcome}
-use Rattle.format.specs.Column.{columnOf, digitsIn, digits, textOf, fits, written, widthOk, readAnswer, readAlone, writeAlone}
+use Rattle.format.specs.Column.{columnOf, digitsIn, digits, textOf, fits, written, widthOk, columnAnswer, readAlone, writeAlone}
 use Rattle.format.specs.Shape.{Digits, MinusZeros, Says, Shapeless, Shortest, InWrittenForm, RightWidth, WrongWidth, TooLarge, WrittenAlone}
 use Rattle.format.proofs.Columns.{Means, length-written, digits-mean, short, digits-below, pow-up}
 use Rattle.format.proofs.ColumnFits.{fits-plus, fits-minus, fits-size}
@@ -37,17 +37,17 @@ not-both w r (inl h) = omega arith
 not-both w r (inr h) = omega arith
 
 -- ---- READ ALONE: 16 exactly for a wrong width; else 5 exactly for a minus zero and for what has no shape; else the number
-answer-5 : (c : Column) → readAnswer c ≡ refused 5 0 → (c ≡ MinusZero) ⊎ (c ≡ Malformed)
+answer-5 : (c : Column) → columnAnswer c ≡ refused 5 0 → (c ≡ MinusZero) ⊎ (c ≡ Malformed)
 answer-5 (Value z) e = let x : _≡_ {A = ℕ} 0 1 = cc in absurd (omega arith)
 answer-5 MinusZero e = inl refl
 answer-5 Malformed e = inr refl
 
-answer-given : (c : Column) (z : ℤ) → readAnswer c ≡ given z → c ≡ Value z
+answer-given : (c : Column) (z : ℤ) → columnAnswer c ≡ given z → c ≡ Value z
 answer-given (Value y) z e = cc
 answer-given MinusZero z e = let x : _≡_ {A = ℕ} 0 1 = cc in absurd (omega arith)
 answer-given Malformed z e = let x : _≡_ {A = ℕ} 0 1 = cc in absurd (omega arith)
 
-answer-16 : (c : Column) → readAnswer c ≡ refused 16 0 → ⊥
+answer-16 : (c : Column) → columnAnswer c ≡ refused 16 0 → ⊥
 answer-16 (Value z) e = let x : _≡_ {A = ℕ} 0 1 = cc in omega arith
 answer-16 MinusZero e = let x : _≡_ {A = ℕ} 5 16 = cc in omega arith
 answer-16 Malformed e = let x : _≡_ {A = ℕ} 5 16 = cc in omega arith
@@ -56,7 +56,7 @@ pub read-16 : (l : List ℕ) → readAlone l ≡ refused 16 0 ↔ WrongWidth (le
 unfolding readAlone
 read-16 l = at-width (width (length l))
   where
-    at-width : Width (length l) → cond (widthOk (length l)) (readAnswer (columnOf l)) (refused 16 0) ≡ refused 16 0 ↔ WrongWidth (length l)
+    at-width : Width (length l) → cond (widthOk (length l)) (columnAnswer (columnOf l)) (refused 16 0) ≡ refused 16 0 ↔ WrongWidth (length l)
     at-width (right e r) = simp e ((λ p. absurd (answer-16 (columnOf l) p)), λ h. absurd (not-both (length l) r h))
     at-width (wrong e h) = simp e ((λ p. h), λ p. refl)
 
@@ -64,15 +64,15 @@ shape-5 : (l : List ℕ) → (columnOf l ≡ MinusZero) ⊎ (columnOf l ≡ Malf
 shape-5 l (inl e) = inl (minus-zero-exactly l .0 e)
 shape-5 l (inr e) = inr (malformed-exactly l .0 e)
 
-refused-5 : (l : List ℕ) → MinusZeros l ⊎ Shapeless l → readAnswer (columnOf l) ≡ refused 5 0
-refused-5 l (inl s) = ap readAnswer (minus-zero-exactly l .1 s)
-refused-5 l (inr s) = ap readAnswer (malformed-exactly l .1 s)
+refused-5 : (l : List ℕ) → MinusZeros l ⊎ Shapeless l → columnAnswer (columnOf l) ≡ refused 5 0
+refused-5 l (inl s) = ap columnAnswer (minus-zero-exactly l .1 s)
+refused-5 l (inr s) = ap columnAnswer (malformed-exactly l .1 s)
 
 pub read-5 : (l : List ℕ) → RightWidth (length l) → readAlone l ≡ refused 5 0 ↔ MinusZeros l ⊎ Shapeless l
 unfolding readAlone
 read-5 l r = at-width (width (length l))
   where
-    at-width : Width (length l) → cond (widthOk (length l)) (readAnswer (columnOf l)) (refused 16 0) ≡ refused 5 0 ↔ MinusZeros l ⊎ Shapeless l
+    at-width : Width (length l) → cond (widthOk (length l)) (columnAnswer (columnOf l)) (refused 16 0) ≡ refused 5 0 ↔ MinusZeros l ⊎ Shapeless l
     at-width (right e h) = simp e ((λ p. shape-5 l (answer-5 (columnOf l) p)), refused-5 l)
     at-width (wrong e h) = absurd (not-both (length l) r h)
 
@@ -80,8 +80,8 @@ pub read-given : (l : List ℕ) (z : ℤ) → RightWidth (length l) → readAlon
 unfolding readAlone
 read-given l z r = at-width (width (length l))
   where
-    at-width : Width (length l) → cond (widthOk (length l)) (readAnswer (columnOf l)) (refused 16 0) ≡ given z ↔ Says l z
-    at-width (right e h) = simp e ((λ p. value-exactly l z .0 (answer-given (columnOf l) z p)), λ s. ap readAnswer (value-exactly l z .1 s))
+    at-width : Width (length l) → cond (widthOk (length l)) (columnAnswer (columnOf l)) (refused 16 0) ≡ given z ↔ Says l z
+    at-width (right e h) = simp e ((λ p. value-exactly l z .0 (answer-given (columnOf l) z p)), λ s. ap columnAnswer (value-exactly l z .1 s))
     at-width (wrong e h) = absurd (not-both (length l) r h)
 
 -- ---- WRITTEN ALONE
