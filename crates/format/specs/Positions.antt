@@ -43,39 +43,39 @@ unfolding layouts
 all-nineteen = refl
 
 -- ---- The lines: columns by letter and width, as document 01 writes them: A2, 3X, I4
-pub record Part : Type 0 where
+pub record Field : Type 0 where
   pub width : ℕ
   pub what : What
 
-abbrev pub A : ℕ → List Part
+abbrev pub A : ℕ → List Field
 A width = (record { width = width; what = text }) ∷ []
 
-abbrev pub X : ℕ → List Part
+abbrev pub X : ℕ → List Field
 X width = (record { width = width; what = blank }) ∷ []
 
 -- "Integers are at least 0 unless said"
-abbrev pub I : ℕ → List Part
+abbrev pub I : ℕ → List Field
 I width = (record { width = width; what = integral natural }) ∷ []
 
 -- "value I7 (any sign) or seven spaces"
-abbrev pub IorX : ℕ → List Part
+abbrev pub IorX : ℕ → List Field
 IorX width = (record { width = width; what = integralOrSpaces }) ∷ []
 
 -- integers of which something is said: I2 (1..19)
 infix 66 _said_
-abbrev pub _said_ : List Part → Rule → List Part
-ps said rule = map (λ (p : Part). record { width = p .width; what = integral rule }) ps
+abbrev pub _said_ : List Field → Rule → List Field
+ps said rule = map (λ (p : Field). record { width = p .width; what = integral rule }) ps
 
 -- "ten A8", "three times (..)"
-abbrev pub times : ℕ → List Part → List Part
+abbrev pub times : ℕ → List Field → List Field
 times zero ps = []
 times (suc n) ps = ps ++ times n ps
 
 pub record Line : Type 0 where
   pub title : String
-  pub parts : List Part
+  pub parts : List Field
 
-abbrev pub line : String → List Part → Line
+abbrev pub line : String → List Field → Line
 line title parts = record { title = title; parts = parts }
 
 abbrev pub lines : List Line
@@ -130,16 +130,16 @@ places test [] = []
 places test (t ∷ ts) = placesIn test (t .title) (t .table) ++ places test ts
 
 -- a column's name, and where it stands in every layout that has it
-pub record Standing : Type 0 where
+pub record Named : Type 0 where
   pub name : String
   pub places : List Place
 
-abbrev pub stands : String → List Place → Standing
+abbrev pub stands : String → List Place → Named
 stands name places = record { name = name; places = places }
 
 -- what header, element, grid and net have in one place
-abbrev pub inFour : ℕ → ℕ → List Place
-inFour start width = at "header" start width ∷ at "element" start width ∷ at "grid header" start width ∷ at "net header" start width ∷ []
+abbrev pub inEach : ℕ → ℕ → List Place
+inEach start width = at "header" start width ∷ at "element" start width ∷ at "grid header" start width ∷ at "net header" start width ∷ []
 
 -- a corner's whole in sheet b, its fraction in sheet e
 abbrev pub corner : ℕ → ℕ → List Place
@@ -149,14 +149,14 @@ abbrev pub inHeader : ℕ → ℕ → List Place
 inHeader start width = at "header" start width ∷ []
 
 -- every name that a definition reads, and the other integers of the body
-abbrev pub positions : List Standing
+abbrev pub positions : List Named
 positions =
-    stands "type" (at "index a" 0 2 ∷ at "sheet a" 0 2 ∷ inFour 0 2) ∷
-    stands "class" (inFour 2 4) ∷
-    stands "area code" (inFour 6 2) ∷
-    stands "information" (inFour 8 4) ∷
-    stands "number" (inFour 12 4) ∷
-    stands "level" (at "sheet a" 30 5 ∷ inFour 16 2) ∷
+    stands "type" (at "index a" 0 2 ∷ at "sheet a" 0 2 ∷ inEach 0 2) ∷
+    stands "class" (inEach 2 4) ∷
+    stands "area code" (inEach 6 2) ∷
+    stands "information" (inEach 8 4) ∷
+    stands "number" (inEach 12 4) ∷
+    stands "level" (at "sheet a" 30 5 ∷ inEach 16 2) ∷
     -- the header's counts
     stands "total" (inHeader 18 5) ∷
     stands "groups" (inHeader 23 5) ∷
@@ -214,7 +214,7 @@ positions =
     stands "repeat" (at "element" 83 1 ∷ at "grid header" 83 1 ∷ []) ∷
     stands "writing direction" (at "data note" 0 1 ∷ []) ∷ []
 
-abbrev pub standsIn : Standing → Standing
+abbrev pub standsIn : Named → Named
 standsIn s = stands (s .name) (places (λ (c : Col). eqt (s .name) (c .name)) tables)
 
 pub names-stand : map standsIn positions ≡ positions
@@ -233,10 +233,10 @@ unfolding indexA indexB indexC sheetA sheetB sheetC sheetD sheetE sheetF header 
 blanks-stand = refl
 
 -- the points of a data record, X and Y or X, Y and Z each, and the heights: one behind another, seven bytes wide
-abbrev pub columnsOf : String → List Col → List Standing
+abbrev pub columnsOf : String → List Col → List Named
 columnsOf title table = map (λ (c : Col). stands (c .name) (at title (c .start) (c .width) ∷ [])) table
 
-abbrev pub inRow : String → ℕ → List String → List Standing
+abbrev pub inRow : String → ℕ → List String → List Named
 inRow title start [] = []
 inRow title start (n ∷ ns) = stands n (at title start 7 ∷ []) ∷ inRow title (start + 7) ns
 
