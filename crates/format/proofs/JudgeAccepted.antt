@@ -59,7 +59,7 @@ counted-countFault n i [] c = refl
 counted-countFault zero i (r ∷ rs) c = rw (agree-headerCountFault r _ (c .0)) (counted-countFault _ _ rs (c .1))
 counted-countFault (suc n) i (r ∷ rs) c = counted-countFault n _ rs c
 
-verdict-none : (x : Fault) (a b n m : ℕ) → verdict x a b ≡ accepted n m → x ≡ none
+pub verdict-none : (x : Fault) (a b n m : ℕ) → verdict x a b ≡ accepted n m → x ≡ none
 verdict-none none a b n m e = refl
 verdict-none (fault k r) a b n m e = cc
 

@@ -27,7 +27,11 @@ pub mod Nested
 pub mod SheetCounts
 pub mod RunKept
 pub mod Run
+pub mod NormalColumns
+pub mod NormalRecords
+pub mod NormalFiles
 pub mod ClaimsColumns
 pub mod Claims
 pub mod ClaimsNested
 pub mod ClaimsAnswers
+pub mod ClaimsNormal

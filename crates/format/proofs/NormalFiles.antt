@@ -1,0 +1,288 @@
+-- A whole file in normal form: each record by the columns that judging reads of it. Assumes nothing.
+use mathlib.Core.Path.{_≡_, refl, ap, sym, _∙_}
+use mathlib.Core.Bool.{Bool, true, false, cond, _&&_}
+use mathlib.Core.List.{List, [], _∷_, _++_, map}
+use Prim.Native.Nat.{ℕ, zero, suc, _+_, _-_, _*_, _/_, _%_, _≤_, _<_}
+use native.Mathlib.Omega.{arith}
+use lib.Dec.{eqb, leb, ltb}
+use borrow.Author.Tests.{eqb-true, leb-true, le-leb, lt-leb, ltb-true, ltb-false}
+use lib.ListN.{length, take, drop, getD, length-append, length-drop, List·getD-append}
+use lib.Seq.{getD-append-add, getD-drop, drop-at, length-take-le, take-all}
+use Rattle.format.specs.Basics.{Answer, given, refused, Fault, none, fault, orElse, toFault, first, unless, chunks, flat, stageOneOk}
+use Rattle.format.specs.Text.{begins}
+use Rattle.format.specs.Layout.{Col, allFormed, allInside, columnFault, laid, every, layouts, widths-add-up, numberAt, sheetB, sheetD, data3D, data2D, dataNet, dataGrid}
+use Rattle.format.specs.Record.{RecordType, H, E1, E2, E3, E4, E5, E6, E7, E8, G, T, other, Data, nothing, points3D, points2D, triangles, heights, notes, attributes, typeOf, typeColumns, dataColumns, dataFault, usedIn, view}
+use Rattle.format.specs.Part.{Machine, partFrom, partFault}
+use Rattle.format.specs.Sheet as Sheet
+use Rattle.format.specs.Index as Index
+use Rattle.format.specs.Judge.{Counts, accepted, afterStageOne, afterPart, dueAfter, heldAfter, openAfter, faultAt, judge, judgeRecords, judgeIndexRecords, judgeSheet, judgeIndex, fileOf}
+use Rattle.format.specs.Normal.{normalRecord, bodyColumns, normalBody, normalPart, normalStage, normalSheetRecords, normalIndexRecords, normalTo, normalSheet, normalIndex}
+use Rattle.format.specs.Judged.{partJudged, columnsAt, bodyJudged, sheetJudged, indexJudged, Normalised, NormalForm}
+use Rattle.format.proofs.Basics.{and-true, first-zero, unless-zero}
+use Rattle.format.proofs.Lists.{Wide, wide-take, wide-drop, wide-chunks, wide-append, length-flat, chunks-flat, length-chunks}
+use Rattle.format.proofs.JudgeWalks.{Passes, orElse-none, toFault-none, good}
+use Rattle.format.proofs.JudgeAccepted.{accepted-ok, verdict-none}
+use Rattle.format.proofs.NormalColumns.{type-columns, data-columns, length-part}
+use Rattle.format.proofs.NormalRecords.{EndToEnd, laid-end-to-end, take-end-to-end, length-normalRecord, normalised}
+
+-- ---- every list of judged columns lies end to end
+every-at : (ls : List (List Col)) → every (λ l. eqb (laid 0 l) 84) ls ≡ true → (n : ℕ) → n < length ls → EndToEnd 0 (getD ls n [])
+every-at [] e n h = absurd (omega arith)
+every-at (l ∷ ls) e zero h = laid-end-to-end 0 l (eqb-true (laid 0 l) 84 ((and-true (eqb (laid 0 l) 84) _ e) .0))
+every-at (l ∷ ls) e (suc n) h = every-at ls ((and-true (eqb (laid 0 l) 84) _ e) .1) n (omega arith)
+
+layout : (n : ℕ) → n < length layouts → EndToEnd 0 (getD layouts n [])
+layout = every-at layouts widths-add-up
+
+pub sheet-end : (p : Sheet.Phase) → EndToEnd 0 (Sheet.phaseColumns p)
+unfolding layouts
+sheet-end Sheet.due-a = layout 3 (omega arith)
+sheet-end (Sheet.due-b level more) = layout 4 (omega arith)
+sheet-end (Sheet.due-c unit wholes more) = layout 5 (omega arith)
+sheet-end (Sheet.due-d unit wholes more) = layout 6 (omega arith)
+sheet-end (Sheet.due-e unit wholes more fs) = layout 7 (omega arith)
+sheet-end (Sheet.due-f unit wholes more fs) = layout 8 (omega arith)
+sheet-end Sheet.body = omega arith
+
+pub index-end : (p : Index.Stage) → EndToEnd 0 (Index.stageColumns p)
+unfolding layouts
+index-end Index.due-a = layout 0 (omega arith)
+index-end (Index.due-b bs cs) = layout 1 (omega arith)
+index-end (Index.due-c cs) = layout 2 (omega arith)
+index-end Index.over = omega arith
+
+type-end : (t : RecordType) → EndToEnd 0 (typeColumns t)
+unfolding layouts
+type-end H = layout 9 (omega arith)
+type-end E1 = layout 10 (omega arith)
+type-end E2 = layout 10 (omega arith)
+type-end E3 = layout 10 (omega arith)
+type-end E4 = layout 10 (omega arith)
+type-end E5 = layout 10 (omega arith)
+type-end E6 = layout 10 (omega arith)
+type-end E7 = layout 10 (omega arith)
+type-end E8 = layout 10 (omega arith)
+type-end G = layout 11 (omega arith)
+type-end T = layout 12 (omega arith)
+type-end other = omega arith
+
+data-end : (held : Data) (behind : ℕ) → EndToEnd 0 (dataColumns held behind)
+unfolding layouts dataColumns
+data-end nothing behind = omega arith
+data-end (points3D count) behind = take-end-to-end (3 * usedIn 4 count behind) 0 data3D (layout 13 (omega arith))
+data-end (points2D count) behind = take-end-to-end (2 * usedIn 6 count behind) 0 data2D (layout 14 (omega arith))
+data-end (triangles count) behind = take-end-to-end (3 * usedIn 4 (3 * count) behind) 0 dataNet (layout 18 (omega arith))
+data-end (heights count) behind = take-end-to-end (usedIn 12 count behind) 0 dataGrid (layout 17 (omega arith))
+data-end notes behind = layout 15 (omega arith)
+data-end attributes behind = layout 16 (omega arith)
+
+pub body-end : (due : ℕ) (held : Data) (r : List ℕ) → EndToEnd 0 (columnsAt due held r)
+body-end zero held r = type-end (typeOf r)
+body-end (suc due) held r = data-end held due
+
+-- ---- a record that passes has no fault in them
+no-columns : (r : List ℕ) → columnFault [] r ≡ 0
+unfolding columnFault allFormed allInside
+no-columns r = refl
+
+pub sheet-sound : (p : Sheet.Phase) (r : List ℕ) → Sheet.wrongIn p r ≡ 0 → columnFault (Sheet.phaseColumns p) r ≡ 0
+sheet-sound Sheet.due-a r e = (first-zero (unless (begins "M " r) 2) _ e) .1
+sheet-sound (Sheet.due-b level more) r e = (first-zero (columnFault (Sheet.phaseColumns (Sheet.due-b level more)) r) _ e) .0
+sheet-sound (Sheet.due-c unit wholes more) r e = e
+sheet-sound (Sheet.due-d unit wholes more) r e = (first-zero (columnFault (Sheet.phaseColumns (Sheet.due-d unit wholes more)) r) _ e) .0
+sheet-sound (Sheet.due-e unit wholes more fs) r e = (first-zero (columnFault (Sheet.phaseColumns (Sheet.due-e unit wholes more fs)) r) _ e) .0
+sheet-sound (Sheet.due-f unit wholes more fs) r e = e
+sheet-sound Sheet.body r e = no-columns r
+
+pub index-sound : (p : Index.Stage) (r : List ℕ) → Index.wrongIn p r ≡ 0 → columnFault (Index.stageColumns p) r ≡ 0
+index-sound Index.due-a r e = (first-zero (columnFault (Index.stageColumns Index.due-a) r) _ ((first-zero (unless (begins "I " r) 2) _ e) .1)) .0
+index-sound (Index.due-b bs cs) r e = e
+index-sound (Index.due-c cs) r e = e
+index-sound Index.over r e = no-columns r
+
+pub body-sound : (opened due : ℕ) (held : Data) (r : List ℕ) → faultAt opened due held (view r) ≡ 0 → columnFault (columnsAt due held r) r ≡ 0
+unfolding dataFault
+body-sound opened zero held r e = sym (type-columns r) ∙ (good opened held (view r) e) .sound
+body-sound opened (suc due) held r e = (first-zero (columnFault (dataColumns held due) r) _ (sym (data-columns held due r) ∙ e)) .0
+
+-- ---- the records of the body
+length-body : (due : ℕ) (held : Data) (rs : List (List ℕ)) → length (normalBody due held rs) ≡ length rs
+length-body due held [] = refl
+length-body due held (r ∷ rs) = ap suc (length-body (dueAfter due (view r)) (heldAfter due held (view r)) rs)
+
+same-columns : (due : ℕ) (held : Data) (r : List ℕ) → bodyColumns due held r ≡ columnsAt due held r
+same-columns zero held r = refl
+same-columns (suc due) held r = refl
+
+wide-body : (due : ℕ) (held : Data) (rs : List (List ℕ)) → Wide rs → Wide (normalBody due held rs)
+unfolding Wide
+wide-body due held [] w = tt
+wide-body due held (r ∷ rs) w = (rw (same-columns due held r) (length-normalRecord 0 (columnsAt due held r) r (body-end due held r) (w .0)), wide-body (dueAfter due (view r)) (heldAfter due held (view r)) rs (w .1))
+
+body-normalised : (opened due : ℕ) (held : Data) (rs : List (List ℕ)) → Wide rs → Passes opened due held (map view rs) → (k : ℕ) → k < length rs → Normalised (getD (bodyJudged due held rs) k []) (getD rs k []) (getD (normalBody due held rs) k [])
+unfolding Wide
+body-normalised opened due held [] w p k h = absurd (omega arith)
+body-normalised opened due held (r ∷ rs) w p zero h = rw (same-columns due held r) (normalised (columnsAt due held r) r (body-end due held r) (w .0) (body-sound opened due held r (p .0)))
+body-normalised opened due held (r ∷ rs) w p (suc k) h = body-normalised (openAfter opened due (view r)) (dueAfter due (view r)) (heldAfter due held (view r)) rs (w .1) (p .1) k (omega arith)
+
+-- ---- the records of a sheet part or an index
+both-none : (n i : ℕ) (f : Fault) → orElse (toFault n i) f ≡ none → (n ≡ 0) × (f ≡ none)
+both-none n i f e = let p = orElse-none (toFault n i) f e in (toFault-none n i (p .0), p .1)
+
+module _ (M : Machine) where
+  part-long : (p : M .Phase) (rs : List (List ℕ)) → partFrom M p rs ≤ length rs
+  part-long p [] = omega arith
+  part-long p (r ∷ rs) = at-test (M .over p) (part-long (M .step p r) rs)
+    where
+      at-test : (t : Bool) → partFrom M (M .step p r) rs ≤ length rs → cond t 0 (suc (partFrom M (M .step p r) rs)) ≤ suc (length rs)
+      at-test true ih = omega arith
+      at-test false ih = omega arith
+
+module _ (M : Machine) (columns : M .Phase → List Col) (end : (p : M .Phase) → EndToEnd 0 (columns p)) (sound : (p : M .Phase) (r : List ℕ) → M .wrong p r ≡ 0 → columnFault (columns p) r ≡ 0) (normal : M .Phase → List (List ℕ) → List (List ℕ)) (nil : (p : M .Phase) → normal p [] ≡ []) (cons : (p : M .Phase) (r : List ℕ) (rs : List (List ℕ)) → normal p (r ∷ rs) ≡ normalRecord (columns p) r ∷ normal (M .step p r) rs) where
+  length-normal : (p : M .Phase) (rs : List (List ℕ)) → length (normal p rs) ≡ length rs
+  length-normal p [] = rw (nil p)
+  length-normal p (r ∷ rs) = rw (cons p r rs) (ap suc (length-normal (M .step p r) rs))
+
+  wide-normal : (p : M .Phase) (rs : List (List ℕ)) → Wide rs → Wide (normal p rs)
+  unfolding Wide
+  wide-normal p [] w = rw (nil p) tt
+  wide-normal p (r ∷ rs) w = rw (cons p r rs) (length-normalRecord 0 (columns p) r (end p) (w .0), wide-normal (M .step p r) rs (w .1))
+
+  part-normalised : (p : M .Phase) (i : ℕ) (rs : List (List ℕ)) → Wide rs → partFault M p i rs ≡ none → (k : ℕ) → k < partFrom M p rs → Normalised (getD (partJudged M columns p rs) k []) (getD rs k []) (getD (normal p (take (partFrom M p rs) rs)) k [])
+  unfolding Wide
+  part-normalised p i [] w e k h = absurd (omega arith)
+  part-normalised p i (r ∷ rs) w e k h = at-test (M .over p) e k h (part-normalised (M .step p r) (suc i) rs (w .1))
+    where
+      at-test : (t : Bool) → cond t none (orElse (toFault (M .wrong p r) i) (partFault M (M .step p r) (suc i) rs)) ≡ none → (k : ℕ) → k < cond t 0 (suc (partFrom M (M .step p r) rs)) → (partFault M (M .step p r) (suc i) rs ≡ none → (k : ℕ) → k < partFrom M (M .step p r) rs → Normalised (getD (partJudged M columns (M .step p r) rs) k []) (getD rs k []) (getD (normal (M .step p r) (take (partFrom M (M .step p r) rs) rs)) k [])) → Normalised (getD (cond t [] (columns p ∷ partJudged M columns (M .step p r) rs)) k []) (getD (r ∷ rs) k []) (getD (normal p (take (cond t 0 (suc (partFrom M (M .step p r) rs))) (r ∷ rs))) k [])
+      at-test true e k h ih = absurd (omega arith)
+      at-test false e zero h ih = rw (cons p r (take (partFrom M (M .step p r) rs) rs)) (normalised (columns p) r (end p) (w .0) (sound p r ((both-none (M .wrong p r) i (partFault M (M .step p r) (suc i) rs) e) .0)))
+      at-test false e (suc k) h ih = rw (cons p r (take (partFrom M (M .step p r) rs) rs)) (ih ((both-none (M .wrong p r) i (partFault M (M .step p r) (suc i) rs) e) .1) k (omega arith))
+
+-- ---- a file that passes: its records in normal form
+pub part-passed : (f : Fault) (a : Answer Counts) (n m : ℕ) → afterPart f a ≡ accepted n m → (f ≡ none) × (a ≡ accepted n m)
+part-passed none a n m e = (refl, e)
+part-passed (fault i j) a n m e = let z : _≡_ {A = ℕ} 0 1 = cc in absurd (omega arith)
+
+pub stage-passed : (t : Bool) (a : Answer Counts) (n m : ℕ) → afterStageOne t a ≡ accepted n m → (t ≡ true) × (a ≡ accepted n m)
+stage-passed true a n m e = (refl, e)
+stage-passed false a n m e = let z : _≡_ {A = ℕ} 0 1 = cc in absurd (omega arith)
+
+pub record Done (judged : List (List Col)) (rs ns : List (List ℕ)) : Type 0 where
+  pub many : length ns ≡ length rs
+  pub wide : Wide ns
+  pub each : (k : ℕ) → k < length rs → Normalised (getD judged k []) (getD rs k []) (getD ns k [])
+
+-- what stands behind the first n of a list
+getD-behind : {A : Type 0} (a b : List A) (n k : ℕ) (d : A) → length a ≡ n → n ≤ k → getD (a ++ b) k d ≡ getD b (k - n) d
+getD-behind a b n k d e l = ap (λ (j : ℕ). getD (a ++ b) j d) back ∙ getD-append-add a b (k - n) d
+  where
+    back : k ≡ length a + (k - n)
+    back = omega arith
+
+-- two parts, the first n long
+module _ (ca cb : List (List Col)) (rs na nb : List (List ℕ)) (n : ℕ) (lc : length ca ≡ n) (la : length na ≡ n) (few : n ≤ length rs) where
+  joined : ((k : ℕ) → k < n → Normalised (getD ca k []) (getD rs k []) (getD na k [])) → ((k : ℕ) → k < length (drop n rs) → Normalised (getD cb k []) (getD (drop n rs) k []) (getD nb k [])) → (k : ℕ) → k < length rs → Normalised (getD (ca ++ cb) k []) (getD rs k []) (getD (na ++ nb) k [])
+  joined front back k h = at-test (ltb k n) refl
+    where
+      whole : n ≤ k → n + (k - n) ≡ k
+      whole l = omega arith
+
+      behind : n ≤ k → getD (drop n rs) (k - n) [] ≡ getD rs k []
+      behind l = getD-drop n rs (k - n) [] ∙ ap (λ (j : ℕ). getD rs j []) (whole l)
+
+      at-test : (t : Bool) → ltb k n ≡ t → Normalised (getD (ca ++ cb) k []) (getD rs k []) (getD (na ++ nb) k [])
+      at-test true e = rw (List·getD-append ca cb [] k (omega (arith, ltb-true k n e)), List·getD-append na nb [] k (omega (arith, ltb-true k n e))) (front k (ltb-true k n e))
+      at-test false e =
+          let l : n ≤ k = ltb-false k n e in
+          rw (getD-behind ca cb n k [] lc l, getD-behind na nb n k [] la l) (rw (behind l) at (back (k - n) (rw (length-drop n rs) (omega arith))))
+
+-- ---- sheets and indexes
+pub sheet-done : (rs : List (List ℕ)) (n m : ℕ) → Wide rs → judgeRecords rs ≡ accepted n m → Done (sheetJudged rs) rs (normalSheetRecords rs)
+unfolding judgeRecords sheetJudged normalSheetRecords Sheet.sheetFault Sheet.partLength
+sheet-done rs n m w e = record {
+  many = length-append (normalPart Sheet.due-a (take L rs)) (normalBody 0 nothing (drop L rs)) ∙ rw (part-many, length-body 0 nothing (drop L rs), length-drop L rs) (omega (arith, few));
+  wide = wide-append _ _ (wide-part (take L rs) (wide-take L rs w)) (wide-body 0 nothing (drop L rs) (wide-drop L rs w));
+  each = joined (partJudged Sheet.sheetMachine Sheet.phaseColumns Sheet.due-a rs) (bodyJudged 0 nothing (drop L rs)) rs (normalPart Sheet.due-a (take L rs)) (normalBody 0 nothing (drop L rs)) L (length-part Sheet.sheetMachine Sheet.phaseColumns Sheet.due-a rs) part-many few (front (q .0)) (body-normalised 0 0 nothing (drop L rs) (wide-drop L rs w) ((accepted-ok (fileOf rs) n m (q .1)) .walks .0));
+}
+  where
+    L : ℕ
+    L = partFrom Sheet.sheetMachine Sheet.due-a rs
+
+    q : (partFault Sheet.sheetMachine Sheet.due-a 1 rs ≡ none) × (judge (fileOf rs) ≡ accepted n m)
+    q = part-passed (partFault Sheet.sheetMachine Sheet.due-a 1 rs) (judge (fileOf rs)) n m e
+
+    few : L ≤ length rs
+    few = part-long Sheet.sheetMachine Sheet.due-a rs
+
+    part-many : length (normalPart Sheet.due-a (take L rs)) ≡ L
+    part-many = length-normal Sheet.sheetMachine Sheet.phaseColumns sheet-end sheet-sound normalPart (λ p. refl) (λ p r rs. refl) Sheet.due-a (take L rs) ∙ length-take-le L rs few
+
+    wide-part : (xs : List (List ℕ)) → Wide xs → Wide (normalPart Sheet.due-a xs)
+    wide-part = wide-normal Sheet.sheetMachine Sheet.phaseColumns sheet-end sheet-sound normalPart (λ p. refl) (λ p r rs. refl) Sheet.due-a
+
+    front : partFault Sheet.sheetMachine Sheet.due-a 1 rs ≡ none → (k : ℕ) → k < L → Normalised (getD (partJudged Sheet.sheetMachine Sheet.phaseColumns Sheet.due-a rs) k []) (getD rs k []) (getD (normalPart Sheet.due-a (take L rs)) k [])
+    front = part-normalised Sheet.sheetMachine Sheet.phaseColumns sheet-end sheet-sound normalPart (λ p. refl) (λ p r rs. refl) Sheet.due-a 1 rs w
+
+pub index-done : (rs : List (List ℕ)) (n m : ℕ) → Wide rs → judgeIndexRecords rs ≡ accepted n m → Done (indexJudged rs) rs (normalIndexRecords rs)
+unfolding judgeIndexRecords indexJudged normalIndexRecords Index.indexFault
+index-done rs n m w e = record {
+  many = length-normal Index.indexMachine Index.stageColumns index-end index-sound normalStage (λ p. refl) (λ p r rs. refl) Index.due-a rs;
+  wide = wide-normal Index.indexMachine Index.stageColumns index-end index-sound normalStage (λ p. refl) (λ p r rs. refl) Index.due-a rs w;
+  each = λ k h. rw all at (part-normalised Index.indexMachine Index.stageColumns index-end index-sound normalStage (λ p. refl) (λ p r rs. refl) Index.due-a 1 rs w (q .0) k (omega (arith, whole)));
+}
+  where
+    q : (partFault Index.indexMachine Index.due-a 1 rs ≡ none) × (toFault (unless (eqb (length rs) (partFrom Index.indexMachine Index.due-a rs)) 10) 1 ≡ none)
+    q = orElse-none (partFault Index.indexMachine Index.due-a 1 rs) _ (verdict-none (Index.indexFault rs) (length rs) 0 n m e)
+
+    whole : length rs ≡ partFrom Index.indexMachine Index.due-a rs
+    whole = eqb-true _ _ (unless-zero _ _ (toFault-none (unless (eqb (length rs) (partFrom Index.indexMachine Index.due-a rs)) 10) 1 (q .1)))
+
+    all : take (partFrom Index.indexMachine Index.due-a rs) rs ≡ rs
+    all = take-all (partFrom Index.indexMachine Index.due-a rs) rs (omega (arith, whole))
+
+-- ---- the second buffer
+pub record Whole (used : ℕ) (buffer : List ℕ) : Type 0 where
+  pub multiple : 84 * (used / 84) ≡ used
+  pub inside : used ≤ length buffer
+  pub wide : Wide (chunks (used / 84) buffer)
+
+pub stage-whole : (used : ℕ) (buffer : List ℕ) → stageOneOk used buffer ≡ true → Whole used buffer
+stage-whole used buffer e = record { multiple = multiple; inside = inside; wide = wide-chunks (used / 84) buffer (omega (arith, multiple, inside)) }
+  where
+    a : (ltb 0 used && leb used (length buffer) && eqb (used % 84) 0 ≡ true) × (leb used (84 * 200000) ≡ true)
+    a = and-true _ _ e
+
+    b : (ltb 0 used && leb used (length buffer) ≡ true) × (eqb (used % 84) 0 ≡ true)
+    b = and-true _ _ (a .0)
+
+    inside : used ≤ length buffer
+    inside = leb-true used (length buffer) ((and-true (ltb 0 used) _ (b .0)) .1)
+
+    multiple : 84 * (used / 84) ≡ used
+    multiple = omega (arith, eqb-true (used % 84) 0 (b .1))
+
+pub normal-form : (judged : List (List Col)) (ns : List (List ℕ)) (used : ℕ) (buffer second : List ℕ) → Whole used buffer → used ≤ length second → Done judged (chunks (used / 84) buffer) ns → NormalForm judged used buffer second (flat ns ++ drop used second)
+normal-form judged ns used buffer second w l d = record {
+  long = length-append (flat ns) (drop used second) ∙ rw (written, length-drop used second) (omega arith);
+  records = λ k h. rw read (d .each k (rw (length-chunks (used / 84) buffer) h));
+  behind = drop-at (flat ns) (drop used second) used written;
+}
+  where
+    many : length ns ≡ used / 84
+    many = d .many ∙ length-chunks (used / 84) buffer
+
+    read : chunks (used / 84) (flat ns ++ drop used second) ≡ ns
+    read = ap (λ (j : ℕ). chunks j (flat ns ++ drop used second)) (sym many) ∙ chunks-flat ns (drop used second) (d .wide)
+
+    written : length (flat ns) ≡ used
+    written = length-flat ns (d .wide) ∙ omega (arith, many, w .multiple)
+
+-- ---- the calls: refused as judging does; 15 where the second buffer is short; or written
+pub refused-as-judged : (v : Answer Counts) (number at : ℕ) → v ≡ refused number at → (used : ℕ) (ns : List (List ℕ)) (second : List ℕ) → normalTo v used ns second ≡ record { answer = refused number at; bytes = second }
+refused-as-judged v number at e used ns second = rw e
+
+pub refused-short : (v : Answer Counts) (n m : ℕ) → v ≡ accepted n m → (used : ℕ) (ns : List (List ℕ)) (second : List ℕ) → length second < used → normalTo v used ns second ≡ record { answer = refused 15 0; bytes = second }
+refused-short v n m e used ns second l = rw (e, lt-leb used (length second) l)
+
+pub written-long : (v : Answer Counts) (n m : ℕ) → v ≡ accepted n m → (used : ℕ) (ns : List (List ℕ)) (second : List ℕ) → used ≤ length second → normalTo v used ns second ≡ record { answer = given used; bytes = flat ns ++ drop used second }
+written-long v n m e used ns second l = rw (e, le-leb used (length second) l)
