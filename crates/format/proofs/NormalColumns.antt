@@ -94,7 +94,7 @@ module _ (M : Machine) (columns : M .Phase → List Col) where
 
 pub body-walk : (opened due : ℕ) (held : Data) (owner number : ℕ) (rs : List (List ℕ)) → walkBy (bodyJudged due held rs) opened due held owner number rs ≡ walk opened due held owner number (map view rs)
 body-walk opened due held owner number [] = refl
-body-walk opened due held owner number (r ∷ rs) = rw (body-fault opened due held r, body-walk (openAfter opened due (view r)) (dueAfter due (view r)) (heldAfter due held (view r)) (ownerAfter due owner number) (suc number) rs)
+body-walk opened due held owner number (r ∷ rs) = rw (body-fault opened due held r) (ap (orElse (toFault (faultAt opened due held (view r)) number)) (body-walk (openAfter opened due (view r)) (dueAfter due (view r)) (heldAfter due held (view r)) (ownerAfter due owner number) (suc number) rs))
 
 -- of the columns of a sheet, those behind the sheet part
 pub sheet-behind : (rs : List (List ℕ)) → drop (Sheet.partLength rs) (sheetJudged rs) ≡ bodyJudged 0 nothing (drop (Sheet.partLength rs) rs)

@@ -43,16 +43,6 @@ take-end-to-end (suc n) at [] e = e
 take-end-to-end (suc n) at (c ∷ cs) e = (e .0, take-end-to-end n (at + c .width) cs (e .1))
 
 -- ---- one column
-length-normal : (what : What) (w : ℕ) (bs : List ℕ) → length bs ≡ w → length (normalBytes what w bs) ≡ w
-length-normal text w bs e = e
-length-normal blank w bs e = e
-length-normal (integral rule) w bs e = length-written w (integer (columnOf bs))
-length-normal integralOrSpaces w bs e = at-test (spaces bs)
-  where
-    at-test : (t : Bool) → length (cond t bs (written w (integer (columnOf bs)))) ≡ w
-    at-test true = e
-    at-test false = length-written w (integer (columnOf bs))
-
 in-written-form : (w : ℕ) (bs : List ℕ) → formed (columnOf bs) ≡ true → InWrittenForm w bs (written w (integer (columnOf bs)))
 in-written-form w bs e = at-column (columnOf bs) refl e
   where
@@ -70,6 +60,16 @@ column-normal integralOrSpaces w bs e = at-test (spaces bs) refl e
     at-test : (t : Bool) → spaces bs ≡ t → t || formed (columnOf bs) ≡ true → ((spaces bs ≡ true) × (cond t bs (written w (integer (columnOf bs))) ≡ bs)) ⊎ ((spaces bs ≡ false) × InWrittenForm w bs (cond t bs (written w (integer (columnOf bs)))))
     at-test true p q = inl (p, refl)
     at-test false p q = inr (p, in-written-form w bs q)
+
+length-normal : (what : What) (w : ℕ) (bs : List ℕ) → length bs ≡ w → length (normalBytes what w bs) ≡ w
+length-normal text w bs e = e
+length-normal blank w bs e = e
+length-normal (integral rule) w bs e = length-written w (integer (columnOf bs))
+length-normal integralOrSpaces w bs e = at-test (spaces bs)
+  where
+    at-test : (t : Bool) → length (cond t bs (written w (integer (columnOf bs)))) ≡ w
+    at-test true = e
+    at-test false = length-written w (integer (columnOf bs))
 
 -- ---- bytes of a record with a column written anew
 byte-column : (i : ℕ) (r : List ℕ) → getD r i 0 ≡ getD (column i 1 r) 0 0
