@@ -187,7 +187,7 @@ strip-short (b ∷ bs) = go (eqb b 32) (strip-short bs)
     go true ih = omega arith
     go false ih = omega arith
 
-number-digits : (t : List ℕ) → isNumber t ≡ true → allDigits t ≡ true
+pub number-digits : (t : List ℕ) → isNumber t ≡ true → allDigits t ≡ true
 unfolding isNumber
 number-digits [] e = absurd (false≢true e)
 number-digits (b ∷ bs) e = e

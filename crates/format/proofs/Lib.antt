@@ -29,6 +29,8 @@ pub mod RunKept
 pub mod Run
 pub mod NormalColumns
 pub mod NormalRecords
+pub mod NormalTables
+pub mod NormalReads
 pub mod NormalFiles
 pub mod ClaimsColumns
 pub mod Claims

@@ -23,87 +23,8 @@ use Rattle.format.proofs.Lists.{Wide, wide-take, wide-drop, wide-chunks
 use Rattle.format.proofs.JudgeWalks.{Passes, orElse-none, toFault-none, good}
 use Rattle.format.proofs.JudgeAccepted.{accepted-ok, verdict-none}
 use Rattle.format.proofs.NormalColumns.{type-columns, data-columns, length-part}
-use Rattle.format.proofs.NormalRecords.{EndToEnd, laid-end-to-end, take-end-to-end, length-normalRecord, normalised}
-
--- ---- every list of judged columns lies end to end
-every-at : (ls : List (List Col)) → every (λ l. eqb (laid 0 l) 84) ls ≡ true → (n : ℕ) → n < length ls → EndToEnd 0 (getD ls n [])
-every-at [] e n h = absurd (omega arith)
-every-at (l ∷ ls) e zero h = laid-end-to-end 0 l (eqb-true (laid 0 l) 84 ((and-true (eqb (laid 0 l) 84) _ e) .0))
-every-at (l ∷ ls) e (suc n) h = every-at ls ((and-true (eqb (laid 0 l) 84) _ e) .1) n (omega arith)
-
-layout : (n : ℕ) → n < length layouts → EndToEnd 0 (getD layouts n [])
-layout = every-at layouts widths-add-up
-
-pub sheet-end : (p : Sheet.Phase) → EndToEnd 0 (Sheet.phaseColumns p)
-unfolding layouts
-sheet-end Sheet.due-a = layout 3 (omega arith)
-sheet-end (Sheet.due-b level more) = layout 4 (omega arith)
-sheet-end (Sheet.due-c unit wholes more) = layout 5 (omega arith)
-sheet-end (Sheet.due-d unit wholes more) = layout 6 (omega arith)
-sheet-end (Sheet.due-e unit wholes more fs) = layout 7 (omega arith)
-sheet-end (Sheet.due-f unit wholes more fs) = layout 8 (omega arith)
-sheet-end Sheet.body = omega arith
-
-pub index-end : (p : Index.Stage) → EndToEnd 0 (Index.stageColumns p)
-unfolding layouts
-index-end Index.due-a = layout 0 (omega arith)
-index-end (Index.due-b bs cs) = layout 1 (omega arith)
-index-end (Index.due-c cs) = layout 2 (omega arith)
-index-end Index.over = omega arith
-
-type-end : (t : RecordType) → EndToEnd 0 (typeColumns t)
-unfolding layouts
-type-end H = layout 9 (omega arith)
-type-end E1 = layout 10 (omega arith)
-type-end E2 = layout 10 (omega arith)
-type-end E3 = layout 10 (omega arith)
-type-end E4 = layout 10 (omega arith)
-type-end E5 = layout 10 (omega arith)
-type-end E6 = layout 10 (omega arith)
-type-end E7 = layout 10 (omega arith)
-type-end E8 = layout 10 (omega arith)
-type-end G = layout 11 (omega arith)
-type-end T = layout 12 (omega arith)
-type-end other = omega arith
-
-data-end : (held : Data) (behind : ℕ) → EndToEnd 0 (dataColumns held behind)
-unfolding layouts dataColumns
-data-end nothing behind = omega arith
-data-end (points3D count) behind = take-end-to-end (3 * usedIn 4 count behind) 0 data3D (layout 13 (omega arith))
-data-end (points2D count) behind = take-end-to-end (2 * usedIn 6 count behind) 0 data2D (layout 14 (omega arith))
-data-end (triangles count) behind = take-end-to-end (3 * usedIn 4 (3 * count) behind) 0 dataNet (layout 18 (omega arith))
-data-end (heights count) behind = take-end-to-end (usedIn 12 count behind) 0 dataGrid (layout 17 (omega arith))
-data-end notes behind = layout 15 (omega arith)
-data-end attributes behind = layout 16 (omega arith)
-
-pub body-end : (due : ℕ) (held : Data) (r : List ℕ) → EndToEnd 0 (columnsAt due held r)
-body-end zero held r = type-end (typeOf r)
-body-end (suc due) held r = data-end held due
-
--- ---- a record that passes has no fault in them
-no-columns : (r : List ℕ) → columnFault [] r ≡ 0
-unfolding columnFault allFormed allInside
-no-columns r = refl
-
-pub sheet-sound : (p : Sheet.Phase) (r : List ℕ) → Sheet.wrongIn p r ≡ 0 → columnFault (Sheet.phaseColumns p) r ≡ 0
-sheet-sound Sheet.due-a r e = (first-zero (unless (begins "M " r) 2) _ e) .1
-sheet-sound (Sheet.due-b level more) r e = (first-zero (columnFault (Sheet.phaseColumns (Sheet.due-b level more)) r) _ e) .0
-sheet-sound (Sheet.due-c unit wholes more) r e = e
-sheet-sound (Sheet.due-d unit wholes more) r e = (first-zero (columnFault (Sheet.phaseColumns (Sheet.due-d unit wholes more)) r) _ e) .0
-sheet-sound (Sheet.due-e unit wholes more fs) r e = (first-zero (columnFault (Sheet.phaseColumns (Sheet.due-e unit wholes more fs)) r) _ e) .0
-sheet-sound (Sheet.due-f unit wholes more fs) r e = e
-sheet-sound Sheet.body r e = no-columns r
-
-pub index-sound : (p : Index.Stage) (r : List ℕ) → Index.wrongIn p r ≡ 0 → columnFault (Index.stageColumns p) r ≡ 0
-index-sound Index.due-a r e = (first-zero (columnFault (Index.stageColumns Index.due-a) r) _ ((first-zero (unless (begins "I " r) 2) _ e) .1)) .0
-index-sound (Index.due-b bs cs) r e = e
-index-sound (Index.due-c cs) r e = e
-index-sound Index.over r e = no-columns r
-
-pub body-sound : (opened due : ℕ) (held : Data) (r : List ℕ) → faultAt opened due held (view r) ≡ 0 → columnFault (columnsAt due held r) r ≡ 0
-unfolding dataFault
-body-sound opened zero held r e = sym (type-columns r) ∙ (good opened held (view r) e) .sound
-body-sound opened (suc due) held r e = (first-zero (columnFault (dataColumns held due) r) _ (sym (data-columns held due r) ∙ e)) .0
+use Rattle.format.proofs.NormalRecords.{Table, length-normalRecord, normalised}
+use Rattle.format.proofs.NormalTables.{sheet-table, index-table, body-table, sheet-sound, index-sound, body-sound}
 
 -- ---- the records of the body
 length-body : (due : ℕ) (held : Data) (rs : List (List ℕ)) → length (normalBody due held rs) ≡ length rs
@@ -117,12 +38,12 @@ same-columns (suc due) held r = refl
 wide-body : (due : ℕ) (held : Data) (rs : List (List ℕ)) → Wide rs → Wide (normalBody due held rs)
 unfolding Wide
 wide-body due held [] w = tt
-wide-body due held (r ∷ rs) w = (rw (same-columns due held r) (length-normalRecord 0 (columnsAt due held r) r (body-end due held r) (w .0)), wide-body (dueAfter due (view r)) (heldAfter due held (view r)) rs (w .1))
+wide-body due held (r ∷ rs) w = (rw (same-columns due held r) (length-normalRecord 0 (columnsAt due held r) r ((body-table due held r) .end) (w .0)), wide-body (dueAfter due (view r)) (heldAfter due held (view r)) rs (w .1))
 
 body-normalised : (opened due : ℕ) (held : Data) (rs : List (List ℕ)) → Wide rs → Passes opened due held (map view rs) → (k : ℕ) → k < length rs → Normalised (getD (bodyJudged due held rs) k []) (getD rs k []) (getD (normalBody due held rs) k [])
 unfolding Wide
 body-normalised opened due held [] w p k h = absurd (omega arith)
-body-normalised opened due held (r ∷ rs) w p zero h = rw (same-columns due held r) (normalised (columnsAt due held r) r (body-end due held r) (w .0) (body-sound opened due held r (p .0)))
+body-normalised opened due held (r ∷ rs) w p zero h = rw (same-columns due held r) (normalised (columnsAt due held r) r (body-table due held r) (w .0) (body-sound opened due held r (p .0)))
 body-normalised opened due held (r ∷ rs) w p (suc k) h = body-normalised (openAfter opened due (view r)) (dueAfter due (view r)) (heldAfter due held (view r)) rs (w .1) (p .1) k (omega arith)
 
 -- ---- the records of a sheet part or an index
@@ -138,25 +59,38 @@ module _ (M : Machine) where
       at-test true ih = omega arith
       at-test false ih = omega arith
 
-module _ (M : Machine) (columns : M .Phase → List Col) (end : (p : M .Phase) → EndToEnd 0 (columns p)) (sound : (p : M .Phase) (r : List ℕ) → M .wrong p r ≡ 0 → columnFault (columns p) r ≡ 0) (normal : M .Phase → List (List ℕ) → List (List ℕ)) (nil : (p : M .Phase) → normal p [] ≡ []) (cons : (p : M .Phase) (r : List ℕ) (rs : List (List ℕ)) → normal p (r ∷ rs) ≡ normalRecord (columns p) r ∷ normal (M .step p r) rs) where
-  length-normal : (p : M .Phase) (rs : List (List ℕ)) → length (normal p rs) ≡ length rs
-  length-normal p [] = rw (nil p)
-  length-normal p (r ∷ rs) = rw (cons p r rs) (ap suc (length-normal (M .step p r) rs))
+module _ (M : Machine) (columns : M .Phase → List Col) where
+  abbrev pub normalBy : M .Phase → List (List ℕ) → List (List ℕ)
+  normalBy p [] = []
+  normalBy p (r ∷ rs) = normalRecord (columns p) r ∷ normalBy (M .step p r) rs
 
-  wide-normal : (p : M .Phase) (rs : List (List ℕ)) → Wide rs → Wide (normal p rs)
+pub part-by : (p : Sheet.Phase) (rs : List (List ℕ)) → normalPart p rs ≡ normalBy Sheet.sheetMachine Sheet.phaseColumns p rs
+part-by p [] = refl
+part-by p (r ∷ rs) = ap (λ (x : List (List ℕ)). normalRecord (Sheet.phaseColumns p) r ∷ x) (part-by (Sheet.after p r) rs)
+
+pub stage-by : (p : Index.Stage) (rs : List (List ℕ)) → normalStage p rs ≡ normalBy Index.indexMachine Index.stageColumns p rs
+stage-by p [] = refl
+stage-by p (r ∷ rs) = ap (λ (x : List (List ℕ)). normalRecord (Index.stageColumns p) r ∷ x) (stage-by (Index.after p r) rs)
+
+module _ (M : Machine) (columns : M .Phase → List Col) (table : (p : M .Phase) → Table (columns p)) (sound : (p : M .Phase) (r : List ℕ) → M .wrong p r ≡ 0 → columnFault (columns p) r ≡ 0) where
+  length-by : (p : M .Phase) (rs : List (List ℕ)) → length (normalBy M columns p rs) ≡ length rs
+  length-by p [] = refl
+  length-by p (r ∷ rs) = ap suc (length-by (M .step p r) rs)
+
+  wide-by : (p : M .Phase) (rs : List (List ℕ)) → Wide rs → Wide (normalBy M columns p rs)
   unfolding Wide
-  wide-normal p [] w = rw (nil p) tt
-  wide-normal p (r ∷ rs) w = rw (cons p r rs) (length-normalRecord 0 (columns p) r (end p) (w .0), wide-normal (M .step p r) rs (w .1))
+  wide-by p [] w = tt
+  wide-by p (r ∷ rs) w = (length-normalRecord 0 (columns p) r ((table p) .end) (w .0), wide-by (M .step p r) rs (w .1))
 
-  part-normalised : (p : M .Phase) (i : ℕ) (rs : List (List ℕ)) → Wide rs → partFault M p i rs ≡ none → (k : ℕ) → k < partFrom M p rs → Normalised (getD (partJudged M columns p rs) k []) (getD rs k []) (getD (normal p (take (partFrom M p rs) rs)) k [])
+  part-normalised : (p : M .Phase) (i : ℕ) (rs : List (List ℕ)) → Wide rs → partFault M p i rs ≡ none → (k : ℕ) → k < partFrom M p rs → Normalised (getD (partJudged M columns p rs) k []) (getD rs k []) (getD (normalBy M columns p (take (partFrom M p rs) rs)) k [])
   unfolding Wide
   part-normalised p i [] w e k h = absurd (omega arith)
   part-normalised p i (r ∷ rs) w e k h = at-test (M .over p) e k h (part-normalised (M .step p r) (suc i) rs (w .1))
     where
-      at-test : (t : Bool) → cond t none (orElse (toFault (M .wrong p r) i) (partFault M (M .step p r) (suc i) rs)) ≡ none → (k : ℕ) → k < cond t 0 (suc (partFrom M (M .step p r) rs)) → (partFault M (M .step p r) (suc i) rs ≡ none → (k : ℕ) → k < partFrom M (M .step p r) rs → Normalised (getD (partJudged M columns (M .step p r) rs) k []) (getD rs k []) (getD (normal (M .step p r) (take (partFrom M (M .step p r) rs) rs)) k [])) → Normalised (getD (cond t [] (columns p ∷ partJudged M columns (M .step p r) rs)) k []) (getD (r ∷ rs) k []) (getD (normal p (take (cond t 0 (suc (partFrom M (M .step p r) rs))) (r ∷ rs))) k [])
+      at-test : (t : Bool) → cond t none (orElse (toFault (M .wrong p r) i) (partFault M (M .step p r) (suc i) rs)) ≡ none → (k : ℕ) → k < cond t 0 (suc (partFrom M (M .step p r) rs)) → (partFault M (M .step p r) (suc i) rs ≡ none → (k : ℕ) → k < partFrom M (M .step p r) rs → Normalised (getD (partJudged M columns (M .step p r) rs) k []) (getD rs k []) (getD (normalBy M columns (M .step p r) (take (partFrom M (M .step p r) rs) rs)) k [])) → Normalised (getD (cond t [] (columns p ∷ partJudged M columns (M .step p r) rs)) k []) (getD (r ∷ rs) k []) (getD (normalBy M columns p (take (cond t 0 (suc (partFrom M (M .step p r) rs))) (r ∷ rs))) k [])
       at-test true e k h ih = absurd (omega arith)
-      at-test false e zero h ih = rw (cons p r (take (partFrom M (M .step p r) rs) rs)) (normalised (columns p) r (end p) (w .0) (sound p r ((both-none (M .wrong p r) i (partFault M (M .step p r) (suc i) rs) e) .0)))
-      at-test false e (suc k) h ih = rw (cons p r (take (partFrom M (M .step p r) rs) rs)) (ih ((both-none (M .wrong p r) i (partFault M (M .step p r) (suc i) rs) e) .1) k (omega arith))
+      at-test false e zero h ih = normalised (columns p) r (table p) (w .0) (sound p r ((both-none (M .wrong p r) i (partFault M (M .step p r) (suc i) rs) e) .0))
+      at-test false e (suc k) h ih = ih ((both-none (M .wrong p r) i (partFault M (M .step p r) (suc i) rs) e) .1) k (omega arith)
 
 -- ---- a file that passes: its records in normal form
 pub part-passed : (f : Fault) (a : Answer Counts) (n m : ℕ) → afterPart f a ≡ accepted n m → (f ≡ none) × (a ≡ accepted n m)
@@ -199,14 +133,17 @@ module _ (ca cb : List (List Col)) (rs na nb : List (List ℕ)) (n : ℕ) (lc : 
 -- ---- sheets and indexes
 pub sheet-done : (rs : List (List ℕ)) (n m : ℕ) → Wide rs → judgeRecords rs ≡ accepted n m → Done (sheetJudged rs) rs (normalSheetRecords rs)
 unfolding judgeRecords sheetJudged normalSheetRecords Sheet.sheetFault Sheet.partLength
-sheet-done rs n m w e = record {
-  many = length-append (normalPart Sheet.due-a (take L rs)) (normalBody 0 nothing (drop L rs)) ∙ rw (part-many, length-body 0 nothing (drop L rs), length-drop L rs) (omega (arith, few));
-  wide = wide-append _ _ (wide-part (take L rs) (wide-take L rs w)) (wide-body 0 nothing (drop L rs) (wide-drop L rs w));
-  each = joined (partJudged Sheet.sheetMachine Sheet.phaseColumns Sheet.due-a rs) (bodyJudged 0 nothing (drop L rs)) rs (normalPart Sheet.due-a (take L rs)) (normalBody 0 nothing (drop L rs)) L (length-part Sheet.sheetMachine Sheet.phaseColumns Sheet.due-a rs) part-many few (front (q .0)) (body-normalised 0 0 nothing (drop L rs) (wide-drop L rs w) ((accepted-ok (fileOf rs) n m (q .1)) .walks .0));
-}
+sheet-done rs n m w e = rw (part-by Sheet.due-a (take L rs)) (record {
+  many = length-append front (normalBody 0 nothing (drop L rs)) ∙ rw (front-many, length-body 0 nothing (drop L rs), length-drop L rs) (omega (arith, few));
+  wide = wide-append _ _ (wide-by Sheet.sheetMachine Sheet.phaseColumns sheet-table sheet-sound Sheet.due-a (take L rs) (wide-take L rs w)) (wide-body 0 nothing (drop L rs) (wide-drop L rs w));
+  each = joined (partJudged Sheet.sheetMachine Sheet.phaseColumns Sheet.due-a rs) (bodyJudged 0 nothing (drop L rs)) rs front (normalBody 0 nothing (drop L rs)) L (length-part Sheet.sheetMachine Sheet.phaseColumns Sheet.due-a rs) front-many few (part-normalised Sheet.sheetMachine Sheet.phaseColumns sheet-table sheet-sound Sheet.due-a 1 rs w (q .0)) (body-normalised 0 0 nothing (drop L rs) (wide-drop L rs w) ((accepted-ok (fileOf rs) n m (q .1)) .walks .0));
+})
   where
     L : ℕ
     L = partFrom Sheet.sheetMachine Sheet.due-a rs
+
+    front : List (List ℕ)
+    front = normalBy Sheet.sheetMachine Sheet.phaseColumns Sheet.due-a (take L rs)
 
     q : (partFault Sheet.sheetMachine Sheet.due-a 1 rs ≡ none) × (judge (fileOf rs) ≡ accepted n m)
     q = part-passed (partFault Sheet.sheetMachine Sheet.due-a 1 rs) (judge (fileOf rs)) n m e
@@ -214,31 +151,29 @@ sheet-done rs n m w e = record {
     few : L ≤ length rs
     few = part-long Sheet.sheetMachine Sheet.due-a rs
 
-    part-many : length (normalPart Sheet.due-a (take L rs)) ≡ L
-    part-many = length-normal Sheet.sheetMachine Sheet.phaseColumns sheet-end sheet-sound normalPart (λ p. refl) (λ p r rs. refl) Sheet.due-a (take L rs) ∙ length-take-le L rs few
+    front-many : length front ≡ L
+    front-many = length-by Sheet.sheetMachine Sheet.phaseColumns sheet-table sheet-sound Sheet.due-a (take L rs) ∙ length-take-le L rs few
 
-    wide-part : (xs : List (List ℕ)) → Wide xs → Wide (normalPart Sheet.due-a xs)
-    wide-part = wide-normal Sheet.sheetMachine Sheet.phaseColumns sheet-end sheet-sound normalPart (λ p. refl) (λ p r rs. refl) Sheet.due-a
-
-    front : partFault Sheet.sheetMachine Sheet.due-a 1 rs ≡ none → (k : ℕ) → k < L → Normalised (getD (partJudged Sheet.sheetMachine Sheet.phaseColumns Sheet.due-a rs) k []) (getD rs k []) (getD (normalPart Sheet.due-a (take L rs)) k [])
-    front = part-normalised Sheet.sheetMachine Sheet.phaseColumns sheet-end sheet-sound normalPart (λ p. refl) (λ p r rs. refl) Sheet.due-a 1 rs w
-
-pub index-done : (rs : List (List ℕ)) (n m : ℕ) → Wide rs → judgeIndexRecords rs ≡ accepted n m → Done (indexJudged rs) rs (normalIndexRecords rs)
-unfolding judgeIndexRecords indexJudged normalIndexRecords Index.indexFault
-index-done rs n m w e = record {
-  many = length-normal Index.indexMachine Index.stageColumns index-end index-sound normalStage (λ p. refl) (λ p r rs. refl) Index.due-a rs;
-  wide = wide-normal Index.indexMachine Index.stageColumns index-end index-sound normalStage (λ p. refl) (λ p r rs. refl) Index.due-a rs w;
-  each = λ k h. rw all at (part-normalised Index.indexMachine Index.stageColumns index-end index-sound normalStage (λ p. refl) (λ p r rs. refl) Index.due-a 1 rs w (q .0) k (omega (arith, whole)));
-}
+pub index-passed : (rs : List (List ℕ)) (n m : ℕ) → judgeIndexRecords rs ≡ accepted n m → (partFault Index.indexMachine Index.due-a 1 rs ≡ none) × (length rs ≡ partFrom Index.indexMachine Index.due-a rs)
+unfolding judgeIndexRecords Index.indexFault
+index-passed rs n m e = (q .0, eqb-true _ _ (unless-zero _ _ (toFault-none (unless (eqb (length rs) (partFrom Index.indexMachine Index.due-a rs)) 10) 1 (q .1))))
   where
     q : (partFault Index.indexMachine Index.due-a 1 rs ≡ none) × (toFault (unless (eqb (length rs) (partFrom Index.indexMachine Index.due-a rs)) 10) 1 ≡ none)
     q = orElse-none (partFault Index.indexMachine Index.due-a 1 rs) _ (verdict-none (Index.indexFault rs) (length rs) 0 n m e)
 
-    whole : length rs ≡ partFrom Index.indexMachine Index.due-a rs
-    whole = eqb-true _ _ (unless-zero _ _ (toFault-none (unless (eqb (length rs) (partFrom Index.indexMachine Index.due-a rs)) 10) 1 (q .1)))
+pub index-done : (rs : List (List ℕ)) (n m : ℕ) → Wide rs → judgeIndexRecords rs ≡ accepted n m → Done (indexJudged rs) rs (normalIndexRecords rs)
+unfolding indexJudged normalIndexRecords
+index-done rs n m w e = rw (stage-by Index.due-a rs) (record {
+  many = length-by Index.indexMachine Index.stageColumns index-table index-sound Index.due-a rs;
+  wide = wide-by Index.indexMachine Index.stageColumns index-table index-sound Index.due-a rs w;
+  each = λ k h. rw all at (part-normalised Index.indexMachine Index.stageColumns index-table index-sound Index.due-a 1 rs w (q .0) k (omega (arith, q .1)));
+})
+  where
+    q : (partFault Index.indexMachine Index.due-a 1 rs ≡ none) × (length rs ≡ partFrom Index.indexMachine Index.due-a rs)
+    q = index-passed rs n m e
 
     all : take (partFrom Index.indexMachine Index.due-a rs) rs ≡ rs
-    all = take-all (partFrom Index.indexMachine Index.due-a rs) rs (omega (arith, whole))
+    all = take-all (partFrom Index.indexMachine Index.due-a rs) rs (omega (arith, q .1))
 
 -- ---- the second buffer
 pub record Whole (used : ℕ) (buffer : List ℕ) : Type 0 where

@@ -16,7 +16,7 @@ use Rattle.format.specs.Column.{columnOf, formed, integer, written}
 use Rattle.format.specs.Layout.{columnFault, What, text, blank, integral, integralOrSpaces, Col, column, splice, bytesOf, spaces, isFormed, allFormed, laid, every, layouts, widths-add-up, indexA, indexB, indexC, sheetA, sheetB, sheetC, sheetD, sheetE, sheetF, header, element, gridHeader, netHeader, data3D, data2D, dataNote, dataAttribute, dataGrid, dataNet}
 use Rattle.format.specs.Normal.{normalBytes, normalRecord}
 use Rattle.format.specs.Judged.{InWrittenForm, ColumnNormal, EachColumn, isInteger, Outside, Normalised}
-use Rattle.format.proofs.Basics.{and-true, first-zero, unless-zero}
+use Rattle.format.proofs.Basics.{and-true, true-and, first-zero, unless-zero}
 use Rattle.format.proofs.Columns.{left, right, length-written, length-splice, column-own, column-before, column-behind, length-column}
 
 -- ---- columns that lie end to end from `at` on, within 84 bytes
@@ -37,10 +37,34 @@ laid-end-to-end at (c ∷ cs) e = at-test (eqb (c .start) at) refl e (laid-end-t
     at-test false p q ih = absurd (omega arith)
 
 -- the first columns of such a list do
-pub take-end-to-end : (n at : ℕ) (cs : List Col) → EndToEnd at cs → EndToEnd at (take n cs)
+take-end-to-end : (n at : ℕ) (cs : List Col) → EndToEnd at cs → EndToEnd at (take n cs)
 take-end-to-end zero at cs e = within-84 at cs e
 take-end-to-end (suc n) at [] e = e
 take-end-to-end (suc n) at (c ∷ cs) e = (e .0, take-end-to-end n (at + c .width) cs (e .1))
+
+-- integer columns of at most 18 bytes
+abbrev pub narrow : Col → Bool
+narrow c = cond (isInteger (c .what)) (leb (c .width) 18) true
+
+abbrev pub allNarrow : List Col → Bool
+allNarrow [] = true
+allNarrow (c ∷ cs) = narrow c && allNarrow cs
+
+take-narrow : (n : ℕ) (cs : List Col) → allNarrow cs ≡ true → allNarrow (take n cs) ≡ true
+take-narrow zero cs e = refl
+take-narrow (suc n) [] e = refl
+take-narrow (suc n) (c ∷ cs) e = let p = and-true (narrow c) (allNarrow cs) e in true-and _ _ (p .0) (take-narrow n cs (p .1))
+
+-- what every list of judged columns is
+pub record Table (cs : List Col) : Type 0 where
+  pub end : EndToEnd 0 cs
+  pub narrow : allNarrow cs ≡ true
+
+pub take-table : (n : ℕ) (cs : List Col) → Table cs → Table (take n cs)
+take-table n cs t = record { end = take-end-to-end n 0 cs (t .end); narrow = take-narrow n cs (t .narrow) }
+
+pub no-table : Table []
+no-table = record { end = omega arith; narrow = refl }
 
 -- ---- one column
 in-written-form : (w : ℕ) (bs : List ℕ) → formed (columnOf bs) ≡ true → InWrittenForm w bs (written w (integer (columnOf bs)))
@@ -80,7 +104,7 @@ byte-column i r = sym (getD-take 1 (drop i r) 0 0 (omega arith) ∙ getD-drop i 
     none-more = omega arith
 
 -- a column written with its own bytes is as it was
-splice-same : (s w : ℕ) (r : List ℕ) → splice s w (column s w r) r ≡ r
+pub splice-same : (s w : ℕ) (r : List ℕ) → splice s w (column s w r) r ≡ r
 unfolding splice column
 splice-same s w r = ap (λ (x : List ℕ). take s r ++ x) back ∙ take-append-drop s r
   where
@@ -185,10 +209,10 @@ each-byte at [] r e l i o = refl
 each-byte at (c ∷ cs) r e l i o = each-byte (at + c .width) cs (one c r) (e .1) (next-length at c cs r e l) i (o .1) ∙ one-byte c r (room-for at c cs r e l) i (o .0)
 
 -- A RECORD IN ORDER, AND ITS NORMAL FORM
-pub normalised : (cs : List Col) (r : List ℕ) → EndToEnd 0 cs → length r ≡ 84 → columnFault cs r ≡ 0 → Normalised cs r (normalRecord cs r)
+pub normalised : (cs : List Col) (r : List ℕ) → Table cs → length r ≡ 84 → columnFault cs r ≡ 0 → Normalised cs r (normalRecord cs r)
 unfolding columnFault
-normalised cs r e l f = record {
-  long = length-normalRecord 0 cs r e l ∙ sym l;
-  judged = each-column 0 cs r e l (unless-zero _ _ ((first-zero (unless (allFormed cs r) 5) _ f) .0));
-  others = each-byte 0 cs r e l;
+normalised cs r t l f = record {
+  long = length-normalRecord 0 cs r (t .end) l ∙ sym l;
+  judged = each-column 0 cs r (t .end) l (unless-zero _ _ ((first-zero (unless (allFormed cs r) 5) _ f) .0));
+  others = each-byte 0 cs r (t .end) l;
 }

@@ -181,7 +181,7 @@ module _ (j t c : ℕ) (r : List ℕ) (p : Placed j) (84-wide : length r ≡ 84)
           go false q = none-beyond (set j t c r) k far ∙ sym (none-beyond r k far)
 
 -- ---- a record seen as a header is one, and stays one
-start-two : (r r′ : List ℕ) → column 0 2 r′ ≡ column 0 2 r → typeOf r′ ≡ typeOf r
+pub start-two : (r r′ : List ℕ) → column 0 2 r′ ≡ column 0 2 r → typeOf r′ ≡ typeOf r
 unfolding typeOf begins bytes column
 start-two r r′ e = rw e
 
