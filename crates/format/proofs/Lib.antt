@@ -31,6 +31,7 @@ pub mod NormalColumns
 pub mod NormalRecords
 pub mod NormalTables
 pub mod NormalReads
+pub mod NormalSteps
 pub mod NormalFiles
 pub mod ClaimsColumns
 pub mod Claims

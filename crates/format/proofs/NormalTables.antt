@@ -50,7 +50,7 @@ index-table (Index.due-b bs cs) = layout 1 (omega arith)
 index-table (Index.due-c cs) = layout 2 (omega arith)
 index-table Index.over = no-table
 
-type-table : (t : RecordType) → Table (typeColumns t)
+pub type-table : (t : RecordType) → Table (typeColumns t)
 unfolding layouts
 type-table H = layout 9 (omega arith)
 type-table E1 = layout 10 (omega arith)
