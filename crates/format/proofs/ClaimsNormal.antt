@@ -1,10 +1,9 @@
 -- THE CLAIMS about the normal form, each in a line; what their words mean stands in specs/Judged.antt. Assumes nothing.
-use mathlib.Core.Path.{_≡_, refl, ap, sym, _∙_}
-use mathlib.Core.Bool.{true}
-use mathlib.Core.List.{List, [], append-nil}
+use mathlib.Core.Path.{_≡_, ap, sym, _∙_}
+use mathlib.Core.List.{List, [], _++_, append-nil}
 use Prim.Native.Nat.{ℕ, suc, _/_, _≤_, _<_}
-use lib.ListN.{length, drop}
-use Rattle.format.specs.Basics.{given, refused, Outcome, chunks, stageOneOk}
+use lib.ListN.{length, take, drop}
+use Rattle.format.specs.Basics.{given, refused, chunks}
 use Rattle.format.specs.Layout.{Col}
 use Rattle.format.specs.Record.{nothing}
 use Rattle.format.specs.Part.{partFault}
@@ -14,7 +13,9 @@ use Rattle.format.specs.Judge.{accepted, walk, fileOf, judgeRecords, jud
 use Rattle.format.specs.Normal.{normalSheet, normalIndex, normalSheetRecords, normalIndexRecords}
 use Rattle.format.specs.Judged.{sheetJudged, indexJudged, sheetWrongBy, indexWrongBy, partFaultBy, walkBy, NormalForm}
 use Rattle.format.proofs.NormalColumns.{sheet-wrong, index-wrong, part-fault, body-walk, sheet-behind}
-use Rattle.format.proofs.NormalFiles.{Whole, stage-passed, stage-whole, sheet-done, index-done, normal-form, refused-as-judged, refused-short, written-long}
+use Rattle.format.proofs.NormalFiles.{sheet-done, index-done}
+use Rattle.format.proofs.NormalAgain.{sheet-twice, index-twice}
+use Rattle.format.proofs.NormalCalls.{refused-as-judged, refused-short, call-normal, call-again, call-own}
 
 -- ---- the judged columns are those of judging: stage two with them is stage two
 -- in the sheet part of every file
@@ -45,13 +46,17 @@ sheet-15 used buffer second n m e l = refused-short _ n m e used _ second l
 -- else the file's length, and the second buffer holds the normal form; "the second buffer past the file stays"
 pub sheet-normal : (used : ℕ) (buffer second : List ℕ) (n m : ℕ) → judgeSheet used buffer ≡ accepted n m → used ≤ length second → ((normalSheet used buffer second) .answer ≡ given used) × NormalForm (sheetJudged (chunks (used / 84) buffer)) used buffer second ((normalSheet used buffer second) .bytes)
 unfolding normalSheet judgeSheet
-sheet-normal used buffer second n m e l = rw (written-long (judgeSheet used buffer) n m e used (normalSheetRecords (chunks (used / 84) buffer)) second l) (refl, normal-form _ (normalSheetRecords (chunks (used / 84) buffer)) used buffer second whole l (sheet-done (chunks (used / 84) buffer) n m (whole .wide) (q .1)))
-  where
-    q : (stageOneOk used buffer ≡ true) × (judgeRecords (chunks (used / 84) buffer) ≡ accepted n m)
-    q = stage-passed (stageOneOk used buffer) (judgeRecords (chunks (used / 84) buffer)) n m e
+sheet-normal used buffer second n m e l = call-normal judgeRecords sheetJudged normalSheetRecords sheet-done sheet-twice used buffer second n m e l
 
-    whole : Whole used buffer
-    whole = stage-whole used buffer (q .0)
+-- the normal form is accepted, with the same counts
+pub sheet-again : (used : ℕ) (buffer second : List ℕ) (n m : ℕ) → judgeSheet used buffer ≡ accepted n m → used ≤ length second → judgeSheet used ((normalSheet used buffer second) .bytes) ≡ accepted n m
+unfolding normalSheet judgeSheet
+sheet-again used buffer second n m e l = call-again judgeRecords sheetJudged normalSheetRecords sheet-done sheet-twice used buffer second n m e l
+
+-- and is its own normal form
+pub sheet-own : (used : ℕ) (buffer second : List ℕ) (n m : ℕ) → judgeSheet used buffer ≡ accepted n m → used ≤ length second → (third : List ℕ) → used ≤ length third → normalSheet used ((normalSheet used buffer second) .bytes) third ≡ record { answer = given used; bytes = take used ((normalSheet used buffer second) .bytes) ++ drop used third }
+unfolding normalSheet judgeSheet
+sheet-own used buffer second n m e l = call-own judgeRecords sheetJudged normalSheetRecords sheet-done sheet-twice used buffer second n m e l
 
 -- ---- an index: "judges, then writes to a second buffer (else 15) the same file with every judged integer in written form"
 -- what judging refuses is refused so, by the same number at the same record, and the second buffer is as it was
@@ -67,10 +72,14 @@ index-15 used buffer second n m e l = refused-short _ n m e used _ second l
 -- else the file's length, and the second buffer holds the normal form; "the second buffer past the file stays"
 pub index-normal : (used : ℕ) (buffer second : List ℕ) (n m : ℕ) → judgeIndex used buffer ≡ accepted n m → used ≤ length second → ((normalIndex used buffer second) .answer ≡ given used) × NormalForm (indexJudged (chunks (used / 84) buffer)) used buffer second ((normalIndex used buffer second) .bytes)
 unfolding normalIndex judgeIndex
-index-normal used buffer second n m e l = rw (written-long (judgeIndex used buffer) n m e used (normalIndexRecords (chunks (used / 84) buffer)) second l) (refl, normal-form _ (normalIndexRecords (chunks (used / 84) buffer)) used buffer second whole l (index-done (chunks (used / 84) buffer) n m (whole .wide) (q .1)))
-  where
-    q : (stageOneOk used buffer ≡ true) × (judgeIndexRecords (chunks (used / 84) buffer) ≡ accepted n m)
-    q = stage-passed (stageOneOk used buffer) (judgeIndexRecords (chunks (used / 84) buffer)) n m e
+index-normal used buffer second n m e l = call-normal judgeIndexRecords indexJudged normalIndexRecords index-done index-twice used buffer second n m e l
 
-    whole : Whole used buffer
-    whole = stage-whole used buffer (q .0)
+-- the normal form is accepted, with the same counts
+pub index-again : (used : ℕ) (buffer second : List ℕ) (n m : ℕ) → judgeIndex used buffer ≡ accepted n m → used ≤ length second → judgeIndex used ((normalIndex used buffer second) .bytes) ≡ accepted n m
+unfolding normalIndex judgeIndex
+index-again used buffer second n m e l = call-again judgeIndexRecords indexJudged normalIndexRecords index-done index-twice used buffer second n m e l
+
+-- and is its own normal form
+pub index-own : (used : ℕ) (buffer second : List ℕ) (n m : ℕ) → judgeIndex used buffer ≡ accepted n m → used ≤ length second → (third : List ℕ) → used ≤ length third → normalIndex used ((normalIndex used buffer second) .bytes) third ≡ record { answer = given used; bytes = take used ((normalIndex used buffer second) .bytes) ++ drop used third }
+unfolding normalIndex judgeIndex
+index-own used buffer second n m e l = call-own judgeIndexRecords indexJudged normalIndexRecords index-done index-twice used buffer second n m e l

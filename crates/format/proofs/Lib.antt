@@ -33,6 +33,8 @@ pub mod NormalTables
 pub mod NormalReads
 pub mod NormalSteps
 pub mod NormalFiles
+pub mod NormalAgain
+pub mod NormalCalls
 pub mod ClaimsColumns
 pub mod Claims
 pub mod ClaimsNested

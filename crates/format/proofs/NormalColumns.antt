@@ -1,18 +1,18 @@
 -- The columns by which each record is judged are those by which stage two judges it. Assumes nothing.
-use mathlib.Core.Path.{_≡_, refl, ap, sym, _∙_}
+use mathlib.Core.Path.{_≡_, refl, ap}
 use mathlib.Core.Bool.{Bool, true, false, cond}
 use mathlib.Core.List.{List, [], _∷_, _++_, map}
 use Prim.Native.Nat.{ℕ, zero, suc}
 use lib.ListN.{length, drop, getD}
 use lib.Seq.{drop-at}
-use Rattle.format.specs.Basics.{Fault, none, fault, orElse, toFault}
+use Rattle.format.specs.Basics.{none, orElse, toFault}
 use Rattle.format.specs.Layout.{Col, allFormed, allInside, columnFault}
 use Rattle.format.specs.Record.{RecordType, H, E1, E2, E3, E4, E5, E6, E7, E8, G, T, other, Data, nothing, typeOf, typeColumns, headerView, elementView, gridView, netView, otherView, viewAs, view, dataFault}
 use Rattle.format.specs.Part.{Machine, partFrom, partFault}
 use Rattle.format.specs.Sheet as Sheet
 use Rattle.format.specs.Index as Index
-use Rattle.format.specs.Judge.{faultAt, dueAfter, heldAfter, openAfter, ownerAfter, walk, fileOf}
-use Rattle.format.specs.Judged.{partJudged, columnsAt, bodyJudged, sheetJudged, indexJudged, sheetWrongBy, indexWrongBy, partFaultBy, faultBy, walkBy}
+use Rattle.format.specs.Judge.{faultAt, dueAfter, heldAfter, openAfter, ownerAfter, walk}
+use Rattle.format.specs.Judged.{partJudged, columnsAt, bodyJudged, sheetJudged, sheetWrongBy, indexWrongBy, partFaultBy, faultBy, walkBy}
 
 -- ---- one record
 -- of a sheet part or an index

@@ -1,37 +1,36 @@
 -- A whole file in normal form: each record by the columns that judging reads of it. Assumes nothing.
-use mathlib.Core.Path.{_≡_, refl, ap, sym, _∙_}
-use mathlib.Core.Bool.{Bool, true, false, cond, _&&_}
+use mathlib.Core.Path.{_≡_, refl, ap, _∙_}
+use mathlib.Core.Bool.{Bool, true, false, cond}
 use mathlib.Core.List.{List, [], _∷_, _++_, map}
-use Prim.Native.Nat.{ℕ, zero, suc, _+_, _-_, _*_, _/_, _%_, _≤_, _<_}
+use Prim.Native.Nat.{ℕ, zero, suc, _+_, _-_, _≤_, _<_}
 use native.Mathlib.Omega.{arith}
-use lib.Dec.{eqb, leb, ltb}
-use borrow.Author.Tests.{eqb-true, leb-true, le-leb, lt-leb, ltb-true, ltb-false}
+use lib.Dec.{eqb, ltb}
+use borrow.Author.Tests.{eqb-true, ltb-true, ltb-false}
 use lib.ListN.{length, take, drop, getD, length-append, length-drop, List·getD-append}
-use lib.Seq.{getD-append-add, getD-drop, drop-at, length-take-le, take-all}
-use Rattle.format.specs.Basics.{Answer, given, refused, Fault, none, fault, orElse, toFault, first, unless, chunks, flat, stageOneOk}
-use Rattle.format.specs.Text.{begins}
-use Rattle.format.specs.Layout.{Col, allFormed, allInside, columnFault, laid, every, layouts, widths-add-up, numberAt, sheetB, sheetD, data3D, data2D, dataNet, dataGrid}
-use Rattle.format.specs.Record.{RecordType, H, E1, E2, E3, E4, E5, E6, E7, E8, G, T, other, Data, nothing, points3D, points2D, triangles, heights, notes, attributes, typeOf, typeColumns, dataColumns, dataFault, usedIn, view}
+use lib.Seq.{getD-append-add, getD-drop, length-take-le, take-all}
+use Rattle.format.specs.Basics.{Answer, Fault, none, fault, orElse, toFault, unless}
+use Rattle.format.specs.Layout.{Col, columnFault}
+use Rattle.format.specs.Record.{Data, nothing, view}
 use Rattle.format.specs.Part.{Machine, partFrom, partFault}
 use Rattle.format.specs.Sheet as Sheet
 use Rattle.format.specs.Index as Index
-use Rattle.format.specs.Judge.{Counts, accepted, afterStageOne, afterPart, dueAfter, heldAfter, openAfter, faultAt, judge, judgeRecords, judgeIndexRecords, judgeSheet, judgeIndex, fileOf}
-use Rattle.format.specs.Normal.{normalRecord, bodyColumns, normalBody, normalPart, normalStage, normalSheetRecords, normalIndexRecords, normalTo, normalSheet, normalIndex}
-use Rattle.format.specs.Judged.{partJudged, columnsAt, bodyJudged, sheetJudged, indexJudged, Normalised, NormalForm}
-use Rattle.format.proofs.Basics.{and-true, first-zero, unless-zero}
-use Rattle.format.proofs.Lists.{Wide, wide-take, wide-drop, wide-chunks, wide-append, length-flat, chunks-flat, length-chunks}
-use Rattle.format.proofs.JudgeWalks.{Passes, orElse-none, toFault-none, good}
+use Rattle.format.specs.Judge.{Counts, accepted, afterStageOne, afterPart, dueAfter, heldAfter, openAfter, judge, judgeRecords, judgeIndexRecords, fileOf}
+use Rattle.format.specs.Normal.{normalRecord, bodyColumns, normalBody, normalPart, normalStage, normalSheetRecords, normalIndexRecords}
+use Rattle.format.specs.Judged.{partJudged, columnsAt, bodyJudged, sheetJudged, indexJudged, Normalised}
+use Rattle.format.proofs.Basics.{unless-zero}
+use Rattle.format.proofs.Lists.{Wide, wide-take, wide-drop, wide-append}
+use Rattle.format.proofs.JudgeWalks.{Passes, orElse-none, toFault-none}
 use Rattle.format.proofs.JudgeAccepted.{accepted-ok, verdict-none}
-use Rattle.format.proofs.NormalColumns.{type-columns, data-columns, length-part}
+use Rattle.format.proofs.NormalColumns.{length-part}
 use Rattle.format.proofs.NormalRecords.{Table, length-normalRecord, normalised}
 use Rattle.format.proofs.NormalTables.{sheet-table, index-table, body-table, sheet-sound, index-sound, body-sound}
 
 -- ---- the records of the body
-length-body : (due : ℕ) (held : Data) (rs : List (List ℕ)) → length (normalBody due held rs) ≡ length rs
+pub length-body : (due : ℕ) (held : Data) (rs : List (List ℕ)) → length (normalBody due held rs) ≡ length rs
 length-body due held [] = refl
 length-body due held (r ∷ rs) = ap suc (length-body (dueAfter due (view r)) (heldAfter due held (view r)) rs)
 
-same-columns : (due : ℕ) (held : Data) (r : List ℕ) → bodyColumns due held r ≡ columnsAt due held r
+pub same-columns : (due : ℕ) (held : Data) (r : List ℕ) → bodyColumns due held r ≡ columnsAt due held r
 same-columns zero held r = refl
 same-columns (suc due) held r = refl
 
@@ -47,11 +46,11 @@ body-normalised opened due held (r ∷ rs) w p zero h = rw (same-columns due hel
 body-normalised opened due held (r ∷ rs) w p (suc k) h = body-normalised (openAfter opened due (view r)) (dueAfter due (view r)) (heldAfter due held (view r)) rs (w .1) (p .1) k (omega arith)
 
 -- ---- the records of a sheet part or an index
-both-none : (n i : ℕ) (f : Fault) → orElse (toFault n i) f ≡ none → (n ≡ 0) × (f ≡ none)
+pub both-none : (n i : ℕ) (f : Fault) → orElse (toFault n i) f ≡ none → (n ≡ 0) × (f ≡ none)
 both-none n i f e = let p = orElse-none (toFault n i) f e in (toFault-none n i (p .0), p .1)
 
 module _ (M : Machine) where
-  part-long : (p : M .Phase) (rs : List (List ℕ)) → partFrom M p rs ≤ length rs
+  pub part-long : (p : M .Phase) (rs : List (List ℕ)) → partFrom M p rs ≤ length rs
   part-long p [] = omega arith
   part-long p (r ∷ rs) = at-test (M .over p) (part-long (M .step p r) rs)
     where
@@ -73,7 +72,7 @@ stage-by p [] = refl
 stage-by p (r ∷ rs) = ap (λ (x : List (List ℕ)). normalRecord (Index.stageColumns p) r ∷ x) (stage-by (Index.after p r) rs)
 
 module _ (M : Machine) (columns : M .Phase → List Col) (table : (p : M .Phase) → Table (columns p)) (sound : (p : M .Phase) (r : List ℕ) → M .wrong p r ≡ 0 → columnFault (columns p) r ≡ 0) where
-  length-by : (p : M .Phase) (rs : List (List ℕ)) → length (normalBy M columns p rs) ≡ length rs
+  pub length-by : (p : M .Phase) (rs : List (List ℕ)) → length (normalBy M columns p rs) ≡ length rs
   length-by p [] = refl
   length-by p (r ∷ rs) = ap suc (length-by (M .step p r) rs)
 
@@ -174,50 +173,3 @@ index-done rs n m w e = rw (stage-by Index.due-a rs) (record {
 
     all : take (partFrom Index.indexMachine Index.due-a rs) rs ≡ rs
     all = take-all (partFrom Index.indexMachine Index.due-a rs) rs (omega (arith, q .1))
-
--- ---- the second buffer
-pub record Whole (used : ℕ) (buffer : List ℕ) : Type 0 where
-  pub multiple : 84 * (used / 84) ≡ used
-  pub inside : used ≤ length buffer
-  pub wide : Wide (chunks (used / 84) buffer)
-
-pub stage-whole : (used : ℕ) (buffer : List ℕ) → stageOneOk used buffer ≡ true → Whole used buffer
-stage-whole used buffer e = record { multiple = multiple; inside = inside; wide = wide-chunks (used / 84) buffer (omega (arith, multiple, inside)) }
-  where
-    a : (ltb 0 used && leb used (length buffer) && eqb (used % 84) 0 ≡ true) × (leb used (84 * 200000) ≡ true)
-    a = and-true _ _ e
-
-    b : (ltb 0 used && leb used (length buffer) ≡ true) × (eqb (used % 84) 0 ≡ true)
-    b = and-true _ _ (a .0)
-
-    inside : used ≤ length buffer
-    inside = leb-true used (length buffer) ((and-true (ltb 0 used) _ (b .0)) .1)
-
-    multiple : 84 * (used / 84) ≡ used
-    multiple = omega (arith, eqb-true (used % 84) 0 (b .1))
-
-pub normal-form : (judged : List (List Col)) (ns : List (List ℕ)) (used : ℕ) (buffer second : List ℕ) → Whole used buffer → used ≤ length second → Done judged (chunks (used / 84) buffer) ns → NormalForm judged used buffer second (flat ns ++ drop used second)
-normal-form judged ns used buffer second w l d = record {
-  long = length-append (flat ns) (drop used second) ∙ rw (written, length-drop used second) (omega arith);
-  records = λ k h. rw read (d .each k (rw (length-chunks (used / 84) buffer) h));
-  behind = drop-at (flat ns) (drop used second) used written;
-}
-  where
-    many : length ns ≡ used / 84
-    many = d .many ∙ length-chunks (used / 84) buffer
-
-    read : chunks (used / 84) (flat ns ++ drop used second) ≡ ns
-    read = ap (λ (j : ℕ). chunks j (flat ns ++ drop used second)) (sym many) ∙ chunks-flat ns (drop used second) (d .wide)
-
-    written : length (flat ns) ≡ used
-    written = length-flat ns (d .wide) ∙ omega (arith, many, w .multiple)
-
--- ---- the calls: refused as judging does; 15 where the second buffer is short; or written
-pub refused-as-judged : (v : Answer Counts) (number at : ℕ) → v ≡ refused number at → (used : ℕ) (ns : List (List ℕ)) (second : List ℕ) → normalTo v used ns second ≡ record { answer = refused number at; bytes = second }
-refused-as-judged v number at e used ns second = rw e
-
-pub refused-short : (v : Answer Counts) (n m : ℕ) → v ≡ accepted n m → (used : ℕ) (ns : List (List ℕ)) (second : List ℕ) → length second < used → normalTo v used ns second ≡ record { answer = refused 15 0; bytes = second }
-refused-short v n m e used ns second l = rw (e, lt-leb used (length second) l)
-
-pub written-long : (v : Answer Counts) (n m : ℕ) → v ≡ accepted n m → (used : ℕ) (ns : List (List ℕ)) (second : List ℕ) → used ≤ length second → normalTo v used ns second ≡ record { answer = given used; bytes = flat ns ++ drop used second }
-written-long v n m e used ns second l = rw (e, le-leb used (length second) l)

@@ -1,21 +1,21 @@
 -- A record in normal form reads as the record does, and is its own normal form. Assumes nothing.
 use mathlib.Core.Path.{_≡_, refl, ap, sym, _∙_}
-use mathlib.Core.Bool.{Bool, true, false, cond, _&&_, _||_, false≢true}
-use mathlib.Core.Logic.{_⊎_, inl, inr}
-use mathlib.Core.List.{List, [], _∷_, _++_}
-use Prim.Native.Nat.{ℕ, zero, suc, _+_, _-_, _^_, _≤_, _<_}
+use mathlib.Core.Bool.{Bool, true, false, cond, _||_}
+use mathlib.Core.Logic.{inl, inr}
+use mathlib.Core.List.{List, [], _∷_}
+use Prim.Native.Nat.{ℕ, zero, suc, _+_, _^_, _≤_, _<_}
 use Prim.Native.String.{String}
 use native.Mathlib.Omega.{arith}
-use lib.Dec.{eqb, leb, ltb}
+use lib.Dec.{eqb, leb}
 use lib.Text.{eqt}
 use borrow.Author.Tests.{lt-ltb, leb-true}
 use lib.IntN.{ℤ, pos, negsuc, negℤ}
-use lib.ListN.{length, take, drop}
+use lib.ListN.{length}
 use Rattle.format.specs.declared.Column.{Column}
 use Rattle.format.specs.declared.Column.the-variants.{Value, MinusZero, Malformed}
 use Rattle.format.specs.Basics.{unless}
 use Rattle.format.specs.Column.{strip, valueOf, isNumber, negative, positive, signed, columnOf, formed, integer, numberOf, fits, written}
-use Rattle.format.specs.Layout.{What, text, blank, integral, integralOrSpaces, Col, X, column, splice, find, bytesOf, spaces, integerAt, numberAt, isFormed, isInside, allFormed, allInside, columnFault}
+use Rattle.format.specs.Layout.{What, text, blank, integral, integralOrSpaces, Col, column, splice, find, bytesOf, spaces, integerAt, numberAt, isFormed, isInside, allFormed, allInside, columnFault}
 use Rattle.format.specs.Normal.{normalBytes, normalRecord}
 use Rattle.format.specs.Judged.{InWrittenForm, ColumnNormal, EachColumn, isInteger}
 use Rattle.format.proofs.Basics.{and-true, true-and, first-zero, zero-first, unless-zero, zero-unless}

@@ -3,7 +3,7 @@ use mathlib.Core.Path.{_≡_, refl, ap, sym, _∙_}
 use mathlib.Core.Bool.{Bool, true, false, cond, _&&_, _||_, false≢true}
 use mathlib.Core.Logic.{_⊎_, inl, inr}
 use mathlib.Core.List.{List, [], _∷_, _++_}
-use Prim.Native.Nat.{ℕ, zero, suc, _+_, _-_, _≤_, _<_}
+use Prim.Native.Nat.{ℕ, zero, suc, _+_, _≤_, _<_}
 use native.Mathlib.Omega.{arith}
 use lib.Dec.{eqb, leb}
 use borrow.Author.Tests.{eqb-true}
@@ -13,11 +13,11 @@ use Rattle.format.specs.declared.Column.{Column}
 use Rattle.format.specs.declared.Column.the-variants.{Value, MinusZero, Malformed}
 use Rattle.format.specs.Basics.{unless}
 use Rattle.format.specs.Column.{columnOf, formed, integer, written}
-use Rattle.format.specs.Layout.{columnFault, What, text, blank, integral, integralOrSpaces, Col, column, splice, bytesOf, spaces, isFormed, allFormed, laid, every, layouts, widths-add-up, indexA, indexB, indexC, sheetA, sheetB, sheetC, sheetD, sheetE, sheetF, header, element, gridHeader, netHeader, data3D, data2D, dataNote, dataAttribute, dataGrid, dataNet}
+use Rattle.format.specs.Layout.{columnFault, What, text, blank, integral, integralOrSpaces, Col, column, splice, bytesOf, spaces, isFormed, allFormed, laid}
 use Rattle.format.specs.Normal.{normalBytes, normalRecord}
 use Rattle.format.specs.Judged.{InWrittenForm, ColumnNormal, EachColumn, isInteger, Outside, Normalised}
 use Rattle.format.proofs.Basics.{and-true, true-and, first-zero, unless-zero}
-use Rattle.format.proofs.Columns.{left, right, length-written, length-splice, column-own, column-before, column-behind, length-column}
+use Rattle.format.proofs.Columns.{length-written, length-splice, column-own, column-before, column-behind, length-column}
 
 -- ---- columns that lie end to end from `at` on, within 84 bytes
 abbrev pub EndToEnd : (at : ℕ) → List Col → Type 0

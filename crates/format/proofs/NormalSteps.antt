@@ -1,17 +1,16 @@
 -- Judging takes the same step at a record and at its normal form. Assumes nothing.
 use mathlib.Core.Path.{_≡_, refl, ap, sym, _∙_}
-use mathlib.Core.Bool.{Bool, true, false, cond}
+use mathlib.Core.Bool.{Bool}
 use mathlib.Core.List.{List, [], _∷_}
 use Prim.Native.Nat.{ℕ, zero, suc}
 use Prim.Native.String.{String}
 use native.Mathlib.Omega.{arith}
 use lib.Dec.{eqb}
-use lib.IntN.{ℤ}
 use lib.ListN.{length}
 use Rattle.format.specs.Basics.{first, unless}
 use Rattle.format.specs.Text.{bytes, begins}
-use Rattle.format.specs.Layout.{Col, column, columnFault, integerAt, numberAt, indexA, sheetA, sheetB, sheetD, sheetE, header, element, gridHeader, netHeader, dataNote}
-use Rattle.format.specs.Record.{head, RecordType, H, E1, E2, E3, E4, E5, E6, E7, E8, G, T, other, Data, nothing, points3D, points2D, triangles, heights, notes, attributes, View, typeOf, typeColumns, dataColumns, dataRule, dataFault, directionOk, elementRule, countName, headerView, elementView, gridView, netView, otherView, viewAs, view}
+use Rattle.format.specs.Layout.{Col, column, columnFault, numberAt, indexA, sheetA, sheetB, sheetD, sheetE, header, element, gridHeader, netHeader, dataNote}
+use Rattle.format.specs.Record.{head, RecordType, H, E1, E2, E3, E4, E5, E6, E7, E8, G, T, other, Data, nothing, points3D, points2D, triangles, heights, notes, attributes, View, typeOf, typeColumns, dataColumns, dataRule, dataFault, directionOk, elementRule, countName, headerView, elementView, gridView, netView, viewAs, view}
 use Rattle.format.specs.Sheet as Sheet
 use Rattle.format.specs.Index as Index
 use Rattle.format.specs.Judge.{faultAt, openAfter, dueAfter, heldAfter}
@@ -21,7 +20,7 @@ use Rattle.format.proofs.Basics.{first-zero, zero-first}
 use Rattle.format.proofs.RecordHeaders.{start-two}
 use Rattle.format.proofs.JudgeWalks.{Good, good, good-faultAt}
 use Rattle.format.proofs.NormalColumns.{type-columns, data-columns}
-use Rattle.format.proofs.NormalRecords.{Table, normalised}
+use Rattle.format.proofs.NormalRecords.{normalised}
 use Rattle.format.proofs.NormalTables.{sheet-table, index-table, type-table, body-table, sheet-sound, index-sound, body-sound}
 use Rattle.format.proofs.NormalReads.{EachStill, numberAt-same, integerAt-same, sound-still, own-normal, normal-still}
 

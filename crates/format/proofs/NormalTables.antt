@@ -1,13 +1,13 @@
 -- The judged columns of any record lie end to end, none wider than 18 bytes, and a record that passes has no fault in them. Assumes nothing.
 use mathlib.Core.Path.{_≡_, refl, sym, _∙_}
-use mathlib.Core.Bool.{Bool, true, _&&_}
+use mathlib.Core.Bool.{Bool, true}
 use mathlib.Core.List.{List, [], _∷_}
 use Prim.Native.Nat.{ℕ, zero, suc, _*_, _<_}
 use native.Mathlib.Omega.{arith}
 use lib.Dec.{eqb}
 use borrow.Author.Tests.{eqb-true}
 use lib.ListN.{length, getD}
-use Rattle.format.specs.Basics.{first, unless}
+use Rattle.format.specs.Basics.{unless}
 use Rattle.format.specs.Text.{begins}
 use Rattle.format.specs.Layout.{Col, allFormed, allInside, columnFault, laid, every, layouts, widths-add-up, indexA, indexB, indexC, sheetA, sheetB, sheetC, sheetD, sheetE, sheetF, header, element, gridHeader, netHeader, data3D, data2D, dataNote, dataAttribute, dataGrid, dataNet}
 use Rattle.format.specs.Record.{RecordType, H, E1, E2, E3, E4, E5, E6, E7, E8, G, T, other, Data, nothing, points3D, points2D, triangles, heights, notes, attributes, typeOf, typeColumns, dataColumns, dataFault, usedIn, view}

@@ -42,7 +42,7 @@ module _ (M : Machine) where
     fine-as : fineFrom M p (take (partFrom M p rs) rs ++ X) ≡ true
     long : partFrom M p rs ≤ length rs
 
-  over-partLength : (p : M .Phase) (X : List (List ℕ)) → M .over p ≡ true → partFrom M p X ≡ 0
+  pub over-partLength : (p : M .Phase) (X : List (List ℕ)) → M .over p ≡ true → partFrom M p X ≡ 0
   over-partLength p [] e = refl
   over-partLength p (r ∷ X) e = rw e
 

@@ -12,7 +12,7 @@ use Rattle.format.specs.Text.{begins}
 use Rattle.format.specs.Basics.{first, unless, Fault, none, fault, orElse, toFault, chunks}
 use Rattle.format.specs.Column.{columnOf, written}
 use Rattle.format.specs.Layout.{What, text, blank, integral, integralOrSpaces, Col, bytesOf, spaces, columnFault, numberAt, sheetB, sheetD}
-use Rattle.format.specs.Record.{Data, nothing, View, view, isHeaderOrItem, typeOf, typeColumns, dataColumns, dataRule}
+use Rattle.format.specs.Record.{Data, nothing, view, isHeaderOrItem, typeOf, typeColumns, dataColumns, dataRule}
 use Rattle.format.specs.Part.{Machine}
 use Rattle.format.specs.Sheet as Sheet
 use Rattle.format.specs.Index as Index
