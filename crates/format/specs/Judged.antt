@@ -24,6 +24,7 @@ module _ (M : Machine) (columns : M .Phase → List Col) where
   partJudged p [] = []
   partJudged p (r ∷ rs) = cond (M .over p) [] (columns p ∷ partJudged (M .step p r) rs)
 
+-- of a header or an item where no data is due, else of a data record that has so many behind it
 abbrev pub columnsAt : (due : ℕ) → Data → List ℕ → List Col
 columnsAt zero held r = typeColumns (typeOf r)
 columnsAt (suc due) held r = dataColumns held due
@@ -86,13 +87,13 @@ abbrev pub EachColumn : List Col → (before after : List ℕ) → Type 0
 EachColumn [] before after = Unit {0}
 EachColumn (c ∷ cs) before after = ColumnNormal (c .what) (c .width) (bytesOf c before) (bytesOf c after) × EachColumn cs before after
 
--- byte i is in no integer column of these
 abbrev pub isInteger : What → Bool
 isInteger text = false
 isInteger blank = false
 isInteger (integral rule) = true
 isInteger integralOrSpaces = true
 
+-- byte i is in no integer column of these
 abbrev pub Outside : List Col → (i : ℕ) → Type 0
 Outside [] i = Unit {0}
 Outside (c ∷ cs) i = (isInteger (c .what) ≡ true → (i < c .start) ⊎ (c .start + c .width ≤ i)) × Outside cs i
