@@ -11,7 +11,7 @@ use Rattle.format.specs.Sheet as Sheet
 use Rattle.format.specs.Index as Index
 use Rattle.format.specs.Judge.{accepted, walk, fileOf, judgeRecords, judgeIndexRecords, judgeSheet, judgeIndex}
 use Rattle.format.specs.Normal.{normalSheet, normalIndex, normalSheetRecords, normalIndexRecords}
-use Rattle.format.specs.Judged.{sheetJudged, indexJudged, sheetWrongBy, indexWrongBy, partFaultBy, walkBy, NormalForm}
+use Rattle.format.specs.JudgedColumns.{sheetJudged, indexJudged, sheetWrongBy, indexWrongBy, partFaultBy, walkBy, NormalForm}
 use Rattle.format.proofs.NormalColumns.{sheet-wrong, index-wrong, part-fault, body-walk, sheet-behind}
 use Rattle.format.proofs.NormalFiles.{sheet-done, index-done}
 use Rattle.format.proofs.NormalAgain.{sheet-twice, index-twice}

@@ -12,7 +12,7 @@ use Rattle.format.specs.Basics.{Answer, given, refused, Outcome, chunks,
 use Rattle.format.specs.Layout.{Col}
 use Rattle.format.specs.Judge.{Counts, accepted, afterStageOne}
 use Rattle.format.specs.Normal.{normalTo}
-use Rattle.format.specs.Judged.{NormalForm}
+use Rattle.format.specs.JudgedColumns.{NormalForm}
 use Rattle.format.proofs.Basics.{and-true, true-and}
 use Rattle.format.proofs.Lists.{Wide, wide-chunks, length-flat, chunks-flat, length-chunks}
 use Rattle.format.proofs.NormalFiles.{Done, stage-passed}

@@ -12,7 +12,7 @@ use Rattle.format.specs.Part.{Machine, partFrom, partFault}
 use Rattle.format.specs.Sheet as Sheet
 use Rattle.format.specs.Index as Index
 use Rattle.format.specs.Judge.{faultAt, dueAfter, heldAfter, openAfter, ownerAfter, walk}
-use Rattle.format.specs.Judged.{partJudged, columnsAt, bodyJudged, sheetJudged, sheetWrongBy, indexWrongBy, partFaultBy, faultBy, walkBy}
+use Rattle.format.specs.JudgedColumns.{partJudged, columnsAt, bodyJudged, sheetJudged, sheetWrongBy, indexWrongBy, partFaultBy, faultBy, walkBy}
 
 -- ---- one record
 -- of a sheet part or an index

@@ -16,7 +16,7 @@ use Rattle.format.specs.Sheet as Sheet
 use Rattle.format.specs.Index as Index
 use Rattle.format.specs.Judge.{Counts, accepted, afterStageOne, afterPart, dueAfter, heldAfter, openAfter, judge, judgeRecords, judgeIndexRecords, fileOf}
 use Rattle.format.specs.Normal.{normalRecord, bodyColumns, normalBody, normalPart, normalStage, normalSheetRecords, normalIndexRecords}
-use Rattle.format.specs.Judged.{partJudged, columnsAt, bodyJudged, sheetJudged, indexJudged, Normalised}
+use Rattle.format.specs.JudgedColumns.{partJudged, columnsAt, bodyJudged, sheetJudged, indexJudged, Normalised}
 use Rattle.format.proofs.Basics.{unless-zero}
 use Rattle.format.proofs.Lists.{Wide, wide-take, wide-drop, wide-append}
 use Rattle.format.proofs.JudgeWalks.{Passes, orElse-none, toFault-none}

@@ -17,7 +17,7 @@ use Rattle.format.specs.Basics.{unless}
 use Rattle.format.specs.Column.{strip, valueOf, isNumber, negative, positive, signed, columnOf, formed, integer, numberOf, fits, written}
 use Rattle.format.specs.Layout.{What, text, blank, integral, integralOrSpaces, Col, column, splice, find, bytesOf, spaces, integerAt, numberAt, isFormed, isInside, allFormed, allInside, columnFault}
 use Rattle.format.specs.Normal.{normalBytes, normalRecord}
-use Rattle.format.specs.Judged.{InWrittenForm, ColumnNormal, EachColumn, isInteger}
+use Rattle.format.specs.JudgedColumns.{WrittenAnew, ColumnNormal, EachColumn, isInteger}
 use Rattle.format.proofs.Basics.{and-true, true-and, first-zero, zero-first, unless-zero, zero-unless}
 use Rattle.format.proofs.Columns.{strip-short, number-digits, digits-below, number-below, pow-up, length-column}
 use Rattle.format.proofs.ColumnFits.{fits-plus, fits-minus}
@@ -78,7 +78,7 @@ either-way : (t : Bool) (a b : List ℕ) → b ≡ a → cond t a b ≡ a
 either-way true a b e = refl
 either-way false a b e = e
 
-written-still : (w : ℕ) (before after : List ℕ) → length before ≡ w → w ≤ 18 → InWrittenForm w before after → (columnOf after ≡ columnOf before) × ((formed (columnOf after) ≡ true) × (written w (integer (columnOf after)) ≡ after))
+written-still : (w : ℕ) (before after : List ℕ) → length before ≡ w → w ≤ 18 → WrittenAnew w before after → (columnOf after ≡ columnOf before) × ((formed (columnOf after) ≡ true) × (written w (integer (columnOf after)) ≡ after))
 written-still w before after l h (z, (p, q)) = (own ∙ sym p, (ap formed own, ap (λ (c : Column). written w (integer c)) own ∙ sym q))
   where
     own : columnOf after ≡ Value z

@@ -15,7 +15,7 @@ use Rattle.format.specs.Basics.{unless}
 use Rattle.format.specs.Column.{columnOf, formed, integer, written}
 use Rattle.format.specs.Layout.{columnFault, What, text, blank, integral, integralOrSpaces, Col, column, splice, bytesOf, spaces, isFormed, allFormed, laid}
 use Rattle.format.specs.Normal.{normalBytes, normalRecord}
-use Rattle.format.specs.Judged.{InWrittenForm, ColumnNormal, EachColumn, isInteger, Outside, Normalised}
+use Rattle.format.specs.JudgedColumns.{WrittenAnew, ColumnNormal, EachColumn, isInteger, Outside, Normalised}
 use Rattle.format.proofs.Basics.{and-true, true-and, first-zero, unless-zero}
 use Rattle.format.proofs.Columns.{length-written, length-splice, column-own, column-before, column-behind, length-column}
 
@@ -67,10 +67,10 @@ pub no-table : Table []
 no-table = record { end = omega arith; narrow = refl }
 
 -- ---- one column
-in-written-form : (w : ℕ) (bs : List ℕ) → formed (columnOf bs) ≡ true → InWrittenForm w bs (written w (integer (columnOf bs)))
+in-written-form : (w : ℕ) (bs : List ℕ) → formed (columnOf bs) ≡ true → WrittenAnew w bs (written w (integer (columnOf bs)))
 in-written-form w bs e = at-column (columnOf bs) refl e
   where
-    at-column : (c : Column) → columnOf bs ≡ c → formed c ≡ true → InWrittenForm w bs (written w (integer c))
+    at-column : (c : Column) → columnOf bs ≡ c → formed c ≡ true → WrittenAnew w bs (written w (integer c))
     at-column (Value z) p q = (z, (p, refl))
     at-column MinusZero p q = absurd (false≢true q)
     at-column Malformed p q = absurd (false≢true q)
@@ -81,7 +81,7 @@ column-normal blank w bs e = refl
 column-normal (integral rule) w bs e = in-written-form w bs e
 column-normal integralOrSpaces w bs e = at-test (spaces bs) refl e
   where
-    at-test : (t : Bool) → spaces bs ≡ t → t || formed (columnOf bs) ≡ true → ((spaces bs ≡ true) × (cond t bs (written w (integer (columnOf bs))) ≡ bs)) ⊎ ((spaces bs ≡ false) × InWrittenForm w bs (cond t bs (written w (integer (columnOf bs)))))
+    at-test : (t : Bool) → spaces bs ≡ t → t || formed (columnOf bs) ≡ true → ((spaces bs ≡ true) × (cond t bs (written w (integer (columnOf bs))) ≡ bs)) ⊎ ((spaces bs ≡ false) × WrittenAnew w bs (cond t bs (written w (integer (columnOf bs)))))
     at-test true p q = inl (p, refl)
     at-test false p q = inr (p, in-written-form w bs q)
 

@@ -15,7 +15,7 @@ use Rattle.format.specs.Sheet as Sheet
 use Rattle.format.specs.Index as Index
 use Rattle.format.specs.Judge.{faultAt, openAfter, dueAfter, heldAfter}
 use Rattle.format.specs.Normal.{normalRecord}
-use Rattle.format.specs.Judged.{columnsAt, EachColumn}
+use Rattle.format.specs.JudgedColumns.{columnsAt, EachColumn}
 use Rattle.format.proofs.Basics.{first-zero, zero-first}
 use Rattle.format.proofs.RecordHeaders.{start-two}
 use Rattle.format.proofs.JudgeWalks.{Good, good, good-faultAt}

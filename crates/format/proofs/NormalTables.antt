@@ -14,7 +14,7 @@ use Rattle.format.specs.Record.{RecordType, H, E1, E2, E3, E4, E5, E6, E
 use Rattle.format.specs.Sheet as Sheet
 use Rattle.format.specs.Index as Index
 use Rattle.format.specs.Judge.{faultAt}
-use Rattle.format.specs.Judged.{columnsAt}
+use Rattle.format.specs.JudgedColumns.{columnsAt}
 use Rattle.format.proofs.Basics.{and-true, first-zero}
 use Rattle.format.proofs.JudgeWalks.{good}
 use Rattle.format.proofs.NormalColumns.{type-columns, data-columns}

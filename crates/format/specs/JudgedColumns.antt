@@ -74,14 +74,14 @@ walkBy judged opened due held owner number (r ∷ rs) =
 
 -- ---- The normal form: "the same file with every judged integer in written form; seven spaces in the value column stay"
 -- a column reads as a number, and is in written form of that number afterwards
-abbrev pub InWrittenForm : (width : ℕ) → (before after : List ℕ) → Type 0
-InWrittenForm width before after = (z : ℤ) × ((columnOf before ≡ Value z) × (after ≡ written width z))
+abbrev pub WrittenAnew : (width : ℕ) → (before after : List ℕ) → Type 0
+WrittenAnew width before after = (z : ℤ) × ((columnOf before ≡ Value z) × (after ≡ written width z))
 
 abbrev pub ColumnNormal : What → (width : ℕ) → (before after : List ℕ) → Type 0
 ColumnNormal text width before after = after ≡ before
 ColumnNormal blank width before after = after ≡ before
-ColumnNormal (integral rule) width before after = InWrittenForm width before after
-ColumnNormal integralOrSpaces width before after = ((spaces before ≡ true) × (after ≡ before)) ⊎ ((spaces before ≡ false) × InWrittenForm width before after)
+ColumnNormal (integral rule) width before after = WrittenAnew width before after
+ColumnNormal integralOrSpaces width before after = ((spaces before ≡ true) × (after ≡ before)) ⊎ ((spaces before ≡ false) × WrittenAnew width before after)
 
 abbrev pub EachColumn : List Col → (before after : List ℕ) → Type 0
 EachColumn [] before after = Unit {0}
