@@ -1,4 +1,4 @@
--- THE CLAIMS about the normal form, each in a line; what their words mean stands in specs/Judged.antt. Assumes nothing.
+-- THE CLAIMS about the normal form, each in a line; what their words mean stands in specs/JudgedColumns.antt. Assumes nothing.
 use mathlib.Core.Path.{_≡_, ap, sym, _∙_}
 use mathlib.Core.List.{List, [], _++_, append-nil}
 use Prim.Native.Nat.{ℕ, suc, _/_, _≤_, _<_}
