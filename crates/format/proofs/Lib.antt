@@ -35,8 +35,13 @@ pub mod NormalSteps
 pub mod NormalFiles
 pub mod NormalAgain
 pub mod NormalCalls
+pub mod ChecksOrder
+pub mod ChecksRecords
+pub mod ChecksEdits
+pub mod ChecksWayUp
 pub mod ClaimsColumns
 pub mod Claims
 pub mod ClaimsNested
 pub mod ClaimsAnswers
 pub mod ClaimsNormal
+pub mod ClaimsRefusals

@@ -133,12 +133,13 @@ module _ (L : Lawful) where
   run-held [] g k = k
   run-held (c ∷ cs) g k = run-held cs ((plain c g) .list) (plain-held c g k)
 
+  -- the sheet part and the body are all its records
+  pub records-of : (g : RecordList) → Held g → (fileOf (g .records)) .partLength + length ((fileOf (g .records)) .body) ≡ length (g .records)
+  records-of g k = rw (length-map (drop (partLength (g .records)) (g .records)) view, length-drop (partLength (g .records)) (g .records)) (omega (arith, L .inside (g .records) (k .sheet)))
+
   -- the numbers of an accepted sheet
   pub held-accepted : (g : RecordList) → Held g → judgeSheet ((bufferOf g) .used) ((bufferOf g) .bytes) ≡ accepted (length (g .records)) (statedElements (getD (g .records) 1 []))
-  held-accepted g k = held-judged g k ∙ ok-accepted (fileOf (g .records)) (k .ok) ∙ ap₂ accepted whole (sym (k .ok .statedElements))
-    where
-      whole : partLength (g .records) + length (map view (drop (partLength (g .records)) (g .records))) ≡ length (g .records)
-      whole = rw (length-map (drop (partLength (g .records)) (g .records)) view, length-drop (partLength (g .records)) (g .records)) (omega (arith, L .inside (g .records) (k .sheet)))
+  held-accepted g k = held-judged g k ∙ ok-accepted (fileOf (g .records)) (k .ok) ∙ ap₂ accepted (records-of g k) (sym (k .ok .statedElements))
 
   -- what holds of an accepted sheet
   pub sound : (b : Buffer) (n m : ℕ) → judgeSheet (b .used) (b .bytes) ≡ accepted n m → Sound b
@@ -158,7 +159,7 @@ module _ (L : Lawful) where
       accepts = sym (ap (λ (x : Buffer). judgeSheet (x .used) (x .bytes)) (o .same)) ∙ held-accepted (listOf b) (o .held) ∙ ap (λ (x : ℕ). accepted x (elementCount b)) count
 
       whole : (sheetOf b) .partLength + length ((sheetOf b) .body) ≡ b .used / 84
-      whole = rw (length-map (drop (partLength ((listOf b) .records)) ((listOf b) .records)) view, length-drop (partLength ((listOf b) .records)) ((listOf b) .records)) (omega (arith, count, L .inside ((listOf b) .records) (o .held .sheet)))
+      whole = records-of (listOf b) (o .held) ∙ count
 
       ways : (number : ℕ) → (sheetOf b) .partLength < number → number ≤ b .used / 84 → WayAnswered (sheetOf b) number (up (b .used) (b .bytes) number)
       ways number l u = rw e (way-up (sheetOf b) number (o .held .ok .walks .0) l (omega (arith, whole)))
