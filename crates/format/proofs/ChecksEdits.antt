@@ -1,22 +1,22 @@
 -- The order of 11 to 15, of an accepted sheet. Assumes nothing.
 use mathlib.Core.Path.{_≡_, refl, ap, sym, _∙_}
-use mathlib.Core.Logic.{_⊎_, inl, inr, _↔_, _≢_}
+use mathlib.Core.Logic.{_⊎_, inl, inr, _≢_}
 use mathlib.Core.Bool.{Bool, true, false, cond, not, _&&_, _||_, false≢true}
 use mathlib.Core.List.{List, [], _∷_, _++_, map}
 use Prim.Native.Nat.{ℕ, zero, suc, pred, _+_, _-_, _*_, _/_, _%_, _≤_, _<_}
 use native.Mathlib.Omega.{arith}
 use lib.Dec.{leb, ltb, eqb}
-use lib.ListN.{length, length-append, length-map, length-drop, take, drop, getD, take-append-drop, drop-of-length-le}
+use lib.ListN.{length, length-append, length-map, take, drop, getD, take-append-drop, drop-of-length-le}
 use lib.Seq.{take-append-seam, getD-append-seam, length-take-le, drop-cons, take-all}
-use borrow.Author.Tests.{leb-true, leb-false, le-leb, lt-leb, ltb-true, ltb-false, lt-ltb, le-ltb, eqb-true, eqb-false, eq-eqb, ne-eqb, not-true}
-use Rattle.format.specs.Basics.{fine, flat, Answer, given, refused, first, unless, chunks}
-use Rattle.format.specs.Record.{RecordType, H, E1, E2, E3, E4, E5, E6, E7, E8, G, T, other, typeOf, Kind, head, item, neither, kindOf, isHead, countIndex, Data, nothing, View, view, viewAs, headerView, elementView, gridView, netView, otherView}
-use Rattle.format.specs.Judge.{File, fileOf, headersAndItems, openOf, openAfter, dueAfter, dueOf, heldAfter, faultAt, walk, accepted, judgeSheet}
-use Rattle.format.specs.Edit.{Edit, insert, remove, RecordList, PlainStep, absent, dueBehind, openBehind, aboveIn, bodyPlace, blockOf, conclude, plain, insert11, fault12, notBelow, isBlock, insert13, insert14, insert15, insertFault, remove11, before, after, aboveBlock}
+use borrow.Author.Tests.{leb-true, leb-false, le-leb, ltb-true, ltb-false, lt-ltb, eqb-true, eq-eqb, not-true}
+use Rattle.format.specs.Basics.{fine, flat, unless, chunks}
+use Rattle.format.specs.Record.{RecordType, H, E1, E2, E3, E4, E5, E6, E7, E8, G, T, other, typeOf, kindOf, isHead, countIndex, Data, nothing, View, view, viewAs, headerView, elementView, gridView, netView, otherView}
+use Rattle.format.specs.Judge.{File, headersAndItems, openOf, openAfter, dueAfter, faultAt, walk, accepted, judgeSheet}
+use Rattle.format.specs.Edit.{Edit, insert, remove, RecordList, absent, dueBehind, openBehind, aboveIn, bodyPlace, blockOf, conclude, plain, fault12, notBelow, isBlock, insertFault, remove11, before, aboveBlock}
 use Rattle.format.specs.Above.{HeaderAbove}
 use Rattle.format.specs.Run.{Buffer, call, listOf, sheetOf}
-use Rattle.format.specs.Checks.{Check, FirstOf, AnswersFirst, StartsAt, OneItem, OpenLevel, beforeFirst, behindHeader, behindItem, inOrder, headerOrItemFaults, dataFaults, editChecks, beforePlace, NoPlace, LevelWrong, TooMany, TooShort}
-use Rattle.format.proofs.Basics.{and-true, true-and, unless-zero, zero-unless}
+use Rattle.format.specs.Checks.{Check, FirstOf, AnswersFirst, StartsAt, OneItem, OpenLevel, beforeFirst, behindHeader, behindItem, inOrder, headerOrItemFaults, dataFaults, editChecks, beforePlace, LevelWrong, TooMany, TooShort}
+use Rattle.format.proofs.Basics.{and-true, true-and}
 use Rattle.format.proofs.JudgeWalks.{Passes, Walks, good, passes-split, walk-passes, passes-walk}
 use Rattle.format.proofs.Lists.{length-chunks, length-flat}
 use Rattle.format.proofs.Above.{find-in}
@@ -25,7 +25,7 @@ use Rattle.format.proofs.SheetCounts.{theLaws}
 use Rattle.format.proofs.Run.{Opened, accepted-opened, records-of}
 use Rattle.format.proofs.EditItems.{item-dataRecords, item-low, dueBehind-data}
 use Rattle.format.proofs.EditInsert.{fine-none, above-is}
-use Rattle.format.proofs.ChecksOrder.{one-first, exactly-first, Says, Decides, decides-by, decides-says, surely, says-map, says-and, says-leb, check-first, check-end, values-first, refusal-first}
+use Rattle.format.proofs.ChecksOrder.{exactly-first, Says, Decides, decides-by, decides-says, surely, says-map, says-and, says-leb, check-first, check-end, values-first, refusal-first}
 use Rattle.format.proofs.ChecksRecords.{due-first, data-first}
 
 -- ---- 11

@@ -1,13 +1,13 @@
 -- Checks in order: the first that applies is one, and what tests say of it. Assumes nothing.
 use mathlib.Core.Path.{_≡_, refl, sym, _∙_}
-use mathlib.Core.Logic.{_⊎_, inl, inr, _↔_}
+use mathlib.Core.Logic.{_⊎_, inl, inr, _↔_, _≢_}
 use mathlib.Core.Bool.{Bool, true, false, _&&_, _||_, false≢true}
 use mathlib.Core.List.{List, [], _∷_}
-use Prim.Native.Nat.{ℕ, zero, suc, _≤_, _<_}
+use Prim.Native.Nat.{ℕ, suc, _≤_, _<_}
 use native.Mathlib.Omega.{arith}
 use lib.Dec.{leb, eqb}
 use borrow.Author.Tests.{leb-true, leb-false, eqb-true, eqb-false}
-use Rattle.format.specs.Basics.{Answer, given, refused, first, unless}
+use Rattle.format.specs.Basics.{given, refused, first, unless}
 use Rattle.format.specs.Checks.{Check, FirstOf, AnswersFirst}
 
 -- ---- Checks in order: there is only one first
@@ -22,6 +22,17 @@ one-first (c ∷ cs) n m (inr a) (inr b) = one-first cs n m (a .1) (b .1)
 -- so a number that is the first is so exactly
 pub exactly-first : (cs : List Check) (v n : ℕ) → FirstOf cs v → (v ≡ n) ↔ FirstOf cs n
 exactly-first cs v n f = (λ e. rw e at f, λ g. one-first cs v n f g)
+
+-- what holds of 0 and of every number of the checks holds of the first
+abbrev pub Each : (ℕ → Type 0) → List Check → Type 0
+Each P [] = Unit {0}
+Each P (c ∷ cs) = P (c .number) × Each P cs
+
+pub first-is : (P : ℕ → Type 0) (cs : List Check) (n : ℕ) → P 0 → Each P cs → FirstOf cs n → P n
+unfolding FirstOf
+first-is P [] n z e f = rw f z
+first-is P (c ∷ cs) n z e (inl f) = rw (f .1) (e .0)
+first-is P (c ∷ cs) n z e (inr f) = first-is P cs n z (e .1) (f .1)
 
 -- a test says whether a sentence applies
 pub record Says (test : Bool) (P : Type 0) : Type 0 where
@@ -102,6 +113,9 @@ decides-eqb a b = record { yes = eqb-true a b; no = eqb-false a b }
 
 pub decides-leb : (a b : ℕ) → Decides (leb a b) (a ≤ b)
 decides-leb a b = record { yes = leb-true a b; no = λ e l. omega (arith, leb-false a b e) }
+
+pub says-eqb : (a b : ℕ) → Says (eqb a b) (a ≢ b)
+says-eqb a b = record { yes = eqb-false a b; no = λ e n. n (eqb-true a b e) }
 
 pub says-leb : (a b : ℕ) → Says (leb a b) (b < a)
 says-leb a b = record { yes = leb-false a b; no = λ e l. omega (arith, leb-true a b e) }

@@ -1,26 +1,26 @@
 -- The checks of one record of the body: the number that judging finds is the first that applies. Assumes nothing.
 use mathlib.Core.Path.{_≡_, refl, ap, sym, _∙_}
-use mathlib.Core.Logic.{_⊎_, inl, inr, _↔_, _≢_}
-use mathlib.Core.Bool.{Bool, true, false, cond, _&&_, _||_, false≢true}
+use mathlib.Core.Logic.{inl, inr, _≢_}
+use mathlib.Core.Bool.{Bool, true, false, cond, _&&_, false≢true}
 use mathlib.Core.List.{List, [], _∷_}
-use Prim.Native.Nat.{ℕ, zero, suc, _+_, _-_, _*_, _/_, _%_, _≤_, _<_}
+use Prim.Native.Nat.{ℕ, zero, suc, _+_, _-_, _*_, _%_, _≤_, _<_}
 use native.Mathlib.Omega.{arith}
 use native.Mathlib.Nat.{mod-add-div, mod-lt, div-eq-of-lt-le, mul-comm, mul-add}
-use lib.Dec.{leb, ltb, eqb}
+use lib.Dec.{leb, eqb}
 use lib.IntN.{ℤ, pos, negsuc, natAbs}
 use lib.Signed.{leZ, _≤ℤ_, leZ-yes}
 use lib.ListN.{length, replicate}
-use borrow.Author.Tests.{leb-true, leb-false, le-leb, lt-leb, eqb-true, eqb-false, eq-eqb, ne-eqb}
+use borrow.Author.Tests.{leb-true, leb-false, eqb-true, eqb-false, eq-eqb}
 use Rattle.format.specs.Basics.{member, roundUp, minus, first, unless}
 use Rattle.format.specs.Column.{columnOf, formed, integer, size}
 use Rattle.format.specs.declared.Column.{Column}
 use Rattle.format.specs.declared.Column.the-variants.{Value, MinusZero, Malformed}
 use Rattle.format.specs.Layout.{Rule, anySign, atLeast, range, within, oneOf, inside, isOne, spaces, What, text, blank, integral, integralOrSpaces, Col, column, find, integerAt, numberAt, dataNote, element, gridHeader, netHeader, header, bytesOf, isFormed, isInside, allFormed, allInside, columnFault}
-use Rattle.format.specs.Record.{RecordType, H, E1, E2, E3, E4, E5, E6, E7, E8, G, T, other, typeOf, Kind, head, item, neither, kindOf, View, view, viewAs, kindAndCount, elementRecords, elementRule, isHeaderOrItem, headerView, elementView, gridView, netView, otherView, gridStates, gridNeeds, netNeeds, Data, nothing, points3D, points2D, triangles, heights, notes, attributes, dataColumns, dataRule, dataFault, directionOk, asData}
-use Rattle.format.specs.Judge.{lowestLevel, highestLevel, levelOk, faultAt}
+use Rattle.format.specs.Record.{RecordType, H, E1, E2, E3, E4, E5, E6, E7, E8, G, T, other, typeOf, Kind, head, item, neither, kindOf, view, viewAs, kindAndCount, elementRecords, elementRule, isHeaderOrItem, headerView, elementView, gridView, netView, otherView, gridStates, gridNeeds, netNeeds, Data, nothing, points3D, points2D, triangles, heights, notes, attributes, dataColumns, dataRule, dataFault, directionOk}
+use Rattle.format.specs.Judge.{lowestLevel, highestLevel, faultAt}
 use Rattle.format.proofs.Basics.{and-true, true-and}
-use Rattle.format.proofs.ChecksOrder.{one-first, exactly-first, Says, Decides, check-first, check-never, decides-says, surely, says-never, says-map, says-and, says-still, says-then, says-or, says-leb, always, decides-and, decides-or, decides-map, decides-eqb, decides-leb}
-use Rattle.format.specs.Checks.{Check, FirstOf, Some, Faults, inOrder, NoInteger, MalformedAs, Inside, OutsideAs, Outside, OneOf, Coordinates, lowest, highest, LevelBroken, RoundedUp, KindAndCount, Records, ElementKept, DataRuleKept, faultsAs, headerOrItemFaults, DirectionKept, NoteWrong, dataFaults}
+use Rattle.format.proofs.ChecksOrder.{Says, Decides, check-first, check-never, decides-says, surely, says-never, says-and, says-still, says-then, says-or, says-leb, always, decides-and, decides-or, decides-map, decides-eqb, decides-leb}
+use Rattle.format.specs.Checks.{Check, FirstOf, Some, inOrder, MalformedAs, Inside, OutsideAs, Outside, OneOf, Coordinates, LevelBroken, RoundedUp, KindAndCount, Records, ElementKept, faultsAs, headerOrItemFaults, DirectionKept, NoteWrong, dataFaults}
 use Rattle.format.specs.Checks.{Malformed as MalformedIn}
 
 -- ---- 5: columns that are malformed
@@ -218,7 +218,7 @@ unfolding view
 due-first opened held r = as-first opened r held (typeOf r)
 
 -- ---- A data record, 2 to 9 in order
-first-none : (a : ℕ) → first a 0 ≡ a
+pub first-none : (a : ℕ) → first a 0 ≡ a
 first-none zero = refl
 first-none (suc a) = refl
 

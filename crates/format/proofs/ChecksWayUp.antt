@@ -1,17 +1,15 @@
 -- 17, of an accepted sheet. Assumes nothing.
-use mathlib.Core.Path.{_≡_, refl}
+use mathlib.Core.Path.{_≡_}
 use mathlib.Core.Logic.{_⊎_, inl, inr}
 use mathlib.Core.Bool.{Bool, true, false, cond, _&&_}
-use mathlib.Core.List.{List, [], _∷_}
-use Prim.Native.Nat.{ℕ, suc, _+_, _/_, _≤_, _<_}
+use mathlib.Core.List.{List}
+use Prim.Native.Nat.{ℕ, suc, _/_, _≤_}
 use native.Mathlib.Omega.{arith}
 use lib.Dec.{leb, ltb}
-use lib.ListN.{length}
 use borrow.Author.Tests.{ltb-true, ltb-false}
-use Rattle.format.specs.Basics.{Answer, given, refused, unless, chunks}
-use Rattle.format.specs.Record.{nothing}
-use Rattle.format.specs.Judge.{File, fileOf, accepted, judgeSheet}
-use Rattle.format.specs.Above.{Way, wayFrom, up}
+use Rattle.format.specs.Basics.{given, refused, unless}
+use Rattle.format.specs.Judge.{accepted, judgeSheet}
+use Rattle.format.specs.Above.{wayFrom, up}
 use Rattle.format.specs.Run.{Buffer, sheetOf}
 use Rattle.format.specs.Checks.{Check, FirstOf, AnswersFirst, wayUpChecks}
 use Rattle.format.proofs.ChecksOrder.{Says, says-and, says-leb, says-map, check-end, values-first, refusal-first}

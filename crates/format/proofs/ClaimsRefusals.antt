@@ -1,19 +1,79 @@
--- THE CLAIMS about refusals: which number, at which record, of every call that judges; the words are those of specs/Checks.antt. Assumes nothing.
+-- THE CLAIMS about refusals: which number at which record, of every call that judges a file. The words are those of specs/Checks.antt; the
+-- other files that start with Checks are the proofs. Assumes nothing.
 use mathlib.Core.Path.{_≡_, refl}
-use mathlib.Core.Logic.{_↔_}
+use mathlib.Core.Logic.{_↔_, inl, inr}
 use mathlib.Core.List.{List}
-use Prim.Native.Nat.{ℕ, suc}
-use Rattle.format.specs.Basics.{refused}
-use Rattle.format.specs.Record.{Data, nothing, view}
-use Rattle.format.specs.Judge.{faultAt, accepted, judgeSheet}
+use Prim.Native.Nat.{ℕ, _/_}
+use native.Mathlib.Omega.{arith}
+use Rattle.format.specs.Basics.{refused, chunks}
+use Rattle.format.specs.Index.{due-a as index-a}
+use Rattle.format.specs.Sheet.{due-a as sheet-a}
+use Rattle.format.specs.Judge.{fileOf, headersAndItems, items, accepted, judgeSheet, judgeIndex}
 use Rattle.format.specs.Edit.{Edit}
 use Rattle.format.specs.Above.{up}
-use Rattle.format.specs.Run.{Buffer, Step, call}
-use Rattle.format.specs.Checks.{FirstOf, AnswersFirst, inOrder, headerOrItemFaults, dataFaults, editChecks, wayUpChecks}
-use Rattle.format.proofs.ChecksOrder.{exactly-first}
-use Rattle.format.proofs.ChecksRecords.{due-first, data-first}
+use Rattle.format.specs.Run.{Buffer, call}
+use Rattle.format.specs.Checks.{AnswersFirst, editChecks, wayUpChecks, StageOneFails, StageTwo, IndexStageTwo, Ten, LeftOver, AllPass, Missing, sheetWalk, indexWalk, ofPart, SheetRefusal, IndexRefusal, stageOne, stageTwo, stageThree}
+use Rattle.format.proofs.ChecksJudging.{sheet-refused, sheet-accepted, fault-number}
+use Rattle.format.proofs.ChecksIndex.{index-refused, index-accepted}
 use Rattle.format.proofs.ChecksEdits.{edit-first}
 use Rattle.format.proofs.ChecksWayUp.{way-up-first}
+
+-- ---- Judging
+-- "Three stages; the first failing stage answers": a sheet is refused with this number at this record exactly when its sentence applies there and
+-- none applies before it
+pub sheets-in-order : (used : ℕ) (buffer : List ℕ) (number at : ℕ) → judgeSheet used buffer ≡ refused number at ↔ SheetRefusal used buffer number at
+sheets-in-order = sheet-refused
+
+-- accepted exactly when none applies: "returns record and item counts"
+pub sheets-accepted : (used : ℕ) (buffer : List ℕ) (n m : ℕ) → judgeSheet used buffer ≡ accepted n m ↔ (((number at : ℕ) → SheetRefusal used buffer number at → ⊥) × (n ≡ used / 84) × (m ≡ items (headersAndItems 0 ((fileOf (chunks (used / 84) buffer)) .body))))
+sheets-accepted = sheet-accepted
+
+-- the same of an index: "items 0 for an index"
+pub indexes-in-order : (used : ℕ) (buffer : List ℕ) (number at : ℕ) → judgeIndex used buffer ≡ refused number at ↔ IndexRefusal used buffer number at
+indexes-in-order = index-refused
+
+pub indexes-accepted : (used : ℕ) (buffer : List ℕ) (n m : ℕ) → judgeIndex used buffer ≡ accepted n m ↔ (((number at : ℕ) → IndexRefusal used buffer number at → ⊥) × (n ≡ used / 84) × (m ≡ 0))
+indexes-accepted = index-accepted
+
+-- 1 is given "exactly when" stage one fails, at record 0: no later stage answers 1
+pub one-exactly : (used : ℕ) (buffer : List ℕ) (at : ℕ) → judgeSheet used buffer ≡ refused 1 at ↔ (StageOneFails used buffer × (at ≡ 0))
+one-exactly used buffer at = (λ e. there ((sheet-refused used buffer 1 at) .0 e), λ h. (sheet-refused used buffer 1 at) .1 (stageOne (h .0) refl (h .1)))
+  where
+    there : SheetRefusal used buffer 1 at → StageOneFails used buffer × (at ≡ 0)
+    there (stageOne x a b) = (x, b)
+    there (stageTwo x (inl f)) = absurd (omega (arith, (fault-number sheetWalk (ofPart sheet-a) 1 (chunks (used / 84) buffer) 1 at f) .0))
+    there (stageTwo x (inr y)) = absurd (omega (arith, y .0))
+    there (stageThree x y a t) = absurd (omega arith)
+
+-- 3 exactly when every record that is there passes and one is missing
+pub three-exactly : (used : ℕ) (buffer : List ℕ) (at : ℕ) → judgeSheet used buffer ≡ refused 3 at ↔ ((StageOneFails used buffer → ⊥) × AllPass sheetWalk (ofPart sheet-a) (chunks (used / 84) buffer) × Missing (chunks (used / 84) buffer) at)
+three-exactly used buffer at = (λ e. there ((sheet-refused used buffer 3 at) .0 e), λ h. (sheet-refused used buffer 3 at) .1 (stageTwo (h .0) (inr (refl, h .1, h .2))))
+  where
+    there : SheetRefusal used buffer 3 at → (StageOneFails used buffer → ⊥) × AllPass sheetWalk (ofPart sheet-a) (chunks (used / 84) buffer) × Missing (chunks (used / 84) buffer) at
+    there (stageOne x a b) = absurd (omega arith)
+    there (stageTwo x (inl f)) = absurd ((fault-number sheetWalk (ofPart sheet-a) 1 (chunks (used / 84) buffer) 3 at f) .2 refl)
+    there (stageTwo x (inr y)) = (x, y .1, y .2)
+    there (stageThree x y a t) = absurd (omega arith)
+
+-- 10 exactly when stages one and two pass and a count differs: record 2 before the first header
+pub ten-exactly : (used : ℕ) (buffer : List ℕ) (at : ℕ) → judgeSheet used buffer ≡ refused 10 at ↔ ((StageOneFails used buffer → ⊥) × ((n k : ℕ) → StageTwo (chunks (used / 84) buffer) n k → ⊥) × Ten (fileOf (chunks (used / 84) buffer)) at)
+ten-exactly used buffer at = (λ e. there ((sheet-refused used buffer 10 at) .0 e), λ h. (sheet-refused used buffer 10 at) .1 (stageThree (h .0) (h .1) refl (h .2)))
+  where
+    there : SheetRefusal used buffer 10 at → (StageOneFails used buffer → ⊥) × ((n k : ℕ) → StageTwo (chunks (used / 84) buffer) n k → ⊥) × Ten (fileOf (chunks (used / 84) buffer)) at
+    there (stageOne x a b) = absurd (omega arith)
+    there (stageTwo x (inl f)) = absurd (omega (arith, (fault-number sheetWalk (ofPart sheet-a) 1 (chunks (used / 84) buffer) 10 at f) .1))
+    there (stageTwo x (inr y)) = absurd (omega (arith, y .0))
+    there (stageThree x y a t) = (x, y, t)
+
+-- of an index, at record 1, exactly when records are left over
+pub left-over-exactly : (used : ℕ) (buffer : List ℕ) (at : ℕ) → judgeIndex used buffer ≡ refused 10 at ↔ ((StageOneFails used buffer → ⊥) × ((n k : ℕ) → IndexStageTwo (chunks (used / 84) buffer) n k → ⊥) × LeftOver index-a (chunks (used / 84) buffer) × (at ≡ 1))
+left-over-exactly used buffer at = (λ e. there ((index-refused used buffer 10 at) .0 e), λ h. (index-refused used buffer 10 at) .1 (stageThree (h .0) (h .1) refl (h .2, h .3)))
+  where
+    there : IndexRefusal used buffer 10 at → (StageOneFails used buffer → ⊥) × ((n k : ℕ) → IndexStageTwo (chunks (used / 84) buffer) n k → ⊥) × LeftOver index-a (chunks (used / 84) buffer) × (at ≡ 1)
+    there (stageOne x a b) = absurd (omega arith)
+    there (stageTwo x (inl f)) = absurd (omega (arith, (fault-number indexWalk index-a 1 (chunks (used / 84) buffer) 10 at f) .1))
+    there (stageTwo x (inr y)) = absurd (omega (arith, y .0))
+    there (stageThree x y a t) = (x, y, t .0, t .1)
 
 -- ---- Edits
 -- "Insertion and removal judge the file first (1 to 10)": a sheet that judging refuses is refused so, and the buffer stays
@@ -21,23 +81,17 @@ pub edits-judge-first : (edit : Edit) (b : Buffer) (number at : ℕ) → judgeSh
 unfolding call
 edits-judge-first edit b number at e = rw e
 
--- "then 11 to 15 in order": of an accepted sheet the first that applies, at record 0, and exactly where none applies the new used length
+-- "then 11 to 15 in order": of an accepted sheet the first that applies, at record 0, and exactly where none applies the new used length. To a
+-- removal only 11 ever does
 pub edits-in-order : (edit : Edit) (b : Buffer) (n m : ℕ) → judgeSheet (b .used) (b .bytes) ≡ accepted n m → AnswersFirst (editChecks edit b) ((call edit b) .reply)
 edits-in-order edit b n m e = edit-first b n m e edit
 
 -- ---- The way up
 -- "The way up judges the sheet first (1 to 10)"
-pub way-up-judges-first : (used : ℕ) (buffer : List ℕ) (at number place : ℕ) → judgeSheet used buffer ≡ refused number place → up used buffer at ≡ refused number place
+pub way-up-judges-first : (used : ℕ) (buffer : List ℕ) (number at record-number : ℕ) → judgeSheet used buffer ≡ refused number at → up used buffer record-number ≡ refused number at
 unfolding up
-way-up-judges-first used buffer at number place e = rw e
+way-up-judges-first used buffer number at record-number e = rw e
 
 -- "then 17"
 pub way-up-in-order : (b : Buffer) (n m : ℕ) → judgeSheet (b .used) (b .bytes) ≡ accepted n m → (number : ℕ) → AnswersFirst (wayUpChecks (b .used) (b .bytes) number) (up (b .used) (b .bytes) number)
 way-up-in-order = way-up-first
-
--- ---- Judging: a record of the body when it is reached
-pub header-or-item-checked : (opened : ℕ) (held : Data) (r : List ℕ) (n : ℕ) → faultAt opened 0 held (view r) ≡ n ↔ FirstOf (inOrder (headerOrItemFaults opened r)) n
-header-or-item-checked opened held r n = exactly-first _ _ n (due-first opened held r)
-
-pub data-checked : (opened due : ℕ) (held : Data) (r : List ℕ) (n : ℕ) → faultAt opened (suc due) held (view r) ≡ n ↔ FirstOf (inOrder (dataFaults held due r)) n
-data-checked opened due held r n = exactly-first _ _ n (data-first opened due held r)

@@ -36,9 +36,15 @@ pub mod NormalFiles
 pub mod NormalAgain
 pub mod NormalCalls
 pub mod ChecksOrder
+pub mod ChecksStages
 pub mod ChecksRecords
+pub mod ChecksParts
+pub mod ChecksWalks
 pub mod ChecksEdits
 pub mod ChecksWayUp
+pub mod ChecksCounts
+pub mod ChecksJudging
+pub mod ChecksIndex
 pub mod ClaimsColumns
 pub mod Claims
 pub mod ClaimsNested

@@ -4,16 +4,21 @@ use mathlib.Core.Path.{_≡_}
 use mathlib.Core.Logic.{_⊎_, _≢_, _↔_}
 use mathlib.Core.Bool.{true, false}
 use mathlib.Core.List.{List, [], _∷_, _++_}
-use Prim.Native.Nat.{ℕ, suc, _+_, _-_, _*_, _/_, _%_, _≤_, _<_}
+use Prim.Native.Nat.{ℕ, zero, suc, _+_, _-_, _*_, _/_, _%_, _≤_, _<_}
+use Prim.Native.String.{String}
 use lib.IntN.{ℤ, pos, natAbs}
-use lib.Signed.{_≤ℤ_}
+use lib.Signed.{_≤ℤ_, _<ℤ_}
 use lib.ListN.{length, take, replicate}
+use Rattle.format.specs.Text.{bytes}
 use Rattle.format.specs.Basics.{minus, Answer, given, refused, chunks}
 use Rattle.format.specs.Column.{columnOf}
 use Rattle.format.specs.declared.Column.the-variants.{Value}
-use Rattle.format.specs.Layout.{Rule, anySign, atLeast, range, within, oneOf, What, text, blank, integral, integralOrSpaces, Col, bytesOf, integerAt, numberAt, element, gridHeader, netHeader, dataNote}
+use Rattle.format.specs.Layout.{Rule, anySign, atLeast, range, within, oneOf, What, text, blank, integral, integralOrSpaces, Col, bytesOf, integerAt, numberAt, element, gridHeader, netHeader, dataNote, sheetA, sheetB, sheetC, sheetD, sheetE, sheetF, indexA, indexB, indexC}
 use Rattle.format.specs.Record.{RecordType, H, E1, E2, E3, E4, E5, E6, E7, E8, G, T, other, typeOf, Kind, head, item, neither, kindOf, typeColumns, Data, nothing, points3D, points2D, triangles, heights, notes, attributes, dataColumns, isHead, View, view}
-use Rattle.format.specs.Judge.{headersAndItems, items, sum, File, fileOf}
+use Rattle.format.specs.Sheet.{Phase, due-a, due-b, due-c, due-d, due-e, due-f, body, after, unitOf, fractionsOf}
+use Rattle.format.specs.Index as Index
+use Rattle.format.specs.Index.{Stage}
+use Rattle.format.specs.Judge.{dueOf, openOf, headersAndItems, items, sum, File, fileOf}
 use Rattle.format.specs.Edit.{Edit, insert, remove, dueBehind, bodyPlace}
 use Rattle.format.specs.Above.{HeaderAbove, countWithAbove}
 use Rattle.format.specs.Run.{Buffer, sheetOf}
@@ -183,6 +188,18 @@ faultsAs opened type r = record {
 abbrev pub headerOrItemFaults : (opened : ℕ) → List ℕ → Faults
 headerOrItemFaults opened r = faultsAs opened (typeOf r) r
 
+-- ---- A record that is judged by its columns, with what else is 2, 6 or 9 of it
+abbrev pub columnFaults : (unasked : Type 0) → List Col → (alsoOutside fraction : Type 0) → List ℕ → Faults
+columnFaults unasked layout alsoOutside fraction r = record {
+  unasked = unasked;
+  notDue = ⊥;
+  malformed = Malformed layout r;
+  outside = Outside layout r ⊎ alsoOutside;
+  level = ⊥;
+  dataRule = ⊥;
+  fraction = fraction;
+}
+
 -- ---- A data record, by what its item's data records hold and how many of them stand behind this one
 -- "A note direction is -45..45 when the first column is 0, -135..-45 when it is 1"
 abbrev pub DirectionKept : List ℕ → Type 0
@@ -200,15 +217,44 @@ NoteWrong notes r = DirectionKept r → ⊥
 NoteWrong attributes r = ⊥
 
 abbrev pub dataFaults : Data → (behind : ℕ) → List ℕ → Faults
-dataFaults held behind r = record {
-  unasked = ⊥;
-  notDue = ⊥;
-  malformed = Malformed (dataColumns held behind) r;
-  outside = Outside (dataColumns held behind) r ⊎ NoteWrong held r;
-  level = ⊥;
-  dataRule = ⊥;
-  fraction = ⊥;
-}
+dataFaults held behind r = columnFaults ⊥ (dataColumns held behind) (NoteWrong held r) ⊥ r
+
+-- ---- Records of the sheet part
+-- record 1 starts with this type
+abbrev pub Starts : String → List ℕ → Type 0
+Starts type r = take 2 r ≡ bytes type
+
+-- "f records: 0, or courses divided by 3 rounded up"
+abbrev pub FCountKept : (courses fs : ℕ) → Type 0
+FCountKept courses fs = (fs ≡ 0) ⊎ RoundedUp courses 3 fs
+
+-- "The fraction is in mm for unit 1, at most 999 in size; otherwise in cm, at most 99. Whole and fraction never have opposite signs"
+abbrev pub FractionWrong : (unit : ℕ) → (whole fraction : ℤ) → Type 0
+FractionWrong unit whole fraction =
+    (((unit ≡ 1) × (999 < natAbs fraction)) ⊎ ((unit ≢ 1) × (99 < natAbs fraction)))
+    ⊎ (((whole <ℤ pos 0) × (pos 0 <ℤ fraction)) ⊎ ((pos 0 <ℤ whole) × (fraction <ℤ pos 0)))
+
+-- of one of the eight, "corners in the order of b"
+abbrev pub SomeFractionWrong : (unit : ℕ) → (wholes fractions : List ℤ) → Type 0
+SomeFractionWrong unit [] fractions = ⊥
+SomeFractionWrong unit (w ∷ ws) [] = ⊥
+SomeFractionWrong unit (w ∷ ws) (f ∷ fs) = FractionWrong unit w f ⊎ SomeFractionWrong unit ws fs
+
+abbrev pub partFaults : Phase → List ℕ → Faults
+partFaults due-a r = columnFaults (Starts "M " r → ⊥) sheetA ⊥ ⊥ r
+partFaults (due-b level more) r = columnFaults ⊥ sheetB (numberAt sheetB "unit" r ≢ unitOf level) ⊥ r
+partFaults (due-c unit wholes more) r = columnFaults ⊥ sheetC ⊥ ⊥ r
+partFaults (due-d unit wholes more) r = columnFaults ⊥ sheetD (FCountKept (numberAt sheetD "courses" r) (numberAt sheetD "f records" r) → ⊥) ⊥ r
+partFaults (due-e unit wholes more fs) r = columnFaults ⊥ sheetE ⊥ (SomeFractionWrong unit wholes (fractionsOf r)) r
+partFaults (due-f unit wholes more fs) r = columnFaults ⊥ sheetF ⊥ ⊥ r
+partFaults body r = columnFaults ⊥ [] ⊥ ⊥ r
+
+-- ---- Records of an index: "b count not sheets / 10 rounded up". Where nothing is due, nothing is judged
+abbrev pub indexFaults : Stage → List ℕ → Faults
+indexFaults Index.due-a r = columnFaults (Starts "I " r → ⊥) indexA (RoundedUp (numberAt indexA "sheets" r) 10 (numberAt indexA "b records" r) → ⊥) ⊥ r
+indexFaults (Index.due-b bs cs) r = columnFaults ⊥ indexB ⊥ ⊥ r
+indexFaults (Index.due-c cs) r = columnFaults ⊥ indexC ⊥ ⊥ r
+indexFaults Index.over r = columnFaults ⊥ [] ⊥ ⊥ r
 
 -- ---- What a call answers, by checks in order: at record 0 the number of the first that applies; its values exactly when none does
 pub record AnswersFirst {A : Type 0} (checks : List Check) (answer : Answer A) : Type 0 where
@@ -315,3 +361,112 @@ pub record FirstDiffers (f : File) (number : ℕ) : Type 0 where
   pub is : number ≡ f .partLength + suc (length front)
   pub differs : CountsDiffer f (suc (length front)) (here .it)
   pub earlier : (before : List View) → length before < length front → (h : HeaderBehind f before) → CountsDiffer f (suc (length before)) (h .it) → ⊥
+
+-- 10 of a sheet, at this record: "header; 2", and record 2 is the lower
+abbrev pub Ten : File → (at : ℕ) → Type 0
+Ten f at = (SheetCountsDiffer f × (at ≡ 2)) ⊎ ((SheetCountsDiffer f → ⊥) × FirstDiffers f at)
+
+-- ---- Stage two: "a walk from the front"
+-- what is due when a record is reached, and what its faults are
+pub record Walk : Type 1 where
+  pub Due : Type 0
+  pub next : Due → List ℕ → Due
+  pub faults : Due → List ℕ → Faults
+
+module _ (W : Walk) where
+  -- behind some records
+  abbrev pub dueBehindAll : W .Due → List (List ℕ) → W .Due
+  dueBehindAll due [] = due
+  dueBehindAll due (r ∷ rs) = dueBehindAll (W .next due r) rs
+
+  -- every record passes when it is reached
+  abbrev pub AllPass : W .Due → List (List ℕ) → Type 0
+  AllPass due records = (front : List (List ℕ)) (r : List ℕ) (behind : List (List ℕ)) → records ≡ front ++ r ∷ behind → FirstOf (inOrder (W .faults (dueBehindAll due front) r)) 0
+
+  -- "a record is checked when reached .. and the first fault answers": this number at this record, all before it pass. The first of the
+  -- records has the number `from`
+  pub record FirstFault (due : W .Due) (from : ℕ) (records : List (List ℕ)) (number at : ℕ) : Type 0 where
+    pub front : List (List ℕ)
+    pub it : List ℕ
+    pub behind : List (List ℕ)
+    pub whole : records ≡ front ++ it ∷ behind
+    pub passed : AllPass due front
+    pub fails : FirstOf (inOrder (W .faults (dueBehindAll due front) it)) number
+    pub some : number ≢ 0
+    pub is : at ≡ from + length front
+
+-- of a sheet: a record of the sheet part; a header or an item; or data of an item, with so many more of it behind
+pub data Due : Type 0 where
+  ofPart : Phase → Due
+  headerOrItem : (opened : ℕ) → Due
+  dataOf : (opened : ℕ) → Data → (more : ℕ) → Due
+
+abbrev pub faultsDue : Due → List ℕ → Faults
+faultsDue (ofPart phase) r = partFaults phase r
+faultsDue (headerOrItem opened) r = headerOrItemFaults opened r
+faultsDue (dataOf opened held more) r = dataFaults held more r
+
+-- behind the sheet part a header or an item is due, "0 before the first layer"
+abbrev pub enter : Phase → Due
+enter due-a = ofPart due-a
+enter (due-b level more) = ofPart (due-b level more)
+enter (due-c unit wholes more) = ofPart (due-c unit wholes more)
+enter (due-d unit wholes more) = ofPart (due-d unit wholes more)
+enter (due-e unit wholes more fs) = ofPart (due-e unit wholes more fs)
+enter (due-f unit wholes more fs) = ofPart (due-f unit wholes more fs)
+enter body = headerOrItem 0
+
+abbrev pub dueAgain : (opened : ℕ) → Data → (left : ℕ) → Due
+dueAgain opened held zero = headerOrItem opened
+dueAgain opened held (suc more) = dataOf opened held more
+
+-- so many data records a header or an item has
+abbrev pub stated : List ℕ → ℕ
+stated r = dueOf ((view r) .kind) ((view r) .dataRecords)
+
+abbrev pub dueNext : Due → List ℕ → Due
+dueNext (ofPart phase) r = enter (after phase r)
+dueNext (headerOrItem opened) r = dueAgain (openOf ((view r) .kind) ((view r) .level)) ((view r) .dataHeld) (stated r)
+dueNext (dataOf opened held more) r = dueAgain opened held more
+
+abbrev pub sheetWalk : Walk
+sheetWalk = record { Due = Due; next = dueNext; faults = faultsDue }
+
+-- 3: "a needed record is missing", at "its item's header; in sheet part or index, 1": the records end in the sheet part, or before an item
+-- has as many data records as it states
+pub data Missing (records : List (List ℕ)) (at : ℕ) : Type 0 where
+  fromPart : (phase : Phase) → dueBehindAll sheetWalk (ofPart due-a) records ≡ ofPart phase → at ≡ 1 → Missing records at
+  fromItem : (front : List (List ℕ)) (it : List ℕ) (rest : List (List ℕ)) (opened : ℕ) → records ≡ front ++ it ∷ rest → dueBehindAll sheetWalk (ofPart due-a) front ≡ headerOrItem opened → length rest < stated it → at ≡ suc (length front) → Missing records at
+
+-- "A missing record is reached past the end, after those before it"
+abbrev pub StageTwo : List (List ℕ) → (number at : ℕ) → Type 0
+StageTwo records number at = FirstFault sheetWalk (ofPart due-a) 1 records number at ⊎ ((number ≡ 3) × AllPass sheetWalk (ofPart due-a) records × Missing records at)
+
+-- "Three stages; the first failing stage answers": refused with this number at this record, by what each stage says. "Stage one: 1", at record 0;
+-- "Stage three: 10"
+pub data Refusal (One : Type 0) (Two : (number at : ℕ) → Type 0) (Three : (at : ℕ) → Type 0) (number at : ℕ) : Type 0 where
+  stageOne : One → number ≡ 1 → at ≡ 0 → Refusal One Two Three number at
+  stageTwo : (One → ⊥) → Two number at → Refusal One Two Three number at
+  stageThree : (One → ⊥) → ((n k : ℕ) → Two n k → ⊥) → number ≡ 10 → Three at → Refusal One Two Three number at
+
+abbrev pub SheetRefusal : (used : ℕ) → List ℕ → (number at : ℕ) → Type 0
+SheetRefusal used buffer = Refusal (StageOneFails used buffer) (StageTwo (chunks (used / 84) buffer)) (Ten (fileOf (chunks (used / 84) buffer)))
+
+-- ---- An index
+abbrev pub indexWalk : Walk
+indexWalk = record { Due = Stage; next = Index.after; faults = indexFaults }
+
+abbrev pub IndexStageTwo : List (List ℕ) → (number at : ℕ) → Type 0
+IndexStageTwo records number at = FirstFault indexWalk Index.due-a 1 records number at ⊎ ((number ≡ 3) × AllPass indexWalk Index.due-a records × (dueBehindAll indexWalk Index.due-a records ≢ Index.over) × (at ≡ 1))
+
+-- "index with records left over": a record is reached when nothing is due
+pub record LeftOver (due : Stage) (records : List (List ℕ)) : Type 0 where
+  pub front : List (List ℕ)
+  pub it : List ℕ
+  pub behind : List (List ℕ)
+  pub whole : records ≡ front ++ it ∷ behind
+  pub ended : dueBehindAll indexWalk due front ≡ Index.over
+
+-- 10 at record 1
+abbrev pub IndexRefusal : (used : ℕ) → List ℕ → (number at : ℕ) → Type 0
+IndexRefusal used buffer = Refusal (StageOneFails used buffer) (IndexStageTwo (chunks (used / 84) buffer)) (λ (at : ℕ). LeftOver Index.due-a (chunks (used / 84) buffer) × (at ≡ 1))
