@@ -1,7 +1,7 @@
 -- The checks of one record of the sheet part, and of an index. Assumes nothing.
 use mathlib.Core.Path.{_≡_, refl, sym}
 use mathlib.Core.Logic.{_⊎_, inl, inr, _≢_}
-use mathlib.Core.Bool.{Bool, true, false, cond, not, false≢true}
+use mathlib.Core.Bool.{_||_, Bool, true, false, cond, not, false≢true}
 use mathlib.Core.List.{List, [], _∷_}
 use Prim.Native.Nat.{ℕ, _<_}
 use Prim.Native.String.{String}
@@ -18,7 +18,7 @@ use Rattle.format.specs.Layout.{Col, numberAt, allFormed, allInside, col
 use Rattle.format.specs.Sheet.{Phase, due-a, due-b, due-c, due-d, due-e, due-f, body, unitOf, fractionsOk, fractionsOf, fCountOk, wrongIn}
 use Rattle.format.specs.Index as Index
 use Rattle.format.specs.Index.{Stage, bCountOk}
-use Rattle.format.specs.Checks.{FirstOf, inOrder, columnFaults, Starts, FCountKept, FractionWrong, SomeFractionWrong, partFaults, indexFaults}
+use Rattle.format.specs.Checks.{FirstOf, OneOf, inOrder, columnFaults, UnitWrong, Starts, FCountKept, FractionWrong, SomeFractionWrong, partFaults, indexFaults}
 use Rattle.format.proofs.ChecksOrder.{Says, Decides, decides-says, decides-and, decides-or, decides-map, decides-eqb, says-never, says-map, says-and, says-eqb, says-leb, check-first, check-never, check-end}
 use Rattle.format.proofs.ChecksRecords.{first-none, outside-says, columns-first, decides-rounded}
 
@@ -32,6 +32,27 @@ same-decides (x ∷ xs) (y ∷ ys) = decides-map (λ h. let p : x ≡ y = h .0 i
 starts-says : (type : String) (r : List ℕ) → length (bytes type) ≡ 2 → Says (begins type r) (Starts type r → ⊥)
 unfolding begins
 starts-says type r two = decides-says (rw two (same-decides (take 2 r) (bytes type)))
+
+-- ---- 6 at record b
+of-two : (n a b : ℕ) → Decides (eqb n a || eqb n b) (OneOf n (a ∷ b ∷ []))
+of-two n a b = decides-map (elim [ inl e ↦ inl e | inr e ↦ inr (inl e) ]) (elim [ inl e ↦ inl e | inr x ↦ elim x [ inl e ↦ inr e | inr y ↦ absurd y ] ]) (decides-or (decides-eqb n a) (decides-eqb n b))
+
+apart : (level : ℕ) → OneOf level (500 ∷ 1000 ∷ []) → OneOf level (2500 ∷ 5000 ∷ []) → ⊥
+apart level (inl e) (inl q) = omega arith
+apart level (inl e) (inr (inl q)) = omega arith
+apart level (inr (inl e)) (inl q) = omega arith
+apart level (inr (inl e)) (inr (inl q)) = omega arith
+apart level (inl e) (inr (inr y)) = y
+apart level (inr (inl e)) (inr (inr y)) = y
+apart level (inr (inr x)) q = x
+
+unit-says : (level unit : ℕ) → Says (eqb unit (unitOf level)) (UnitWrong level unit)
+unit-says level unit = go _ _ (of-two level 500 1000) (of-two level 2500 5000)
+  where
+    go : (s t : Bool) → Decides s (OneOf level (500 ∷ 1000 ∷ [])) → Decides t (OneOf level (2500 ∷ 5000 ∷ [])) → Says (eqb unit (cond s 1 (cond t 10 999))) (UnitWrong level unit)
+    go true t a b = says-map (λ n. inl (a .yes refl, n)) (elim [ inl x ↦ x .1 | inr x ↦ elim x [ inl y ↦ absurd (apart level (a .yes refl) (y .0)) | inr y ↦ absurd (y .0 (a .yes refl)) ] ]) (says-eqb unit 1)
+    go false true a b = says-map (λ n. inr (inl (b .yes refl, n))) (elim [ inl x ↦ absurd (a .no refl (x .0)) | inr x ↦ elim x [ inl y ↦ y .1 | inr y ↦ absurd (y .1 (b .yes refl)) ] ]) (says-eqb unit 10)
+    go false false a b = says-map (λ n. inr (inr (a .no refl, b .no refl, n))) (elim [ inl x ↦ absurd (a .no refl (x .0)) | inr x ↦ elim x [ inl y ↦ absurd (b .no refl (y .0)) | inr y ↦ y .2 ] ]) (says-eqb unit 999)
 
 -- ---- 9
 decides-ltZ : (a b : ℤ) → Decides (ltZ a b) (a <ℤ b)
@@ -84,7 +105,7 @@ f-count-decides courses fs = decides-or (decides-eqb fs 0) (decides-rounded cour
 
 pub part-first : (p : Phase) (r : List ℕ) → FirstOf (inOrder (partFaults p r)) (wrongIn p r)
 part-first due-a r = rw (first-none (columnFault sheetA r)) at (columns-in-order sheetA r (begins "M " r) true true _ ⊥ ⊥ (starts-says "M " r two-bytes-M) says-never says-never)
-part-first (due-b level more) r = rw (first-none (unless (eqb (numberAt sheetB "unit" r) (unitOf level)) 6)) at (columns-in-order sheetB r true (eqb (numberAt sheetB "unit" r) (unitOf level)) true ⊥ _ ⊥ says-never (says-eqb (numberAt sheetB "unit" r) (unitOf level)) says-never)
+part-first (due-b level more) r = rw (first-none (unless (eqb (numberAt sheetB "unit" r) (unitOf level)) 6)) at (columns-in-order sheetB r true (eqb (numberAt sheetB "unit" r) (unitOf level)) true ⊥ _ ⊥ says-never (unit-says level (numberAt sheetB "unit" r)) says-never)
 part-first (due-c unit wholes more) r = plain-columns sheetC r
 part-first (due-d unit wholes more) r = rw (first-none (unless (fCountOk (numberAt sheetD "courses" r) (numberAt sheetD "f records" r)) 6)) at (columns-in-order sheetD r true (fCountOk (numberAt sheetD "courses" r) (numberAt sheetD "f records" r)) true ⊥ _ ⊥ says-never (decides-says (f-count-decides (numberAt sheetD "courses" r) (numberAt sheetD "f records" r))) says-never)
 part-first (due-e unit wholes more fs) r = columns-in-order sheetE r true true (fractionsOk unit wholes (fractionsOf r)) ⊥ ⊥ _ says-never says-never (fractions-says unit wholes (fractionsOf r))

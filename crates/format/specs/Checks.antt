@@ -15,7 +15,7 @@ use Rattle.format.specs.Column.{columnOf}
 use Rattle.format.specs.declared.Column.the-variants.{Value}
 use Rattle.format.specs.Layout.{Rule, anySign, atLeast, range, within, oneOf, What, text, blank, integral, integralOrSpaces, Col, bytesOf, integerAt, numberAt, element, gridHeader, netHeader, dataNote, sheetA, sheetB, sheetC, sheetD, sheetE, sheetF, indexA, indexB, indexC}
 use Rattle.format.specs.Record.{RecordType, H, E1, E2, E3, E4, E5, E6, E7, E8, G, T, other, typeOf, Kind, head, item, neither, kindOf, typeColumns, Data, nothing, points3D, points2D, triangles, heights, notes, attributes, dataColumns, isHead, View, view}
-use Rattle.format.specs.Sheet.{Phase, due-a, due-b, due-c, due-d, due-e, due-f, body, after, unitOf, fractionsOf}
+use Rattle.format.specs.Sheet.{Phase, due-a, due-b, due-c, due-d, due-e, due-f, body, after, fractionsOf}
 use Rattle.format.specs.Index as Index
 use Rattle.format.specs.Index.{Stage}
 use Rattle.format.specs.Judge.{dueOf, openOf, headersAndItems, items, sum, File, fileOf}
@@ -224,6 +224,13 @@ dataFaults held behind r = columnFaults ⊥ (dataColumns held behind) (NoteWrong
 abbrev pub Starts : String → List ℕ → Type 0
 Starts type r = take 2 r ≡ bytes type
 
+-- "Level 500 or 1000 goes with unit 1, 2500 or 5000 with 10, 10000 with 999": record a has one of the five levels
+abbrev pub UnitWrong : (level unit : ℕ) → Type 0
+UnitWrong level unit =
+    (OneOf level (500 ∷ 1000 ∷ []) × (unit ≢ 1))
+    ⊎ (OneOf level (2500 ∷ 5000 ∷ []) × (unit ≢ 10))
+    ⊎ ((OneOf level (500 ∷ 1000 ∷ []) → ⊥) × (OneOf level (2500 ∷ 5000 ∷ []) → ⊥) × (unit ≢ 999))
+
 -- "f records: 0, or courses divided by 3 rounded up"
 abbrev pub FCountKept : (courses fs : ℕ) → Type 0
 FCountKept courses fs = (fs ≡ 0) ⊎ RoundedUp courses 3 fs
@@ -242,7 +249,7 @@ SomeFractionWrong unit (w ∷ ws) (f ∷ fs) = FractionWrong unit w f ⊎ SomeFr
 
 abbrev pub partFaults : Phase → List ℕ → Faults
 partFaults due-a r = columnFaults (Starts "M " r → ⊥) sheetA ⊥ ⊥ r
-partFaults (due-b level more) r = columnFaults ⊥ sheetB (numberAt sheetB "unit" r ≢ unitOf level) ⊥ r
+partFaults (due-b level more) r = columnFaults ⊥ sheetB (UnitWrong level (numberAt sheetB "unit" r)) ⊥ r
 partFaults (due-c unit wholes more) r = columnFaults ⊥ sheetC ⊥ ⊥ r
 partFaults (due-d unit wholes more) r = columnFaults ⊥ sheetD (FCountKept (numberAt sheetD "courses" r) (numberAt sheetD "f records" r) → ⊥) ⊥ r
 partFaults (due-e unit wholes more fs) r = columnFaults ⊥ sheetE ⊥ (SomeFractionWrong unit wholes (fractionsOf r)) r
@@ -256,115 +263,9 @@ indexFaults (Index.due-b bs cs) r = columnFaults ⊥ indexB ⊥ ⊥ r
 indexFaults (Index.due-c cs) r = columnFaults ⊥ indexC ⊥ ⊥ r
 indexFaults Index.over r = columnFaults ⊥ [] ⊥ ⊥ r
 
--- ---- What a call answers, by checks in order: at record 0 the number of the first that applies; its values exactly when none does
-pub record AnswersFirst {A : Type 0} (checks : List Check) (answer : Answer A) : Type 0 where
-  pub refusal : (number at : ℕ) → answer ≡ refused number at ↔ ((at ≡ 0) × (number ≢ 0) × FirstOf checks number)
-  pub values : ((value : A) × (answer ≡ given value)) ↔ FirstOf checks 0
-
--- ---- Edits of an accepted sheet: "then 11 to 15 in order"
--- a header or an item starts at this place, a record number
-pub record StartsAt (f : File) (place : ℕ) : Type 0 where
-  pub front : List View
-  pub it : View
-  pub behind : List View
-  pub whole : f .body ≡ front ++ it ∷ behind
-  pub due : dueBehind 0 front ≡ 0
-  pub number : place ≡ f .partLength + suc (length front)
-
--- "exactly one item that passes 4 to 9 but for nesting, level 2..9": below open level 8 every level of an item nests
-pub record OneItem (block : List ℕ) : Type 0 where
-  pub start : List ℕ
-  pub rest : List (List ℕ)
-  pub size : length block ≡ 84 * suc (length rest)
-  pub records : chunks (suc (length rest)) block ≡ start ∷ rest
-  pub isItem : typeOf start ≢ H
-  pub passes : FirstOf (inOrder (headerOrItemFaults 8 start)) 0
-  pub asMany : length rest ≡ (view start) .dataRecords
-  pub restPasses : (front : List (List ℕ)) (r : List ℕ) (behind : List (List ℕ)) → rest ≡ front ++ r ∷ behind → FirstOf (inOrder (dataFaults ((view start) .dataHeld) (length behind) r)) 0
-
--- "The open level is that of the last header, or one less than the last item's; 0 before the first layer": behind these records
-pub data OpenLevel (before : List View) (opened : ℕ) : Type 0 where
-  beforeFirst : headersAndItems 0 before ≡ [] → opened ≡ 0 → OpenLevel before opened
-  behindHeader : (front : List View) (last : View) → headersAndItems 0 before ≡ front ++ last ∷ [] → isHead (last .kind) ≡ true → opened ≡ last .level → OpenLevel before opened
-  behindItem : (front : List View) (last : View) → headersAndItems 0 before ≡ front ++ last ∷ [] → isHead (last .kind) ≡ false → opened ≡ last .level - 1 → OpenLevel before opened
-
-module _ (b : Buffer) (place : ℕ) (block : List ℕ) where
-  -- the records of the body before the place, and the block's first record
-  abbrev pub beforePlace : List View
-  beforePlace = take (bodyPlace (sheetOf b) place) ((sheetOf b) .body)
-
-  abbrev pub blockStart : List ℕ
-  blockStart = take 84 block
-
-  -- "edit place is no item or header start, nor (insertion) one past the end"
-  abbrev pub NoPlace : Type 0
-  NoPlace = (StartsAt (sheetOf b) place → ⊥) × (place ≢ suc (b .used / 84))
-
-  -- "block level above the open level plus 1 at that place, or below the level of the record now there"
-  abbrev pub LevelWrong : Type 0
-  LevelWrong =
-      ((opened : ℕ) × OpenLevel beforePlace opened × (opened + 1 < (view blockStart) .level))
-      ⊎ ((now : StartsAt (sheetOf b) place) × ((view blockStart) .level < now .it .level))
-
-  -- "header total would pass 99,999, its grid and net count 9, or the file 200,000 records"
-  abbrev pub TooMany : Type 0
-  TooMany =
-      ((above : HeaderAbove ((view blockStart) .level) beforePlace) × ((99999 < above .it .total + 1) ⊎ (((typeOf blockStart ≡ G) ⊎ (typeOf blockStart ≡ T)) × (9 < above .it .count 9 + 1))))
-      ⊎ (200000 < b .used / 84 + length block / 84)
-
-  -- "a buffer is too short for the result"
-  abbrev pub TooShort : Type 0
-  TooShort = length (b .bytes) < b .used + length block
-
--- "12 to 15 never apply to a removal"
-abbrev pub editChecks : Edit → Buffer → List Check
-editChecks (insert place block) b =
-    record { number = 11; applies = NoPlace b place block } ∷
-    record { number = 12; applies = OneItem block → ⊥ } ∷
-    record { number = 13; applies = LevelWrong b place block } ∷
-    record { number = 14; applies = TooMany b place block } ∷
-    record { number = 15; applies = TooShort b place block } ∷ []
-editChecks (remove place) b =
-    record { number = 11; applies = (StartsAt (sheetOf b) place → ⊥) ⊎ ((now : StartsAt (sheetOf b) place) × (isHead (now .it .kind) ≡ true)) } ∷ []
-
--- ---- The way up of an accepted sheet: 17, "record number outside the file, or in the sheet part"
-abbrev pub wayUpChecks : (used : ℕ) → List ℕ → (number : ℕ) → List Check
-wayUpChecks used buffer number =
-    record { number = 17; applies = (number ≡ 0) ⊎ (number ≤ (fileOf (chunks (used / 84) buffer)) .partLength) ⊎ (used / 84 < number) } ∷ []
-
 -- ---- Stage one: "used length 0, above the buffer, not a multiple of 84, or above 200,000 records"
 abbrev pub StageOneFails : (used : ℕ) → List ℕ → Type 0
 StageOneFails used buffer = (used ≡ 0) ⊎ (length buffer < used) ⊎ (used % 84 ≢ 0) ⊎ (84 * 200000 < used)
-
--- ---- Stage three of a sheet
--- "Sheet element count: all items. Sheet record count: all records but the sheet part"
-abbrev pub SheetCountsDiffer : File → Type 0
-SheetCountsDiffer f = (f .statedElements ≢ items (headersAndItems 0 (f .body))) ⊎ (f .statedRecords ≢ length (f .body))
-
--- "a header counts what stands one level below under it, by kind; total is the sum of the others": one of the ten differs from the headers and
--- items of that kind whose header above it is, or the total from the sum
-abbrev pub CountsDiffer : File → (nth : ℕ) → View → Type 0
-CountsDiffer f nth h = ((kind : ℕ) × (kind < 10) × (h .count kind ≢ countWithAbove nth kind [] 0 (f .body))) ⊎ (h .total ≢ sum 10 (h .count))
-
--- a header stands behind these records of the body
-pub record HeaderBehind (f : File) (front : List View) : Type 0 where
-  pub it : View
-  pub behind : List View
-  pub whole : f .body ≡ front ++ it ∷ behind
-  pub due : dueBehind 0 front ≡ 0
-  pub header : isHead (it .kind) ≡ true
-
--- "10, lowest record first": the first header whose counts differ has this record number
-pub record FirstDiffers (f : File) (number : ℕ) : Type 0 where
-  pub front : List View
-  pub here : HeaderBehind f front
-  pub is : number ≡ f .partLength + suc (length front)
-  pub differs : CountsDiffer f (suc (length front)) (here .it)
-  pub earlier : (before : List View) → length before < length front → (h : HeaderBehind f before) → CountsDiffer f (suc (length before)) (h .it) → ⊥
-
--- 10 of a sheet, at this record: "header; 2", and record 2 is the lower
-abbrev pub Ten : File → (at : ℕ) → Type 0
-Ten f at = (SheetCountsDiffer f × (at ≡ 2)) ⊎ ((SheetCountsDiffer f → ⊥) × FirstDiffers f at)
 
 -- ---- Stage two: "a walk from the front"
 -- what is due when a record is reached, and what its faults are
@@ -442,6 +343,37 @@ pub data Missing (records : List (List ℕ)) (at : ℕ) : Type 0 where
 abbrev pub StageTwo : List (List ℕ) → (number at : ℕ) → Type 0
 StageTwo records number at = FirstFault sheetWalk (ofPart due-a) 1 records number at ⊎ ((number ≡ 3) × AllPass sheetWalk (ofPart due-a) records × Missing records at)
 
+-- ---- Stage three of a sheet
+-- "Sheet element count: all items. Sheet record count: all records but the sheet part"
+abbrev pub SheetCountsDiffer : File → Type 0
+SheetCountsDiffer f = (f .statedElements ≢ items (headersAndItems 0 (f .body))) ⊎ (f .statedRecords ≢ length (f .body))
+
+-- "a header counts what stands one level below under it, by kind; total is the sum of the others": one of the ten differs from the headers and
+-- items of that kind whose header above it is, or the total from the sum
+abbrev pub CountsDiffer : File → (nth : ℕ) → View → Type 0
+CountsDiffer f nth h = ((kind : ℕ) × (kind < 10) × (h .count kind ≢ countWithAbove nth kind [] 0 (f .body))) ⊎ (h .total ≢ sum 10 (h .count))
+
+-- a header stands behind these records of the body
+pub record HeaderBehind (f : File) (front : List View) : Type 0 where
+  pub it : View
+  pub behind : List View
+  pub whole : f .body ≡ front ++ it ∷ behind
+  pub due : dueBehind 0 front ≡ 0
+  pub header : isHead (it .kind) ≡ true
+
+-- "10, lowest record first": the first header whose counts differ has this record number
+pub record FirstDiffers (f : File) (number : ℕ) : Type 0 where
+  pub front : List View
+  pub here : HeaderBehind f front
+  pub is : number ≡ f .partLength + suc (length front)
+  pub differs : CountsDiffer f (suc (length front)) (here .it)
+  pub earlier : (before : List View) → length before < length front → (h : HeaderBehind f before) → CountsDiffer f (suc (length before)) (h .it) → ⊥
+
+-- 10 of a sheet, at this record: "header; 2", and record 2 is the lower
+abbrev pub Ten : File → (at : ℕ) → Type 0
+Ten f at = (SheetCountsDiffer f × (at ≡ 2)) ⊎ ((SheetCountsDiffer f → ⊥) × FirstDiffers f at)
+
+-- ---- A sheet
 -- "Three stages; the first failing stage answers": refused with this number at this record, by what each stage says. "Stage one: 1", at record 0;
 -- "Stage three: 10"
 pub data Refusal (One : Type 0) (Two : (number at : ℕ) → Type 0) (Three : (at : ℕ) → Type 0) (number at : ℕ) : Type 0 where
@@ -470,3 +402,79 @@ pub record LeftOver (due : Stage) (records : List (List ℕ)) : Type 0 where
 -- 10 at record 1
 abbrev pub IndexRefusal : (used : ℕ) → List ℕ → (number at : ℕ) → Type 0
 IndexRefusal used buffer = Refusal (StageOneFails used buffer) (IndexStageTwo (chunks (used / 84) buffer)) (λ (at : ℕ). LeftOver Index.due-a (chunks (used / 84) buffer) × (at ≡ 1))
+
+-- ---- What a call answers, by checks in order: at record 0 the number of the first that applies; its values exactly when none does
+pub record AnswersFirst {A : Type 0} (checks : List Check) (answer : Answer A) : Type 0 where
+  pub refusal : (number at : ℕ) → answer ≡ refused number at ↔ ((at ≡ 0) × (number ≢ 0) × FirstOf checks number)
+  pub values : ((value : A) × (answer ≡ given value)) ↔ FirstOf checks 0
+
+-- ---- Edits of an accepted sheet: "then 11 to 15 in order"
+-- a header or an item starts at this place, a record number
+pub record StartsAt (f : File) (place : ℕ) : Type 0 where
+  pub front : List View
+  pub it : View
+  pub behind : List View
+  pub whole : f .body ≡ front ++ it ∷ behind
+  pub due : dueBehind 0 front ≡ 0
+  pub number : place ≡ f .partLength + suc (length front)
+
+-- "exactly one item that passes 4 to 9 but for nesting, level 2..9": below open level 8 every level of an item nests
+pub record OneItem (block : List ℕ) : Type 0 where
+  pub start : List ℕ
+  pub rest : List (List ℕ)
+  pub size : length block ≡ 84 * suc (length rest)
+  pub records : chunks (suc (length rest)) block ≡ start ∷ rest
+  pub isItem : typeOf start ≢ H
+  pub passes : FirstOf (inOrder (headerOrItemFaults 8 start)) 0
+  pub asMany : length rest ≡ (view start) .dataRecords
+  pub restPasses : (front : List (List ℕ)) (r : List ℕ) (behind : List (List ℕ)) → rest ≡ front ++ r ∷ behind → FirstOf (inOrder (dataFaults ((view start) .dataHeld) (length behind) r)) 0
+
+-- "The open level is that of the last header, or one less than the last item's; 0 before the first layer": behind these records
+pub data OpenLevel (before : List View) (opened : ℕ) : Type 0 where
+  beforeFirst : headersAndItems 0 before ≡ [] → opened ≡ 0 → OpenLevel before opened
+  behindHeader : (front : List View) (last : View) → headersAndItems 0 before ≡ front ++ last ∷ [] → isHead (last .kind) ≡ true → opened ≡ last .level → OpenLevel before opened
+  behindItem : (front : List View) (last : View) → headersAndItems 0 before ≡ front ++ last ∷ [] → isHead (last .kind) ≡ false → opened ≡ last .level - 1 → OpenLevel before opened
+
+module _ (b : Buffer) (place : ℕ) (block : List ℕ) where
+  -- the records of the body before the place, and the block's first record
+  abbrev pub beforePlace : List View
+  beforePlace = take (bodyPlace (sheetOf b) place) ((sheetOf b) .body)
+
+  abbrev pub blockStart : List ℕ
+  blockStart = take 84 block
+
+  -- "edit place is no item or header start, nor (insertion) one past the end"
+  abbrev pub NoPlace : Type 0
+  NoPlace = (StartsAt (sheetOf b) place → ⊥) × (place ≢ suc (b .used / 84))
+
+  -- "block level above the open level plus 1 at that place, or below the level of the record now there"
+  abbrev pub LevelWrong : Type 0
+  LevelWrong =
+      ((opened : ℕ) × OpenLevel beforePlace opened × (opened + 1 < (view blockStart) .level))
+      ⊎ ((now : StartsAt (sheetOf b) place) × ((view blockStart) .level < now .it .level))
+
+  -- "header total would pass 99,999, its grid and net count 9, or the file 200,000 records"
+  abbrev pub TooMany : Type 0
+  TooMany =
+      ((above : HeaderAbove ((view blockStart) .level) beforePlace) × ((99999 < above .it .total + 1) ⊎ (((typeOf blockStart ≡ G) ⊎ (typeOf blockStart ≡ T)) × (9 < above .it .count 9 + 1))))
+      ⊎ (200000 < b .used / 84 + length block / 84)
+
+  -- "a buffer is too short for the result"
+  abbrev pub TooShort : Type 0
+  TooShort = length (b .bytes) < b .used + length block
+
+-- "12 to 15 never apply to a removal"
+abbrev pub editChecks : Edit → Buffer → List Check
+editChecks (insert place block) b =
+    record { number = 11; applies = NoPlace b place block } ∷
+    record { number = 12; applies = OneItem block → ⊥ } ∷
+    record { number = 13; applies = LevelWrong b place block } ∷
+    record { number = 14; applies = TooMany b place block } ∷
+    record { number = 15; applies = TooShort b place block } ∷ []
+editChecks (remove place) b =
+    record { number = 11; applies = (StartsAt (sheetOf b) place → ⊥) ⊎ ((now : StartsAt (sheetOf b) place) × (isHead (now .it .kind) ≡ true)) } ∷ []
+
+-- ---- The way up of an accepted sheet: 17, "record number outside the file, or in the sheet part"
+abbrev pub wayUpChecks : (used : ℕ) → List ℕ → (number : ℕ) → List Check
+wayUpChecks used buffer number =
+    record { number = 17; applies = (number ≡ 0) ⊎ (number ≤ (fileOf (chunks (used / 84) buffer)) .partLength) ⊎ (used / 84 < number) } ∷ []
