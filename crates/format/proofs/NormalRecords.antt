@@ -15,7 +15,7 @@ use Rattle.format.specs.Basics.{unless}
 use Rattle.format.specs.Column.{columnOf, formed, integer, written}
 use Rattle.format.specs.Layout.{columnFault, What, text, blank, integral, integralOrSpaces, Col, column, splice, bytesOf, spaces, isFormed, allFormed, laid}
 use Rattle.format.specs.Normal.{normalBytes, normalRecord}
-use Rattle.format.specs.JudgedColumns.{WrittenAnew, ColumnNormal, EachColumn, isInteger, Outside, Normalised}
+use Rattle.format.specs.JudgedColumns.{WrittenAnew, ColumnNormal, EachColumn, isInteger, InNoInteger, Normalised}
 use Rattle.format.proofs.Basics.{and-true, true-and, first-zero, unless-zero}
 use Rattle.format.proofs.Columns.{length-written, length-splice, column-own, column-before, column-behind, length-column}
 
@@ -203,7 +203,7 @@ each-column at (c ∷ cs) r e l f = (rw own (column-normal (c .what) (c .width) 
     own : bytesOf c (normalRecord cs (one c r)) ≡ normalBytes (c .what) (c .width) (bytesOf c r)
     own = before-kept (at + c .width) cs (one c r) (e .1) long (c .start) (c .width) (omega (arith, e .0)) ∙ one-own c r room
 
-pub each-byte : (at : ℕ) (cs : List Col) (r : List ℕ) → EndToEnd at cs → length r ≡ 84 → (i : ℕ) → Outside cs i → getD (normalRecord cs r) i 0 ≡ getD r i 0
+pub each-byte : (at : ℕ) (cs : List Col) (r : List ℕ) → EndToEnd at cs → length r ≡ 84 → (i : ℕ) → InNoInteger cs i → getD (normalRecord cs r) i 0 ≡ getD r i 0
 unfolding normalRecord
 each-byte at [] r e l i o = refl
 each-byte at (c ∷ cs) r e l i o = each-byte (at + c .width) cs (one c r) (e .1) (next-length at c cs r e l) i (o .1) ∙ one-byte c r (room-for at c cs r e l) i (o .0)

@@ -94,15 +94,15 @@ isInteger (integral rule) = true
 isInteger integralOrSpaces = true
 
 -- byte i is in no integer column of these
-abbrev pub Outside : List Col → (i : ℕ) → Type 0
-Outside [] i = Unit {0}
-Outside (c ∷ cs) i = (isInteger (c .what) ≡ true → (i < c .start) ⊎ (c .start + c .width ≤ i)) × Outside cs i
+abbrev pub InNoInteger : List Col → (i : ℕ) → Type 0
+InNoInteger [] i = Unit {0}
+InNoInteger (c ∷ cs) i = (isInteger (c .what) ≡ true → (i < c .start) ⊎ (c .start + c .width ≤ i)) × InNoInteger cs i
 
 -- a record in which these columns are judged, and its normal form
 pub record Normalised (columns : List Col) (before after : List ℕ) : Type 0 where
   pub long : length after ≡ length before
   pub judged : EachColumn columns before after
-  pub others : (i : ℕ) → Outside columns i → getD after i 0 ≡ getD before i 0
+  pub others : (i : ℕ) → InNoInteger columns i → getD after i 0 ≡ getD before i 0
 
 -- the second buffer afterwards, by the judged columns of each record: "the second buffer past the file stays"
 pub record NormalForm (judged : List (List Col)) (used : ℕ) (buffer second after : List ℕ) : Type 0 where
