@@ -83,34 +83,34 @@ natural-after e (minus t f g r) = absurd (false≢true t)
 -- ---- the code's test of a byte
 
 -- what a byte is that is surely right at a place where not anything may stand
-pub data Told (k p b : ℕ) : Type 0 where
-  t-digit : leb (leastAt k) b ≡ true → leb b (mostAt k) ≡ true → eqb p 45 && eqb b 48 ≡ false → Told k p b
-  t-space : b ≡ 32 → isSpaced k ≡ true → eqb p 32 || isFirst k ≡ true → Told k p b
-  t-minus : b ≡ 45 → isSigned k ≡ true → eqb p 32 || isFirst k ≡ true → Told k p b
+pub data Seen (k p b : ℕ) : Type 0 where
+  t-digit : leb (leastAt k) b ≡ true → leb b (mostAt k) ≡ true → eqb p 45 && eqb b 48 ≡ false → Seen k p b
+  t-space : b ≡ 32 → isSpaced k ≡ true → eqb p 32 || isFirst k ≡ true → Seen k p b
+  t-minus : b ≡ 45 → isSigned k ≡ true → eqb p 32 || isFirst k ≡ true → Seen k p b
 
 or-cases : (a b : Bool) → a || b ≡ true → (a ≡ true) ⊎ (b ≡ true)
 or-cases true b h = inl refl
 or-cases false b h = inr h
 
-pub told : (k p b : ℕ) → eqb k 46 ≡ false → surelyRight k p b ≡ true → Told k p b
+pub told : (k p b : ℕ) → eqb k 46 ≡ false → surelyRight k p b ≡ true → Seen k p b
 unfolding surelyRight
 told k p b n h = go (and-true _ _ (rw n at h))
   where
-    at-digit : leb (leastAt k) b && leb b (mostAt k) ≡ true → eqb p 45 && eqb b 48 ≡ false → Told k p b
+    at-digit : leb (leastAt k) b && leb b (mostAt k) ≡ true → eqb p 45 && eqb b 48 ≡ false → Seen k p b
     at-digit d z = let t = and-true (leb (leastAt k) b) (leb b (mostAt k)) d in t-digit (t .0) (t .1) z
 
-    at-space : eqb b 32 && isSpaced k ≡ true → eqb p 32 || isFirst k ≡ true → Told k p b
+    at-space : eqb b 32 && isSpaced k ≡ true → eqb p 32 || isFirst k ≡ true → Seen k p b
     at-space x f = let t = and-true (eqb b 32) (isSpaced k) x in t-space (eqb-true b 32 (t .0)) (t .1) f
 
-    at-minus : eqb b 45 && isSigned k ≡ true → eqb p 32 || isFirst k ≡ true → Told k p b
+    at-minus : eqb b 45 && isSigned k ≡ true → eqb p 32 || isFirst k ≡ true → Seen k p b
     at-minus x f = let t = and-true (eqb b 45) (isSigned k) x in t-minus (eqb-true b 45 (t .0)) (t .1) f
 
-    at-gap : ((eqb b 32 && isSpaced k) || (eqb b 45 && isSigned k)) && (eqb p 32 || isFirst k) ≡ true → Told k p b
+    at-gap : ((eqb b 32 && isSpaced k) || (eqb b 45 && isSigned k)) && (eqb p 32 || isFirst k) ≡ true → Seen k p b
     at-gap g =
         let t = and-true ((eqb b 32 && isSpaced k) || (eqb b 45 && isSigned k)) (eqb p 32 || isFirst k) g in
         ⊎-elim (λ x. at-space x (t .1)) (λ x. at-minus x (t .1)) (or-cases (eqb b 32 && isSpaced k) (eqb b 45 && isSigned k) (t .0))
 
-    go : ((leb (leastAt k) b && leb b (mostAt k)) || (((eqb b 32 && isSpaced k) || (eqb b 45 && isSigned k)) && (eqb p 32 || isFirst k)) ≡ true) × (not (eqb p 45 && eqb b 48) ≡ true) → Told k p b
+    go : ((leb (leastAt k) b && leb b (mostAt k)) || (((eqb b 32 && isSpaced k) || (eqb b 45 && isSigned k)) && (eqb p 32 || isFirst k)) ≡ true) × (not (eqb p 45 && eqb b 48) ≡ true) → Seen k p b
     go t =
         ⊎-elim (λ x. at-digit x (not-true (eqb p 45 && eqb b 48) (t .1))) at-gap
         (or-cases (leb (leastAt k) b && leb b (mostAt k)) (((eqb b 32 && isSpaced k) || (eqb b 45 && isSigned k)) && (eqb p 32 || isFirst k)) (t .0))
@@ -124,13 +124,13 @@ abbrev pub betweenPlace : Bool → ℕ
 betweenPlace true = 109
 betweenPlace false = 115
 
-digit-at-last : (p b : ℕ) → Told 100 p b → isDigit b ≡ true
+digit-at-last : (p b : ℕ) → Seen 100 p b → isDigit b ≡ true
 unfolding leastAt mostAt isDigit
 digit-at-last p b (t-digit l m z) = true-and (leb 48 b) (leb b 57) l m
 digit-at-last p b (t-space e x f) = absurd (false≢true x)
 digit-at-last p b (t-minus e x f) = absurd (false≢true x)
 
-no-minus-zero : (p b : ℕ) → Told 100 p b → eqb p 45 && eqb b 48 ≡ false
+no-minus-zero : (p b : ℕ) → Seen 100 p b → eqb p 45 && eqb b 48 ≡ false
 no-minus-zero p b (t-digit l m z) = z
 no-minus-zero p b (t-space e x f) = absurd (false≢true x)
 no-minus-zero p b (t-minus e x f) = absurd (false≢true x)
@@ -149,13 +149,13 @@ pub between-right : (s : Bool) (p b : ℕ) (bs : List ℕ) → Right s b bs → 
 unfolding leastAt mostAt isDigit
 between-right true p b bs r h = go (told 109 p b refl h)
   where
-    go : Told 109 p b → Right true p (b ∷ bs)
+    go : Seen 109 p b → Right true p (b ∷ bs)
     go (t-digit l m z) = digit (true-and (leb 48 b) (leb b 57) l m) z r
     go (t-space e x f) = space (after-space p f) e r
     go (t-minus e x f) = minus refl (after-space p f) e r
 between-right false p b bs r h = go (told 115 p b refl h)
   where
-    go : Told 115 p b → Right false p (b ∷ bs)
+    go : Seen 115 p b → Right false p (b ∷ bs)
     go (t-digit l m z) = digit (true-and (leb 48 b) (leb b 57) l m) z r
     go (t-space e x f) = space (after-space p f) e r
     go (t-minus e x f) = absurd (false≢true x)
@@ -165,13 +165,13 @@ pub first-right : (s : Bool) (p b : ℕ) (bs : List ℕ) → Right s b bs → su
 unfolding leastAt mostAt isDigit
 first-right true p b bs r h = go (told 77 p b refl h)
   where
-    go : Told 77 p b → Right true 32 (b ∷ bs)
+    go : Seen 77 p b → Right true 32 (b ∷ bs)
     go (t-digit l m z) = digit (true-and (leb 48 b) (leb b 57) l m) refl r
     go (t-space e x f) = space refl e r
     go (t-minus e x f) = minus refl refl e r
 first-right false p b bs r h = go (told 83 p b refl h)
   where
-    go : Told 83 p b → Right false 32 (b ∷ bs)
+    go : Seen 83 p b → Right false 32 (b ∷ bs)
     go (t-digit l m z) = digit (true-and (leb 48 b) (leb b 57) l m) refl r
     go (t-space e x f) = space refl e r
     go (t-minus e x f) = absurd (false≢true x)
@@ -190,7 +190,7 @@ pub loose-last : (p b : ℕ) → surelyRight 115 p b ≡ true → Loose p (b ∷
 unfolding leastAt mostAt isDigit
 loose-last p b h = go (told 115 p b refl h)
   where
-    go : Told 115 p b → Loose p (b ∷ [])
+    go : Seen 115 p b → Loose p (b ∷ [])
     go (t-digit l m z) = number (last (true-and (leb 48 b) (leb b 57) l m) z)
     go (t-space e x f) = blank {l = b ∷ []} (after-space p f) (rw e refl)
     go (t-minus e x f) = absurd (false≢true x)
@@ -199,7 +199,7 @@ pub loose-only : (p b : ℕ) → surelyRight 115 p b ≡ true → Loose 32 (b �
 unfolding leastAt mostAt isDigit
 loose-only p b h = go (told 115 p b refl h)
   where
-    go : Told 115 p b → Loose 32 (b ∷ [])
+    go : Seen 115 p b → Loose 32 (b ∷ [])
     go (t-digit l m z) = number (last (true-and (leb 48 b) (leb b 57) l m) refl)
     go (t-space e x f) = blank {l = b ∷ []} refl (rw e refl)
     go (t-minus e x f) = absurd (false≢true x)
@@ -209,7 +209,7 @@ unfolding leastAt
 loose-between p b bs (number r) h = number (between-right true p b bs r h)
 loose-between p b bs (blank e g) h = go (told 109 p b refl h)
   where
-    go : Told 109 p b → Loose p (b ∷ bs)
+    go : Seen 109 p b → Loose p (b ∷ bs)
     go (t-digit l m z) = absurd (false≢true (rw e at l))
     go (t-space _ x f) = blank {l = b ∷ bs} (after-space p f) (rw (e, g) refl)
     go (t-minus d x f) = absurd (omega arith)

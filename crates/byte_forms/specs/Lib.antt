@@ -1,2 +1,3 @@
 pub mod Doubt
 pub mod Places
+pub mod Told

@@ -9,7 +9,8 @@
 //   Z       a first byte that adds nothing to the number: 0, a space or a minus
 // And nowhere a 0 right after a minus, which may be "a minus before zeros only".
 ghost use mathlib.Core.Path.{_≡_};
-ghost use Rattle.byte_forms.specs.Doubt.{leastAt, mostAt, doubt};
+ghost use Rattle.byte_forms.specs.Doubt.{leastAt, mostAt};
+ghost use Rattle.byte_forms.specs.Told.{Told};
 
 // The least digit of a place.
 fn least_at(place: u8) -> u8
@@ -28,9 +29,10 @@ fn most_at(place: u8) -> u8
     if place < b'9' { place } else { b'9' }
 }
 
-// 0 where the byte is surely right at its place after the byte before it, else 1. No branch, so that a loop of it takes sixteen bytes at a time.
+// 0 where the byte is surely right at its place after the byte before it, else 1: a column of which no byte is in doubt has no fault but a 0 where a
+// number above 0 is due. No branch, so that a loop of it takes sixteen bytes at a time.
 pub fn doubt_at(place: u8, before: u8, byte: u8) -> u8
-    ensures { λ r. ⌜ r ≡ doubt place before byte ⌝ }
+    ensures { λ r. ⌜ Told place before byte r ⌝ }
 {
     let least = least_at(place);
     let most = most_at(place);

@@ -1,5 +1,5 @@
 -- Records told at once to be without fault, and `above_zero`, in the code's own words. Assumes nothing.
-use mathlib.Core.Path.{_≡_, refl, sym, _∙_}
+use mathlib.Core.Path.{_≡_, refl, sym}
 use mathlib.Core.Bool.{Bool, true, false, not, _&&_, and-assoc, and-true}
 use mathlib.Core.List.{List, [], _∷_}
 use Prim.Native.Nat.{ℕ}
@@ -17,8 +17,8 @@ use Rattle.format.specs.declared.Column.the-variants.{Value, MinusZero, Malform
 use Rattle.format.specs.Column.{integer}
 use Rattle.format.specs.Layout.{Col, allInside, columnFault, header, element, gridHeader, netHeader, dataNote}
 use Rattle.columns.specs.InRecord.{columnAt}
-use Rattle.record_forms.specs.Sure.{surely}
-use Rattle.record_forms.proofs.Sound.{laidOut, aboveZeros, sure-record, sure-formed, sure-inside, header-laid, element-laid, grid-header-laid, net-header-laid, data-note-laid}
+use Rattle.record_forms.specs.Sure.{Sure}
+use Rattle.record_forms.proofs.Sound.{aboveZeros, left-to-ask}
 use Rattle.layout_faults.specs.Faults.{faultIn}
 use Rattle.layout_faults.proofs.Tables.{says}
 
@@ -38,36 +38,35 @@ module _ (l : List ℕ) (start width : ℕ) (c : Column) (e : c ≡ columnAt l s
 
 -- ---- records without fault
 
-module _ (layout : List Col) (laid : laidOut 0 layout ≡ true) (l : List ℕ) (sure : surely layout l ≡ true) where
+module _ (layout : List Col) (l : List ℕ) (t : Bool) (e : Sure layout l t) (h : t ≡ true) where
   faultless : allInside (aboveZeros layout) l ≡ true → faultIn layout l ≡ 0
   unfolding faultIn columnFault
-  faultless h = rw (sure-record layout laid l sure, sure-formed layout laid l sure, sure-inside layout laid l sure, h)
+  faultless a = rw (e .whole h, e .all-formed h, left-to-ask layout l (e .all-inside h), a)
 
 module _ (l : List ℕ) (t : Bool) where
-  pub header-faultless : t ≡ surely header l → t ≡ true → 0 ≡ faultIn header l
+  pub header-faultless : Sure header l t → t ≡ true → 0 ≡ faultIn header l
   unfolding header aboveZeros allInside
-  header-faultless e h = sym (faultless header header-laid l (sym e ∙ h) refl)
+  header-faultless e h = sym (faultless header l t e h refl)
 
-  pub element-faultless : t ≡ surely element l → t ≡ true → 0 ≡ faultIn element l
+  pub element-faultless : Sure element l t → t ≡ true → 0 ≡ faultIn element l
   unfolding element aboveZeros allInside
-  element-faultless e h = sym (faultless element element-laid l (sym e ∙ h) refl)
+  element-faultless e h = sym (faultless element l t e h refl)
 
-  pub data-note-faultless : t ≡ surely dataNote l → t ≡ true → 0 ≡ faultIn dataNote l
+  pub data-note-faultless : Sure dataNote l t → t ≡ true → 0 ≡ faultIn dataNote l
   unfolding dataNote aboveZeros allInside
-  data-note-faultless e h = sym (faultless dataNote data-note-laid l (sym e ∙ h) refl)
+  data-note-faultless e h = sym (faultless dataNote l t e h refl)
 
   -- and some numbers above 0
-  pub grid-header-faultless : (a b c d : Bool) → t ≡ surely gridHeader l → not t ≡ false → a ≡ leZ (pos 1) (integer (columnAt l 18 4)) → b ≡ leZ (pos 1) (integer (columnAt l 22 4)) → c ≡ leZ (pos 1) (integer (columnAt l 30 7)) → d ≡ leZ (pos 1) (integer (columnAt l 37 7)) → ((a && b) && c) && d ≡ true → faultIn gridHeader l ≡ 0
+  pub grid-header-faultless : (a b c d : Bool) → Sure gridHeader l t → not t ≡ false → a ≡ leZ (pos 1) (integer (columnAt l 18 4)) → b ≡ leZ (pos 1) (integer (columnAt l 22 4)) → c ≡ leZ (pos 1) (integer (columnAt l 30 7)) → d ≡ leZ (pos 1) (integer (columnAt l 37 7)) → ((a && b) && c) && d ≡ true → faultIn gridHeader l ≡ 0
   unfolding gridHeader aboveZeros allInside
   grid-header-faultless a b c d e n ea eb ec ed h =
-      let sure = sym e ∙ not-false t n in
-      let whole = sure-record gridHeader grid-header-laid l sure in
-      faultless gridHeader grid-header-laid l sure
+      let sure = not-false t n in
+      let whole = e .whole sure in
+      faultless gridHeader l t e sure
       (rw (← says l whole 18 4 refl refl, ← says l whole 22 4 refl refl, ← says l whole 30 7 refl refl, ← says l whole 37 7 refl refl, ← ea, ← eb, ← ec, ← ed, and-true) (rw (← and-assoc, ← and-assoc) h))
 
-  pub net-header-faultless : (a : Bool) → t ≡ surely netHeader l → not t ≡ false → a ≡ leZ (pos 1) (integer (columnAt l 20 6)) → a ≡ true → faultIn netHeader l ≡ 0
+  pub net-header-faultless : (a : Bool) → Sure netHeader l t → not t ≡ false → a ≡ leZ (pos 1) (integer (columnAt l 20 6)) → a ≡ true → faultIn netHeader l ≡ 0
   unfolding netHeader aboveZeros allInside
   net-header-faultless a e n ea h =
-      let sure = sym e ∙ not-false t n in
-      let whole = sure-record netHeader net-header-laid l sure in
-      faultless netHeader net-header-laid l sure (rw (← says l whole 20 6 refl refl, ← ea, h))
+      let sure = not-false t n in
+      faultless netHeader l t e sure (rw (← says l (e .whole sure) 20 6 refl refl, ← ea, h))

@@ -11,9 +11,10 @@ use lib.ListN.{length, take, drop, getD, length-drop, drop-of-length-le}
 use lib.Seq.{getD-drop, drop-drop}
 use Rattle.format.specs.Layout.{Col, header, element, gridHeader, netHeader, dataNote}
 use Rattle.byte_forms.specs.Doubt.{doubt}
-use Rattle.byte_forms.specs.Places.{behind, placesIn, doubtsIn}
+use Rattle.byte_forms.specs.Places.{behind, placesIn, ruled, placesFor, doubtsIn}
 use Rattle.byte_forms.proofs.Doubts.{at-most-one, anything, one-more, doubts-append}
-use Rattle.record_forms.specs.Sure.{ruled, placesFor, placesOf, surely}
+use Rattle.record_forms.specs.Sure.{placesOf, surely, Sure}
+use Rattle.record_forms.proofs.Sound.{none, answered, header-laid, element-laid, grid-header-laid, net-header-laid, data-note-laid}
 
 -- ---- `middle_doubts`
 
@@ -47,9 +48,9 @@ all-counted places r i doubts n h s =
 
 -- ---- a record
 
-pub no-record : (layout : List Col) (r : List ℕ) → (length r ≡ 84 → ⊥) → false ≡ surely layout r
+pub no-record : (layout : List Col) (r : List ℕ) → (length r ≡ 84 → ⊥) → Sure layout r false
 unfolding surely
-no-record layout r h = rw (ne-eqb (length r) 84 h)
+no-record layout r h = none layout r (rw (ne-eqb (length r) 84 h))
 
 -- the places of the bytes from 2 to 81
 unfoldable pub middle : List Col → List ℕ
@@ -94,33 +95,34 @@ module _ (layout : List Col) (c d : ℕ) (places : placesOf layout ≡ 46 ∷ 46
 
 -- ---- the five layouts
 
-pub header-told : (r : List ℕ) (m x : ℕ) → length r ≡ 84 → m ≡ doubtsIn (middle header) (getD r 1 0) (drop 2 r) → x ≡ doubt 100 (getD r 81 0) (getD r 82 0) → eqb m 0 && eqb x 0 ≡ surely header r
+pub header-told : (r : List ℕ) (m x : ℕ) → length r ≡ 84 → m ≡ doubtsIn (middle header) (getD r 1 0) (drop 2 r) → x ≡ doubt 100 (getD r 81 0) (getD r 82 0) → Sure header r (eqb m 0 && eqb x 0)
 unfolding middle placesOf placesFor ruled placesIn behind header
 header-told r m x whole em ex =
     let e : m + x ≡ m + (x + 0) = omega arith in
-    sym (zero-sum m x) ∙ ap (λ (k : ℕ). eqb k 0) e ∙ typed header 100 46 refl refl r whole m em x 0 ex (sym (anything (getD r 82 0) (getD r 83 0)))
+    answered header header-laid r _ (sym (zero-sum m x) ∙ ap (λ (k : ℕ). eqb k 0) e ∙ typed header 100 46 refl refl r whole m em x 0 ex (sym (anything (getD r 82 0) (getD r 83 0))))
 
-pub element-told : (r : List ℕ) (m y : ℕ) → length r ≡ 84 → m ≡ doubtsIn (middle element) (getD r 1 0) (drop 2 r) → y ≡ doubt 114 (getD r 82 0) (getD r 83 0) → eqb m 0 && eqb y 0 ≡ surely element r
+pub element-told : (r : List ℕ) (m y : ℕ) → length r ≡ 84 → m ≡ doubtsIn (middle element) (getD r 1 0) (drop 2 r) → y ≡ doubt 114 (getD r 82 0) (getD r 83 0) → Sure element r (eqb m 0 && eqb y 0)
 unfolding middle placesOf placesFor ruled placesIn behind element
 element-told r m y whole em ey =
     let e : m + y ≡ m + (0 + y) = omega arith in
-    sym (zero-sum m y) ∙ ap (λ (k : ℕ). eqb k 0) e ∙ typed element 46 114 refl refl r whole m em 0 y (sym (anything (getD r 81 0) (getD r 82 0))) ey
+    answered element element-laid r _ (sym (zero-sum m y) ∙ ap (λ (k : ℕ). eqb k 0) e ∙ typed element 46 114 refl refl r whole m em 0 y (sym (anything (getD r 81 0) (getD r 82 0))) ey)
 
-pub grid-header-told : (r : List ℕ) (m y : ℕ) → length r ≡ 84 → m ≡ doubtsIn (middle gridHeader) (getD r 1 0) (drop 2 r) → y ≡ doubt 114 (getD r 82 0) (getD r 83 0) → eqb m 0 && eqb y 0 ≡ surely gridHeader r
+pub grid-header-told : (r : List ℕ) (m y : ℕ) → length r ≡ 84 → m ≡ doubtsIn (middle gridHeader) (getD r 1 0) (drop 2 r) → y ≡ doubt 114 (getD r 82 0) (getD r 83 0) → Sure gridHeader r (eqb m 0 && eqb y 0)
 unfolding middle placesOf placesFor ruled placesIn behind gridHeader
 grid-header-told r m y whole em ey =
     let e : m + y ≡ m + (0 + y) = omega arith in
-    sym (zero-sum m y) ∙ ap (λ (k : ℕ). eqb k 0) e ∙ typed gridHeader 46 114 refl refl r whole m em 0 y (sym (anything (getD r 81 0) (getD r 82 0))) ey
+    answered gridHeader grid-header-laid r _ (sym (zero-sum m y) ∙ ap (λ (k : ℕ). eqb k 0) e ∙ typed gridHeader 46 114 refl refl r whole m em 0 y (sym (anything (getD r 81 0) (getD r 82 0))) ey)
 
-pub net-header-told : (r : List ℕ) (m : ℕ) → length r ≡ 84 → m ≡ doubtsIn (middle netHeader) (getD r 1 0) (drop 2 r) → eqb m 0 ≡ surely netHeader r
+pub net-header-told : (r : List ℕ) (m : ℕ) → length r ≡ 84 → m ≡ doubtsIn (middle netHeader) (getD r 1 0) (drop 2 r) → Sure netHeader r (eqb m 0)
 unfolding middle placesOf placesFor ruled placesIn behind netHeader
 net-header-told r m whole em =
     let e : m ≡ m + (0 + 0) = omega arith in
-    ap (λ (k : ℕ). eqb k 0) e ∙ typed netHeader 46 46 refl refl r whole m em 0 0 (sym (anything (getD r 81 0) (getD r 82 0))) (sym (anything (getD r 82 0) (getD r 83 0)))
+    answered netHeader net-header-laid r _ (ap (λ (k : ℕ). eqb k 0) e ∙ typed netHeader 46 46 refl refl r whole m em 0 0 (sym (anything (getD r 81 0) (getD r 82 0))) (sym (anything (getD r 82 0) (getD r 83 0))))
 
-pub data-note-told : (r : List ℕ) (f s m : ℕ) → length r ≡ 84 → f ≡ doubt 49 32 (getD r 0 0) → s ≡ doubt 77 (getD r 0 0) (getD r 1 0) → m ≡ doubtsIn (middle dataNote) (getD r 1 0) (drop 2 r) → (eqb f 0 && eqb s 0) && eqb m 0 ≡ surely dataNote r
+pub data-note-told : (r : List ℕ) (f s m : ℕ) → length r ≡ 84 → f ≡ doubt 49 32 (getD r 0 0) → s ≡ doubt 77 (getD r 0 0) (getD r 1 0) → m ≡ doubtsIn (middle dataNote) (getD r 1 0) (drop 2 r) → Sure dataNote r ((eqb f 0 && eqb s 0) && eqb m 0)
 unfolding middle placesOf placesFor ruled placesIn behind dataNote
 data-note-told r f s m whole ef es em =
     let e : f + s + m ≡ f + (s + (m + (0 + (0 + 0)))) = omega arith in
-    rw (← zero-sum f s, ← zero-sum (f + s) m)
-    (ap (λ (k : ℕ). eqb k 0) e ∙ told dataNote 49 77 46 46 refl refl r whole f s m 0 0 ef es em (sym (anything (getD r 81 0) (getD r 82 0))) (sym (anything (getD r 82 0) (getD r 83 0))))
+    answered dataNote data-note-laid r _
+    (rw (← zero-sum f s, ← zero-sum (f + s) m)
+    (ap (λ (k : ℕ). eqb k 0) e ∙ told dataNote 49 77 46 46 refl refl r whole f s m 0 0 ef es em (sym (anything (getD r 81 0) (getD r 82 0))) (sym (anything (getD r 82 0) (getD r 83 0)))))

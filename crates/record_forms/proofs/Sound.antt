@@ -1,250 +1,22 @@
--- A record of which no byte is in doubt: its columns are well formed and, but for those that must be above 0, inside their rules. Assumes nothing.
-use mathlib.Core.Path.{_≡_, refl, sym}
+-- A record of which no byte is in doubt: its columns are well formed and inside their rules, but for a 0 where a number above 0 is due. Assumes nothing.
+use mathlib.Core.Path.{_≡_, refl, sym, _∙_}
 use mathlib.Core.Bool.{Bool, true, false, cond, _&&_, false≢true}
 use mathlib.Core.List.{List, [], _∷_, _++_}
-use Prim.Native.Nat.{ℕ, zero, suc, _+_, _-_, _≤_, _<_}
+use Prim.Native.Nat.{ℕ, zero, suc, _+_, _≤_}
 use native.Mathlib.Omega.{arith}
-use borrow.Author.Tests.{le-leb, leb-true, ltb-false, eqb-true, eqb-false, ne-eqb}
-use lib.Dec.{eqb, leb, ltb}
-use lib.IntN.{pos, negℤ, natAbs}
-use lib.ListN.{length, take, drop, getD, replicate, length-drop, length-replicate}
+use borrow.Author.Tests.{leb-true, eqb-true}
+use lib.Dec.{eqb, leb}
+use lib.ListN.{length, drop, getD, length-drop}
 use lib.Seq.{drop-drop}
-use Rattle.format.specs.declared.Column.the-variants.{Value}
-use Rattle.format.specs.Column.{strip, isDigit, allDigits, valueOf, isNumber, negative, positive, signed, columnOf, formed, integer}
-use Rattle.format.specs.Layout.{Rule, anySign, atLeast, range, within, oneOf, inside, What, text, blank, integral, integralOrSpaces, Col, column, bytesOf, isFormed, isInside, allFormed, allInside, header, element, gridHeader, netHeader, dataNote}
+use Rattle.format.specs.Layout.{Rule, anySign, atLeast, range, within, oneOf, What, text, blank, integral, integralOrSpaces, Col, column, bytesOf, isFormed, isInside, allFormed, allInside, header, element, gridHeader, netHeader, dataNote}
 use Rattle.format.proofs.Basics.{and-true, true-and}
-use Rattle.byte_forms.specs.Doubt.{leastAt, mostAt}
-use Rattle.byte_forms.specs.Places.{doubtsIn}
-use Rattle.byte_forms.proofs.Neighbours.{Told, t-digit, t-space, t-minus, told, column-after, natural-after, value-after}
-use Rattle.byte_forms.proofs.Doubts.{right-at, doubts-append, length-places, column-right, column-loose}
-use Rattle.record_forms.specs.Sure.{ruled, placesFor, placesOf, surely}
-
--- ---- columns of one and two bytes
-
-digit-zero : isDigit 48 ≡ true
-unfolding isDigit
-digit-zero = refl
-
-module _ (b : ℕ) (d : isDigit b ≡ true) where
-  digit-at-least : 48 ≤ b
-  unfolding isDigit
-  digit-at-least = leb-true 48 b (and-true (leb 48 b) (leb b 57) d .0)
-
-  digit-at-most : b ≤ 57
-  unfolding isDigit
-  digit-at-most = leb-true b 57 (and-true (leb 48 b) (leb b 57) d .1)
-
-  not-this : (n : ℕ) → n < 48 → eqb b n ≡ false
-  not-this n h = ne-eqb b n (λ (e : b ≡ n). omega (arith, digit-at-least))
-
-  value-one : valueOf (b ∷ []) ≡ b - 48
-  unfolding valueOf
-  value-one = omega arith
-
-  one-digit : columnOf (b ∷ []) ≡ Value (pos (b - 48))
-  unfolding columnOf strip signed positive isNumber allDigits
-  one-digit = simp (not-this 32 (omega arith), not-this 45 (omega arith), d, value-one)
-
-  value-two : valueOf (48 ∷ b ∷ []) ≡ b - 48
-  unfolding valueOf
-  value-two = omega arith
-
-  zero-digit : columnOf (48 ∷ b ∷ []) ≡ Value (pos (b - 48))
-  unfolding columnOf strip signed positive isNumber allDigits
-  zero-digit = simp (digit-zero, d, value-two)
-
-  minus-digit : eqb b 48 ≡ false → columnOf (45 ∷ b ∷ []) ≡ Value (negℤ (pos (b - 48)))
-  unfolding columnOf strip signed negative isNumber allDigits
-  minus-digit n =
-      let k : b ≡ 48 → ⊥ = eqb-false b 48 n in
-      simp (d, value-one, ne-eqb (b - 48) 0 (λ (e : b - 48 ≡ 0). k (omega (arith, digit-at-least))))
-
--- ---- a byte at a place of one digit, and at the places of -9 to 9
-
--- a place up to a digit of at most 9
-module _ (m : ℕ) (h : m ≤ 9) where
-  least-up-to : leastAt (48 + m) ≡ 48
-  unfolding leastAt
-  least-up-to = simp (ne-eqb (48 + m) 114 (λ (e : 48 + m ≡ 114). omega arith))
-
-  most-up-to : mostAt (48 + m) ≡ 48 + m
-  unfolding mostAt
-  most-up-to = simp (ne-eqb (48 + m) 90 (λ (e : 48 + m ≡ 90). omega arith)) (go (ltb (48 + m) 57) refl)
-    where
-      go : (t : Bool) → ltb (48 + m) 57 ≡ t → cond t (48 + m) 57 ≡ 48 + m
-      go true e = refl
-      go false e = omega (arith, ltb-false (48 + m) 57 e)
-
-  other : (n : ℕ) → 57 < n → eqb (48 + m) n ≡ false
-  other n g = ne-eqb (48 + m) n (λ (e : 48 + m ≡ n). omega arith)
-
-  up-to : (p b : ℕ) → Told (48 + m) p b → (48 ≤ b) × (b ≤ 48 + m)
-  up-to p b (t-digit l k z) = (leb-true 48 b (rw least-up-to at l), leb-true b (48 + m) (rw most-up-to at k))
-  up-to p b (t-space e x f) = absurd (false≢true (simp (other 83 (omega arith), other 77 (omega arith), other 90 (omega arith), other 115 (omega arith), other 109 (omega arith)) at x))
-  up-to p b (t-minus e x f) = absurd (false≢true (simp (other 77 (omega arith), other 109 (omega arith), other 90 (omega arith)) at x))
-
-one-to-nine : (p b : ℕ) → Told 114 p b → (49 ≤ b) × (b ≤ 57)
-unfolding leastAt mostAt
-one-to-nine p b (t-digit l k z) = (leb-true 49 b l, leb-true b 57 k)
-one-to-nine p b (t-space e x f) = absurd (false≢true x)
-one-to-nine p b (t-minus e x f) = absurd (false≢true x)
-
-nothing : (p b : ℕ) → Told 33 p b → ⊥
-unfolding leastAt mostAt
-nothing p b (t-digit l k z) = omega (arith, leb-true 48 b l, leb-true b 33 k)
-nothing p b (t-space e x f) = false≢true x
-nothing p b (t-minus e x f) = false≢true x
-
-is-digit : (b : ℕ) → 48 ≤ b → b ≤ 57 → isDigit b ≡ true
-unfolding isDigit
-is-digit b h k = true-and (leb 48 b) (leb b 57) (le-leb 48 b h) (le-leb b 57 k)
-
-last-digit : (p b : ℕ) → Told 100 p b → (isDigit b ≡ true) × (eqb p 45 && eqb b 48 ≡ false)
-unfolding leastAt mostAt isDigit
-last-digit p b (t-digit l k z) = (true-and (leb 48 b) (leb b 57) l k, z)
-last-digit p b (t-space e x f) = absurd (false≢true x)
-last-digit p b (t-minus e x f) = absurd (false≢true x)
-
--- well formed, and inside its rule
-abbrev Good : Rule → List ℕ → Type 0
-Good rule bs = (formed (columnOf bs) ≡ true) × (inside rule (integer (columnOf bs)) ≡ true)
-
-in-range : (n m b : ℕ) → isDigit b ≡ true → n ≤ b - 48 → b - 48 ≤ m → Good (range n m) (b ∷ [])
-in-range n m b d h k = rw (one-digit b d) (refl, true-and (leb n (b - 48)) (leb (b - 48) m) (le-leb n (b - 48) h) (le-leb (b - 48) m k))
-
-abs-minus : (n : ℕ) → natAbs (negℤ (pos n)) ≡ n
-abs-minus zero = refl
-abs-minus (suc n) = refl
-
-within-nine : (p b q : ℕ) → Told 90 p b → Told 100 b q → Good (within 9) (b ∷ q ∷ [])
-unfolding leastAt mostAt columnOf strip
-within-nine p b q (t-digit l k z) t =
-    let d = last-digit b q t .0 in
-    let e : b ≡ 48 = omega (arith, leb-true 48 b l, leb-true b 48 k) in
-    rw (e, zero-digit q d) (refl, le-leb (q - 48) 9 (omega (arith, digit-at-most q d)))
-within-nine p b q (t-space e x f) t =
-    let d = last-digit b q t .0 in
-    rw e (rw (one-digit q d) (refl, le-leb (q - 48) 9 (omega (arith, digit-at-most q d))))
-within-nine p b q (t-minus e x f) t =
-    let d = last-digit b q t .0 in
-    let n : eqb q 48 ≡ false = rw e at (last-digit b q t .1) in
-    rw (e, minus-digit q d n) (refl, rw (abs-minus (q - 48)) (le-leb (q - 48) 9 (omega (arith, digit-at-most q d))))
-
--- ---- one column
-
-never : (w p : ℕ) (l : List ℕ) → 0 < w → w ≤ length l → doubtsIn (replicate w 33) p l ≡ 0 → ⊥
-unfolding doubtsIn
-never zero p l g h e = omega arith
-never (suc w) p [] g h e = omega arith
-never (suc w) p (b ∷ bs) g h e = nothing p b (told 33 p b refl (right-at 33 p b (omega arith)))
-
--- a rule that asks for a number above 0, of which the places say nothing
-abbrev pub aboveZero : Rule → Bool
-aboveZero anySign = false
-aboveZero (atLeast zero) = false
-aboveZero (atLeast (suc n)) = true
-aboveZero (range n m) = false
-aboveZero (within n) = false
-aboveZero (oneOf ns) = false
-
-abbrev Sound : Rule → List ℕ → Type 0
-Sound rule bs = (formed (columnOf bs) ≡ true) × (aboveZero rule ≡ false → inside rule (integer (columnOf bs)) ≡ true)
-
-digit-sound : (n m w p : ℕ) (l : List ℕ) → w ≡ 1 → n ≡ 0 → m ≤ 9 → w ≤ length l → doubtsIn ((48 + m) ∷ []) p l ≡ 0 → Good (range n m) (take w l)
-unfolding doubtsIn
-digit-sound n m w p [] ew en hm h e = absurd (omega arith)
-digit-sound n m w p (b ∷ bs) ew en hm h e =
-    let t = up-to m hm p b (told (48 + m) p b (ne-eqb (48 + m) 46 (λ (q : 48 + m ≡ 46). omega arith)) (right-at (48 + m) p b (omega arith))) in
-    let k : 48 ≤ b = t .0 in
-    let j : b ≤ 48 + m = t .1 in
-    rw (ew, en) (in-range 0 m b (is-digit b k (omega arith)) (omega arith) (omega arith))
-
-nine-sound : (n m w p : ℕ) (l : List ℕ) → w ≡ 1 → n ≡ 1 → m ≡ 9 → w ≤ length l → doubtsIn (114 ∷ []) p l ≡ 0 → Good (range n m) (take w l)
-unfolding doubtsIn
-nine-sound n m w p [] ew en em h e = absurd (omega arith)
-nine-sound n m w p (b ∷ bs) ew en em h e =
-    let t = one-to-nine p b (told 114 p b refl (right-at 114 p b (omega arith))) in
-    let k : 49 ≤ b = t .0 in
-    let j : b ≤ 57 = t .1 in
-    rw (ew, en, em) (in-range 1 9 b (is-digit b (omega arith) j) (omega arith) (omega arith))
-
-two-sound : (n w p : ℕ) (l : List ℕ) → w ≡ 2 → n ≡ 9 → w ≤ length l → doubtsIn (90 ∷ 100 ∷ []) p l ≡ 0 → Good (within n) (take w l)
-unfolding doubtsIn
-two-sound n w p [] ew en h e = absurd (omega arith)
-two-sound n w p (b ∷ []) ew en h e = absurd (omega arith)
-two-sound n w p (b ∷ q ∷ bs) ew en h e =
-    rw (ew, en) (within-nine p b q (told 90 p b refl (right-at 90 p b (omega arith))) (told 100 b q refl (right-at 100 b q (omega arith))))
-
-range-sound : (n m w p : ℕ) (l : List ℕ) → 0 < w → w ≤ length l → doubtsIn (ruled (range n m) w) p l ≡ 0 → Good (range n m) (take w l)
-unfolding ruled
-range-sound n m w p l g h = go (eqb w 1 && (eqb n 0 && leb m 9)) (eqb w 1 && (eqb n 1 && eqb m 9)) refl refl
-  where
-    go : (t u : Bool) → eqb w 1 && (eqb n 0 && leb m 9) ≡ t → eqb w 1 && (eqb n 1 && eqb m 9) ≡ u → doubtsIn (cond t ((48 + m) ∷ []) (cond u (114 ∷ []) (replicate w 33))) p l ≡ 0 → Good (range n m) (take w l)
-    go true u et eu e =
-        let a = and-true (eqb w 1) (eqb n 0 && leb m 9) et in
-        let b = and-true (eqb n 0) (leb m 9) (a .1) in
-        digit-sound n m w p l (eqb-true w 1 (a .0)) (eqb-true n 0 (b .0)) (leb-true m 9 (b .1)) h e
-    go false true et eu e =
-        let a = and-true (eqb w 1) (eqb n 1 && eqb m 9) eu in
-        let b = and-true (eqb n 1) (eqb m 9) (a .1) in
-        nine-sound n m w p l (eqb-true w 1 (a .0)) (eqb-true n 1 (b .0)) (eqb-true m 9 (b .1)) h e
-    go false false et eu e = absurd (never w p l g h e)
-
-within-sound : (n w p : ℕ) (l : List ℕ) → 0 < w → w ≤ length l → doubtsIn (ruled (within n) w) p l ≡ 0 → Good (within n) (take w l)
-unfolding ruled
-within-sound n w p l g h = go (eqb w 2 && eqb n 9) refl
-  where
-    go : (t : Bool) → eqb w 2 && eqb n 9 ≡ t → doubtsIn (cond t (90 ∷ 100 ∷ []) (replicate w 33)) p l ≡ 0 → Good (within n) (take w l)
-    go true et e = let a = and-true (eqb w 2) (eqb n 9) et in two-sound n w p l (eqb-true w 2 (a .0)) (eqb-true n 9 (a .1)) h e
-    go false et e = absurd (never w p l g h e)
-
-rule-sound : (rule : Rule) (w p : ℕ) (l : List ℕ) → 0 < w → w ≤ length l → doubtsIn (ruled rule w) p l ≡ 0 → Sound rule (take w l)
-unfolding ruled
-rule-sound anySign w p l g h e = (column-after refl (column-right true w p l g h e), λ t. refl)
-rule-sound (atLeast zero) w p l g h e = let r = column-right false w p l g h e in (column-after refl r, λ t. natural-after refl r)
-rule-sound (atLeast (suc n)) w p l g h e = (column-after refl (column-right false w p l g h e), λ t. absurd (false≢true (sym t)))
-rule-sound (range n m) w p l g h e = let r = range-sound n m w p l g h e in (r .0, λ t. r .1)
-rule-sound (within n) w p l g h e = let r = within-sound n w p l g h e in (r .0, λ t. r .1)
-rule-sound (oneOf ns) w p l g h e = absurd (never w p l g h e)
-
-abbrev pub asksMore : What → Bool
-asksMore text = false
-asksMore blank = false
-asksMore (integral rule) = aboveZero rule
-asksMore integralOrSpaces = false
-
-column-sound : (k : What) (w p : ℕ) (l : List ℕ) → 0 < w → w ≤ length l → doubtsIn (placesFor k w) p l ≡ 0 → (isFormed k (take w l) ≡ true) × (asksMore k ≡ false → isInside k (take w l) ≡ true)
-unfolding placesFor
-column-sound text w p l g h e = (refl, λ t. refl)
-column-sound blank w p l g h e = (refl, λ t. refl)
-column-sound (integral rule) w p l g h e = rule-sound rule w p l g h e
-column-sound integralOrSpaces w p l g h e = (value-after refl (column-loose w p l g h e), λ t. refl)
+use Rattle.byte_forms.specs.Places.{placesFor, doubtsIn}
+use Rattle.byte_forms.specs.Told.{fromZero, zeroAllowed, NoFault}
+use Rattle.byte_forms.proofs.Doubts.{doubts-append}
+use Rattle.byte_forms.proofs.Rules.{length-for, no-fault}
+use Rattle.record_forms.specs.Sure.{placesOf, surely, zerosAllowed, Sure}
 
 -- ---- a layout
-
-length-ruled : (rule : Rule) (w : ℕ) → length (ruled rule w) ≡ w
-unfolding ruled
-length-ruled anySign w = length-places 77 109 100 w
-length-ruled (atLeast n) w = length-places 83 115 100 w
-length-ruled (range n m) w = go (eqb w 1 && (eqb n 0 && leb m 9)) (eqb w 1 && (eqb n 1 && eqb m 9)) refl refl
-  where
-    go : (t u : Bool) → eqb w 1 && (eqb n 0 && leb m 9) ≡ t → eqb w 1 && (eqb n 1 && eqb m 9) ≡ u → length (cond t ((48 + m) ∷ []) (cond u (114 ∷ []) (replicate w 33))) ≡ w
-    go true u et eu = sym (eqb-true w 1 (and-true (eqb w 1) (eqb n 0 && leb m 9) et .0))
-    go false true et eu = sym (eqb-true w 1 (and-true (eqb w 1) (eqb n 1 && eqb m 9) eu .0))
-    go false false et eu = length-replicate w 33
-length-ruled (within n) w = go (eqb w 2 && eqb n 9) refl
-  where
-    go : (t : Bool) → eqb w 2 && eqb n 9 ≡ t → length {A = ℕ} (cond t (90 ∷ 100 ∷ []) (replicate w 33)) ≡ w
-    go true et = sym (eqb-true w 2 (and-true (eqb w 2) (eqb n 9) et .0))
-    go false et = length-replicate w 33
-length-ruled (oneOf ns) w = length-replicate w 33
-
-length-for : (k : What) (w : ℕ) → length (placesFor k w) ≡ w
-unfolding placesFor
-length-for text w = length-replicate w 46
-length-for blank w = length-replicate w 46
-length-for (integral rule) w = length-ruled rule w
-length-for integralOrSpaces w = length-places 77 109 115 w
 
 -- every column has a byte and starts where the one before it ends, and the last ends at 84
 abbrev pub laidOut : ℕ → List Col → Bool
@@ -258,11 +30,6 @@ ends-by-84 at (c ∷ cs) h =
     let b = and-true (leb 1 (c .width)) (laidOut (at + c .width) cs) (a .1) in
     omega (arith, ends-by-84 (at + c .width) cs (b .1))
 
--- the columns that must be above 0, of which the places say only that they are well formed
-unfoldable pub aboveZeros : List Col → List Col
-aboveZeros [] = []
-aboveZeros (c ∷ cs) = cond (asksMore (c .what)) (c ∷ aboveZeros cs) (aboveZeros cs)
-
 module _ (r : List ℕ) (whole : length r ≡ 84) where
   split : (k : What) (w at p : ℕ) (cs : List Col) → at + w ≤ 84 → doubtsIn (placesFor k w ++ placesOf cs) p (drop at r) ≡ 0 → (doubtsIn (placesFor k w) p (drop at r) ≡ 0) × (doubtsIn (placesOf cs) (getD (p ∷ drop at r) w 0) (drop (at + w) r) ≡ 0)
   split k w at p cs h e =
@@ -270,12 +37,12 @@ module _ (r : List ℕ) (whole : length r ≡ 84) where
       let s = rw (length-for k w, drop-drop w at r) at (doubts-append (placesFor k w) (placesOf cs) p (drop at r) f) in
       (omega arith, omega arith)
 
-  one : (k : What) (w at p : ℕ) → 0 < w → at + w ≤ 84 → doubtsIn (placesFor k w) p (drop at r) ≡ 0 → (isFormed k (column at w r) ≡ true) × (asksMore k ≡ false → isInside k (column at w r) ≡ true)
+  one : (k : What) (w at p : ℕ) → 1 ≤ w → at + w ≤ 84 → doubtsIn (placesFor k w) p (drop at r) ≡ 0 → NoFault k (column at w r)
   unfolding column
-  one k w at p g h e = column-sound k w p (drop at r) g (rw (length-drop at r) (omega arith)) e
+  one k w at p g h e = no-fault k w p (drop at r) g (rw (length-drop at r) (omega arith)) e
 
-  sound : (cs : List Col) (at p : ℕ) → laidOut at cs ≡ true → doubtsIn (placesOf cs) p (drop at r) ≡ 0 → (allFormed cs r ≡ true) × (allInside cs r ≡ allInside (aboveZeros cs) r)
-  unfolding placesOf allFormed allInside aboveZeros
+  sound : (cs : List Col) (at p : ℕ) → laidOut at cs ≡ true → doubtsIn (placesOf cs) p (drop at r) ≡ 0 → (allFormed cs r ≡ true) × (allInside (zerosAllowed cs) r ≡ true)
+  unfolding placesOf allFormed allInside zerosAllowed
   sound [] at p h e = (refl, refl)
   sound (c ∷ cs) at p h e =
       let a = and-true (eqb (c .start) at) (leb 1 (c .width) && laidOut (at + c .width) cs) h in
@@ -285,28 +52,89 @@ module _ (r : List ℕ) (whole : length r ≡ 84) where
       let s = split (c .what) (c .width) at p cs n e in
       let i = sound cs (at + c .width) (getD (p ∷ drop at r) (c .width) 0) (b .1) (s .1) in
       let t = rw (← eqb-true (c .start) at (a .0)) at (one (c .what) (c .width) at p g n (s .0)) in
-      (true-and (isFormed (c .what) (bytesOf c r)) (allFormed cs r) (t .0) (i .0), go (asksMore (c .what)) refl (t .1) (i .1))
-    where
-      go : (m : Bool) → asksMore (c .what) ≡ m → (asksMore (c .what) ≡ false → isInside (c .what) (bytesOf c r) ≡ true) → allInside cs r ≡ allInside (aboveZeros cs) r → isInside (c .what) (bytesOf c r) && allInside cs r ≡ allInside (cond m (c ∷ aboveZeros cs) (aboveZeros cs)) r
-      go true em f i = rw i
-      go false em f i = rw (f em, i)
+      (true-and (isFormed (c .what) (bytesOf c r)) (allFormed cs r) (t .is-formed) (i .0), true-and (isInside (zeroAllowed (c .what)) (bytesOf c r)) (allInside (zerosAllowed cs) r) (t .is-inside) (i .1))
 
--- ---- what callers cite
+-- ---- what is answered of a record
 
-module _ (layout : List Col) (laid : laidOut 0 layout ≡ true) (r : List ℕ) (sure : surely layout r ≡ true) where
-  pub sure-record : length r ≡ 84
-  unfolding surely
-  sure-record = eqb-true (length r) 84 (and-true (eqb (length r) 84) (eqb (doubtsIn (placesOf layout) 32 r) 0) sure .0)
+-- bytes that are no record are in doubt
+pub none : (layout : List Col) (r : List ℕ) → false ≡ surely layout r → Sure layout r false
+none layout r e =
+    record {
+      is = e;
+      whole = λ t. absurd (false≢true t);
+      all-formed = λ t. absurd (false≢true t);
+      all-inside = λ t. absurd (false≢true t);
+    }
 
-  no-doubt : doubtsIn (placesOf layout) 32 r ≡ 0
-  unfolding surely
-  no-doubt = eqb-true _ 0 (and-true (eqb (length r) 84) (eqb (doubtsIn (placesOf layout) 32 r) 0) sure .1)
+module _ (layout : List Col) (laid : laidOut 0 layout ≡ true) (r : List ℕ) where
+  module _ (sure : surely layout r ≡ true) where
+    sure-record : length r ≡ 84
+    unfolding surely
+    sure-record = eqb-true (length r) 84 (and-true (eqb (length r) 84) (eqb (doubtsIn (placesOf layout) 32 r) 0) sure .0)
 
-  pub sure-formed : allFormed layout r ≡ true
-  sure-formed = sound r sure-record layout 0 32 laid no-doubt .0
+    no-doubt : doubtsIn (placesOf layout) 32 r ≡ 0
+    unfolding surely
+    no-doubt = eqb-true _ 0 (and-true (eqb (length r) 84) (eqb (doubtsIn (placesOf layout) 32 r) 0) sure .1)
 
-  pub sure-inside : allInside layout r ≡ allInside (aboveZeros layout) r
-  sure-inside = sound r sure-record layout 0 32 laid no-doubt .1
+    both : (allFormed layout r ≡ true) × (allInside (zerosAllowed layout) r ≡ true)
+    both = sound r sure-record layout 0 32 laid no-doubt
+
+  pub answered : (t : Bool) → t ≡ surely layout r → Sure layout r t
+  answered t e =
+      record {
+        is = e;
+        whole = λ h. sure-record (sym e ∙ h);
+        all-formed = λ h. both (sym e ∙ h) .0;
+        all-inside = λ h. both (sym e ∙ h) .1;
+      }
+
+-- ---- what callers cite: the columns that must be above 0, of which nothing more is said than that they are at least 0
+
+abbrev pub aboveZero : Rule → Bool
+aboveZero anySign = false
+aboveZero (atLeast zero) = false
+aboveZero (atLeast (suc n)) = true
+aboveZero (range n m) = false
+aboveZero (within n) = false
+aboveZero (oneOf ns) = false
+
+abbrev pub asksMore : What → Bool
+asksMore text = false
+asksMore blank = false
+asksMore (integral rule) = aboveZero rule
+asksMore integralOrSpaces = false
+
+unfoldable pub aboveZeros : List Col → List Col
+aboveZeros [] = []
+aboveZeros (c ∷ cs) = cond (asksMore (c .what)) (c ∷ aboveZeros cs) (aboveZeros cs)
+
+same-rule : (rule : Rule) → aboveZero rule ≡ false → fromZero rule ≡ rule
+same-rule anySign e = refl
+same-rule (atLeast zero) e = refl
+same-rule (atLeast (suc n)) e = absurd (false≢true (sym e))
+same-rule (range n m) e = refl
+same-rule (within n) e = refl
+same-rule (oneOf ns) e = refl
+
+same : (k : What) → asksMore k ≡ false → zeroAllowed k ≡ k
+same text e = refl
+same blank e = refl
+same (integral rule) e = rw (same-rule rule e)
+same integralOrSpaces e = refl
+
+-- where 0 is allowed, the others alone are left to ask
+pub left-to-ask : (cs : List Col) (r : List ℕ) → allInside (zerosAllowed cs) r ≡ true → allInside cs r ≡ allInside (aboveZeros cs) r
+unfolding allInside zerosAllowed aboveZeros
+left-to-ask [] r h = refl
+left-to-ask (c ∷ cs) r h =
+    let a = and-true (isInside (zeroAllowed (c .what)) (bytesOf c r)) (allInside (zerosAllowed cs) r) h in
+    go (asksMore (c .what)) refl (a .0) (left-to-ask cs r (a .1))
+  where
+    go : (m : Bool) → asksMore (c .what) ≡ m → isInside (zeroAllowed (c .what)) (bytesOf c r) ≡ true → allInside cs r ≡ allInside (aboveZeros cs) r → isInside (c .what) (bytesOf c r) && allInside cs r ≡ allInside (cond m (c ∷ aboveZeros cs) (aboveZeros cs)) r
+    go true em f i = rw i
+    go false em f i = rw (rw (same (c .what) em) at f, i)
+
+-- ---- the five layouts
 
 pub header-laid : laidOut 0 header ≡ true
 unfolding header

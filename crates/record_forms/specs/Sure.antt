@@ -1,30 +1,13 @@
--- The places of a layout's bytes, and records of which no byte is in doubt. What such a record is without shows in proofs/Sound. Assumes nothing.
-use mathlib.Core.Bool.{Bool, cond, _&&_}
+-- The places of a layout's bytes, records of which no byte is in doubt, and what such a record is without. Assumes nothing.
+use mathlib.Core.Path.{_≡_}
+use mathlib.Core.Bool.{Bool, true, _&&_}
 use mathlib.Core.List.{List, [], _∷_, _++_}
-use Prim.Native.Nat.{ℕ, _+_}
-use lib.Dec.{eqb, leb}
-use lib.ListN.{length, replicate}
-use Rattle.format.specs.Layout.{Rule, anySign, atLeast, range, within, oneOf, What, text, blank, integral, integralOrSpaces, Col}
-use Rattle.byte_forms.specs.Places.{placesIn, doubtsIn}
-
--- the places of an integer by its rule: of any sign ('M', 'm', 'd'); of at least 0 ('S', 's', 'd'); one digit from 0, or from 1 to 9 ('r'); two bytes from
--- -9 to 9 ('Z', 'd'). At the places of another rule every byte is in doubt ('!', 33)
-unfoldable pub ruled : Rule → ℕ → List ℕ
-ruled anySign width = placesIn 77 109 100 width
-ruled (atLeast n) width = placesIn 83 115 100 width
-ruled (range n m) width =
-    cond (eqb width 1 && (eqb n 0 && leb m 9)) ((48 + m) ∷ [])
-    (cond (eqb width 1 && (eqb n 1 && eqb m 9)) (114 ∷ [])
-    (replicate width 33))
-ruled (within n) width = cond (eqb width 2 && eqb n 9) (90 ∷ 100 ∷ []) (replicate width 33)
-ruled (oneOf ns) width = replicate width 33
-
--- where anything may stand ('.'); and a column that may hold spaces alone, whose last byte is as one behind the first ('M', 'm', 's')
-unfoldable pub placesFor : What → ℕ → List ℕ
-placesFor text width = replicate width 46
-placesFor blank width = replicate width 46
-placesFor (integral rule) width = ruled rule width
-placesFor integralOrSpaces width = placesIn 77 109 115 width
+use Prim.Native.Nat.{ℕ}
+use lib.Dec.{eqb}
+use lib.ListN.{length}
+use Rattle.format.specs.Layout.{Col, allFormed, allInside}
+use Rattle.byte_forms.specs.Places.{placesFor, doubtsIn}
+use Rattle.byte_forms.specs.Told.{zeroAllowed}
 
 unfoldable pub placesOf : List Col → List ℕ
 placesOf [] = []
@@ -33,3 +16,16 @@ placesOf (c ∷ cs) = placesFor (c .what) (c .width) ++ placesOf cs
 -- a record of which no byte is in doubt
 unfoldable pub surely : List Col → List ℕ → Bool
 surely layout r = eqb (length r) 84 && eqb (doubtsIn (placesOf layout) 32 r) 0
+
+-- a layout with 0 allowed where a number above 0 is due
+unfoldable pub zerosAllowed : List Col → List Col
+zerosAllowed [] = []
+zerosAllowed (c ∷ cs) = record { name = c .name; start = c .start; width = c .width; what = zeroAllowed (c .what) } ∷ zerosAllowed cs
+
+-- what is answered of a record: whether no byte of it is in doubt. And what that means: then it has 84 bytes, every integer column of the layout is
+-- well formed, and every number is inside its range or list, but for a 0 where a number above 0 is due
+pub record Sure (layout : List Col) (r : List ℕ) (answer : Bool) : Type 0 where
+  pub is : answer ≡ surely layout r
+  pub whole : answer ≡ true → length r ≡ 84
+  pub all-formed : answer ≡ true → allFormed layout r ≡ true
+  pub all-inside : answer ≡ true → allInside (zerosAllowed layout) r ≡ true

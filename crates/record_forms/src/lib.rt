@@ -6,7 +6,7 @@ ghost use mathlib.Core.Path.{_≡_};
 ghost use lib.ListN.{length, getD, drop};
 ghost use Rattle.format.specs.Layout.{header, element, gridHeader, netHeader, dataNote};
 ghost use Rattle.byte_forms.specs.Places.{doubtsIn};
-ghost use Rattle.record_forms.specs.Sure.{surely};
+ghost use Rattle.record_forms.specs.Sure.{Sure};
 use byte_forms::doubt_at;
 
 // "records of 84 bytes"
@@ -43,7 +43,7 @@ fn middle_doubts(record: &[u8], places: &[u8; 80]) -> u8
 }
 
 pub fn header_sure(record: &[u8]) -> bool
-    ensures { λ r. ⌜ r ≡ surely header (now («record» .entry)) ⌝ }
+    ensures { λ r. ⌜ Sure header (now («record» .entry)) r ⌝ }
 {
     if record.len() != RECORD {
         return false;
@@ -55,7 +55,7 @@ pub fn header_sure(record: &[u8]) -> bool
 }
 
 pub fn element_sure(record: &[u8]) -> bool
-    ensures { λ r. ⌜ r ≡ surely element (now («record» .entry)) ⌝ }
+    ensures { λ r. ⌜ Sure element (now («record» .entry)) r ⌝ }
 {
     if record.len() != RECORD {
         return false;
@@ -67,7 +67,7 @@ pub fn element_sure(record: &[u8]) -> bool
 }
 
 pub fn grid_header_sure(record: &[u8]) -> bool
-    ensures { λ r. ⌜ r ≡ surely gridHeader (now («record» .entry)) ⌝ }
+    ensures { λ r. ⌜ Sure gridHeader (now («record» .entry)) r ⌝ }
 {
     if record.len() != RECORD {
         return false;
@@ -79,7 +79,7 @@ pub fn grid_header_sure(record: &[u8]) -> bool
 }
 
 pub fn net_header_sure(record: &[u8]) -> bool
-    ensures { λ r. ⌜ r ≡ surely netHeader (now («record» .entry)) ⌝ }
+    ensures { λ r. ⌜ Sure netHeader (now («record» .entry)) r ⌝ }
 {
     if record.len() != RECORD {
         return false;
@@ -90,7 +90,7 @@ pub fn net_header_sure(record: &[u8]) -> bool
 }
 
 pub fn data_note_sure(record: &[u8]) -> bool
-    ensures { λ r. ⌜ r ≡ surely dataNote (now («record» .entry)) ⌝ }
+    ensures { λ r. ⌜ Sure dataNote (now («record» .entry)) r ⌝ }
 {
     if record.len() != RECORD {
         return false;

@@ -1,6 +1,7 @@
--- `byte_forms::doubt_at` meets its contract: its tests are those of `surelyRight`, one by one. Assumes nothing.
+-- `byte_forms::doubt_at` meets its contract: its tests are those of `surelyRight`, one by one, and `no-fault` says what that means for a column. Assumes nothing.
 use borrow.Author.Needs.{needs}
 use Rattle.byte_forms.specs.Doubt.{surelyRight, doubt}
+use Rattle.byte_forms.proofs.Rules.{answered}
 use Rattle.byte_forms.proofs.doubt_at.Statement.{statement}
 use Rattle.byte_forms.proofs.doubt_at.Tie as tie
 
@@ -12,11 +13,11 @@ most-at-requires c κs = search needs
 
 returns : tie.Need-returns
 unfolding doubt surelyRight
-returns c = simp (simp (c .before .before .least-at .ensures, c .before .most-at .ensures) at (c .if1 .taken))
+returns c = answered _ _ _ _ (simp (simp (c .before .before .least-at .ensures, c .before .most-at .ensures) at (c .if1 .taken)))
 
 returns-2 : tie.Need-returns-2
 unfolding doubt surelyRight
-returns-2 c = simp (simp (c .before .before .least-at .ensures, c .before .most-at .ensures) at (c .if1 .left))
+returns-2 c = answered _ _ _ _ (simp (simp (c .before .before .least-at .ensures, c .before .most-at .ensures) at (c .if1 .left)))
 
 pub doubt-at-spec : {M : Type 1} → statement M
 doubt-at-spec = tie.close (tie.spec least-at-requires most-at-requires returns returns-2)

@@ -52,7 +52,7 @@ doubt-at-requires-3 : tie.Need-doubt-at-requires-3 Inv-loop μ-loop
 doubt-at-requires-3 c κs = search needs
 
 add-front : tie.Need-add-front Inv-loop μ-loop
-add-front c = omega (arith, at-most-one _ _ _ _ (c .doubt-at3 .ensures))
+add-front c = omega (arith, at-most-one _ _ _ _ (c .doubt-at3 .ensures .is))
 
 array-read-doubt-at-2 : tie.Need-array-read-doubt-at-2 Inv-loop μ-loop
 array-read-doubt-at-2 c = search needs
@@ -76,7 +76,7 @@ doubt-at-requires-4 : tie.Need-doubt-at-requires-4 Inv-loop μ-loop
 doubt-at-requires-4 c κs = search needs
 
 add-back : tie.Need-add-back Inv-loop μ-loop
-add-back c = omega (arith, at-most-one _ _ _ _ (c .doubt-at4 .ensures))
+add-back c = omega (arith, at-most-one _ _ _ _ (c .doubt-at4 .ensures .is))
 
 add-i : tie.Need-add-i Inv-loop μ-loop
 add-i c = search needs

@@ -55,7 +55,7 @@ counted-requires : tie.Need-counted-requires Inv-loop μ-loop
 counted-requires c κs = search needs
 
 add-doubts : tie.Need-add-doubts Inv-loop μ-loop
-add-doubts c = omega (arith, counted-small _ _ _ _ _ _ (c .counted .ensures) (c .before .doubt-at2 .ensures))
+add-doubts c = omega (arith, counted-small _ _ _ _ _ _ (c .counted .ensures) (c .before .doubt-at2 .ensures .is))
 
 add-i : tie.Need-add-i Inv-loop μ-loop
 add-i c = search needs
@@ -69,7 +69,7 @@ loop-again c =
     let k = c .before .before .before .before .before .loop in
     let a = c .before .before .before .before .before .before .before .before .before in (
       search needs,
-      few-next-doubt (a .args .bytes .now) (a .args .at) (a .args .count) (a .pre .2) (c .counted .result) (c .before .doubt-at2 .result) (k .i) (k .doubts) (c .counted .ensures) (c .before .doubt-at2 .ensures) (search needs) (k .inv .1),
+      few-next-doubt (a .args .bytes .now) (a .args .at) (a .args .count) (a .pre .2) (c .counted .result) (c .before .doubt-at2 .result) (k .i) (k .doubts) (c .counted .ensures) (c .before .doubt-at2 .ensures .is) (search needs) (k .inv .1),
     )
 
 returns : tie.Need-returns Inv-loop μ-loop

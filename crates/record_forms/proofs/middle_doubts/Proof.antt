@@ -48,7 +48,7 @@ doubt-at-requires c κs = search needs
 
 -- src/lib.rt:40:18
 add-doubts : tie.Need-add-doubts Inv-loop μ-loop
-add-doubts c = omega (arith, at-most-one _ _ _ _ (c .doubt-at .ensures))
+add-doubts c = omega (arith, at-most-one _ _ _ _ (c .doubt-at .ensures .is))
 
 -- src/lib.rt:41:9
 add-i : tie.Need-add-i Inv-loop μ-loop
