@@ -5,12 +5,14 @@ use mathlib.Core.List.{List}
 use Prim.Native.Nat.{ℕ, zero, suc, _+_, _-_, _*_, _/_, _≤_, _<_}
 use native.Mathlib.Nat.{zero-add, suc-add}
 use native.Mathlib.Omega.{arith}
-use borrow.Author.Tests.{le-leb, lt-leb}
+use borrow.Author.Tests.{le-leb, lt-leb, leb-true}
+use lib.Dec.{leb}
 use lib.ListN.{length, take, drop}
 use lib.Seq.{drop-drop}
 use Rattle.format.specs.Column.{columnOf, formed}
+use Rattle.format.specs.Layout.{column}
 use Rattle.format.proofs.Basics.{and-true, true-and}
-use Rattle.data_columns.specs.Columns.{eachFormed, columnsFormed}
+use Rattle.data_columns.specs.Columns.{eachFormed, columnsFormed, Told}
 
 -- ---- two ends
 
@@ -74,16 +76,50 @@ no-column l at zero true all h k = k
 no-column l at zero false all h k = k
 no-column l at (suc n) good all h k = absurd (omega arith)
 
+-- ---- column by column
+
+nth-formed : (count : ℕ) (l : List ℕ) → eachFormed count l ≡ true → (n : ℕ) → n < count → formed (columnOf (take 7 (drop (n * 7) l))) ≡ true
+unfolding eachFormed
+nth-formed zero l e n h = absurd (omega arith)
+nth-formed (suc m) l e zero h = and-true (formed (columnOf (take 7 l))) (eachFormed m (drop 7 l)) e .0
+nth-formed (suc m) l e (suc n) h =
+    let k : 7 + n * 7 ≡ suc n * 7 = omega arith in
+    rw (← k, ← drop-drop (n * 7) 7 l) (nth-formed m (drop 7 l) (and-true (formed (columnOf (take 7 l))) (eachFormed m (drop 7 l)) e .1) n (omega arith))
+
+all-formed : (count : ℕ) (l : List ℕ) → ((n : ℕ) → n < count → formed (columnOf (take 7 (drop (n * 7) l))) ≡ true) → eachFormed count l ≡ true
+unfolding eachFormed
+all-formed zero l f = refl
+all-formed (suc m) l f =
+    true-and (formed (columnOf (take 7 l))) (eachFormed m (drop 7 l)) (f 0 (omega arith))
+    (all-formed m (drop 7 l) (λ (n : ℕ) (h : n < m).
+    let k : 7 + n * 7 ≡ suc n * 7 = omega arith in
+    rw (drop-drop (n * 7) 7 l, k) (f (suc n) (omega arith))))
+
+answered : (l : List ℕ) (start count : ℕ) (r : Bool) → r ≡ columnsFormed l start count → Told l start count r
+unfolding columnsFormed column
+answered l start count r e =
+    record {
+      is = e;
+      room = λ t. leb-true (start + count * 7) (length l) (parts t .0);
+      each = λ t n h. rw (← drop-drop (n * 7) start l) (nth-formed count (drop start l) (parts t .1) n h);
+      only = λ h f.
+          e ∙ true-and (leb (start + count * 7) (length l)) (eachFormed count (drop start l)) (le-leb (start + count * 7) (length l) h)
+          (all-formed count (drop start l) (λ (n : ℕ) (k : n < count). rw (drop-drop (n * 7) start l) (f n k)));
+    }
+  where
+    parts : r ≡ true → (leb (start + count * 7) (length l) ≡ true) × (eachFormed count (drop start l) ≡ true)
+    parts t = and-true (leb (start + count * 7) (length l)) (eachFormed count (drop start l)) (sym e ∙ t)
+
 -- ---- whether the columns lie in the bytes
 
-pub starts-outside : (l : List ℕ) (start count : ℕ) → length l < start → false ≡ columnsFormed l start count
+pub starts-outside : (l : List ℕ) (start count : ℕ) → length l < start → Told l start count false
 unfolding columnsFormed
-starts-outside l start count h = simp (lt-leb (start + count * 7) (length l) (omega arith))
+starts-outside l start count h = answered l start count false (simp (lt-leb (start + count * 7) (length l) (omega arith)))
 
-pub ends-outside : (l : List ℕ) (start count : ℕ) → start ≤ length l → (length l - start) / 7 < count → false ≡ columnsFormed l start count
+pub ends-outside : (l : List ℕ) (start count : ℕ) → start ≤ length l → (length l - start) / 7 < count → Told l start count false
 unfolding columnsFormed
-ends-outside l start count h k = simp (lt-leb (start + count * 7) (length l) (omega arith))
+ends-outside l start count h k = answered l start count false (simp (lt-leb (start + count * 7) (length l) (omega arith)))
 
-pub inside : (l : List ℕ) (start count : ℕ) (r : Bool) → r ≡ eachFormed count (drop start l) → start ≤ length l → count ≤ (length l - start) / 7 → r ≡ columnsFormed l start count
+pub inside : (l : List ℕ) (start count : ℕ) (r : Bool) → r ≡ eachFormed count (drop start l) → start ≤ length l → count ≤ (length l - start) / 7 → Told l start count r
 unfolding columnsFormed
-inside l start count r e h k = e ∙ simp (le-leb (start + count * 7) (length l) (omega arith))
+inside l start count r e h k = answered l start count r (e ∙ simp (le-leb (start + count * 7) (length l) (omega arith)))

@@ -5,7 +5,7 @@ ghost use mathlib.Core.Bool.{true};
 ghost use Prim.Native.Nat.{_+_, _*_, _≤_, _<_};
 ghost use lib.ListN.{length, take, drop};
 ghost use Rattle.format.specs.Column.{columnOf, formed};
-ghost use Rattle.data_columns.specs.Columns.{eachFormed, columnsFormed};
+ghost use Rattle.data_columns.specs.Columns.{eachFormed, Told};
 ghost use Rattle.data_columns.specs.Counted.{countedIf};
 use byte_forms::doubt_at;
 use format::Column;
@@ -133,7 +133,7 @@ fn many_formed(bytes: &[u8], start: usize, count: usize) -> bool
 // `count` columns of seven bytes from `start` lie whole in the bytes, and each is well formed. The room is counted in columns, since
 // `start + count * 7` may be no 64-bit number.
 pub fn columns_well_formed(bytes: &[u8], start: usize, count: usize) -> bool
-    ensures { λ r. ⌜ r ≡ columnsFormed (now (bytes .entry)) start count ⌝ }
+    ensures { λ r. ⌜ Told (now (bytes .entry)) start count r ⌝ }
 {
     if bytes.len() < start {
         return false;
