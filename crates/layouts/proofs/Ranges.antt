@@ -99,7 +99,7 @@ to-greatest k (n ∷ ns) e = go (eqb k n) refl e (to-greatest k ns)
     go true p q ih = omega (arith, eqb-true k n p, le-max-left n (foldr max 0 ns))
     go false p q ih = omega (arith, ih q, le-max-right n (foldr max 0 ns))
 
-list-between : (z : ℤ) (top : ℕ) (ns : List ℕ) → isOne z ns ≡ leZ (pos (foldr min top ns)) z && (leZ z (pos (foldr max 0 ns)) && isOne z ns)
+pub list-between : (z : ℤ) (top : ℕ) (ns : List ℕ) → isOne z ns ≡ leZ (pos (foldr min top ns)) z && (leZ z (pos (foldr max 0 ns)) && isOne z ns)
 list-between (negsuc n) top ns = refl
 list-between (pos k) top ns = go (member k ns) refl
   where
@@ -107,7 +107,7 @@ list-between (pos k) top ns = go (member k ns) refl
     go true e = simp (e, le-leb _ _ (from-least k top ns e), le-leb _ _ (to-greatest k ns e))
     go false e = simp (e, and-false)
 
-size-between : (z : ℤ) (n : ℕ) → leb (natAbs z) n ≡ leZ (minus n) z && leZ z (pos n)
+pub size-between : (z : ℤ) (n : ℕ) → leb (natAbs z) n ≡ leZ (minus n) z && leZ z (pos n)
 size-between (pos k) n = simp (minus-below-pos n k)
 size-between (negsuc k) zero = leb·suc-zero k
 size-between (negsuc k) (suc n) = leb·suc-suc k n ∙ sym (and-true (leb k n))

@@ -1,6 +1,6 @@
 ghost use mathlib.Core.Path.{_≡_};
 ghost use Rattle.format.specs.Layout.{dataNote};
-ghost use Rattle.layouts.specs.Tables.{spansOf, startsOf, widthsOf, integers, lowsOf, highsOf};
+ghost use Rattle.layouts.specs.Tables.{spansOf, startsOf, widthsOf, integers, Lows, Highs};
 use super::Bytes5;
 use super::Limits5;
 use super::Span;
@@ -69,13 +69,13 @@ impl DataNote {
     }
 
     pub fn integer_lows() -> Limits5
-        ensures { λ r. ⌜ r ≡ lowsOf (integers dataNote) ⌝ }
+        ensures { λ r. ⌜ Lows dataNote r ⌝ }
     {
         [0, -999999, 0, 0, 0]
     }
 
     pub fn integer_highs() -> Limits5
-        ensures { λ r. ⌜ r ≡ highsOf (integers dataNote) ⌝ }
+        ensures { λ r. ⌜ Highs dataNote r ⌝ }
     {
         [1, 9999999, 99999, 99999, 99]
     }

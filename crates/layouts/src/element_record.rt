@@ -1,6 +1,6 @@
 ghost use mathlib.Core.Path.{_≡_};
 ghost use Rattle.format.specs.Layout.{element};
-ghost use Rattle.layouts.specs.Tables.{spansOf, startsOf, widthsOf, integers, lowsOf, highsOf};
+ghost use Rattle.layouts.specs.Tables.{spansOf, startsOf, widthsOf, integers, Lows, Highs};
 use super::Bytes17;
 use super::Limits17;
 use super::Span;
@@ -179,7 +179,7 @@ impl Element {
     }
 
     pub fn integer_lows() -> Limits17
-        ensures { λ r. ⌜ r ≡ lowsOf (integers element) ⌝ }
+        ensures { λ r. ⌜ Lows element r ⌝ }
     {
         [
             0, // class
@@ -203,7 +203,7 @@ impl Element {
     }
 
     pub fn integer_highs() -> Limits17
-        ensures { λ r. ⌜ r ≡ highsOf (integers element) ⌝ }
+        ensures { λ r. ⌜ Highs element r ⌝ }
     {
         [
             9999, // class

@@ -1,6 +1,6 @@
 ghost use mathlib.Core.Path.{_≡_};
 ghost use Rattle.format.specs.Layout.{gridHeader};
-ghost use Rattle.layouts.specs.Tables.{spansOf, startsOf, widthsOf, integers, lowsOf, highsOf};
+ghost use Rattle.layouts.specs.Tables.{spansOf, startsOf, widthsOf, integers, Lows, Highs};
 use super::Bytes15;
 use super::Limits15;
 use super::Span;
@@ -139,13 +139,13 @@ impl GridHeader {
     }
 
     pub fn integer_lows() -> Limits15
-        ensures { λ r. ⌜ r ≡ lowsOf (integers gridHeader) ⌝ }
+        ensures { λ r. ⌜ Lows gridHeader r ⌝ }
     {
         [0, 0, 0, 0, 0, 1, 1, 0, 1, 1, -999999, -999999, 0, 0, 1]
     }
 
     pub fn integer_highs() -> Limits15
-        ensures { λ r. ⌜ r ≡ highsOf (integers gridHeader) ⌝ }
+        ensures { λ r. ⌜ Highs gridHeader r ⌝ }
     {
         [
             9999, // class

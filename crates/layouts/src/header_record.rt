@@ -1,6 +1,6 @@
 ghost use mathlib.Core.Path.{_≡_};
 ghost use Rattle.format.specs.Layout.{header};
-ghost use Rattle.layouts.specs.Tables.{spansOf, startsOf, widthsOf, integers, lowsOf, highsOf};
+ghost use Rattle.layouts.specs.Tables.{spansOf, startsOf, widthsOf, integers, Lows, Highs};
 use super::Bytes17;
 use super::Limits17;
 use super::Span;
@@ -167,13 +167,13 @@ impl Header {
     }
 
     pub fn integer_lows() -> Limits17
-        ensures { λ r. ⌜ r ≡ lowsOf (integers header) ⌝ }
+        ensures { λ r. ⌜ Lows header r ⌝ }
     {
         [0; 17]
     }
 
     pub fn integer_highs() -> Limits17
-        ensures { λ r. ⌜ r ≡ highsOf (integers header) ⌝ }
+        ensures { λ r. ⌜ Highs header r ⌝ }
     {
         [
             9999, // class

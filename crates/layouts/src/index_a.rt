@@ -1,6 +1,6 @@
 ghost use mathlib.Core.Path.{_≡_};
 ghost use Rattle.format.specs.Layout.{indexA};
-ghost use Rattle.layouts.specs.Tables.{spansOf, startsOf, widthsOf, integers, lowsOf, highsOf};
+ghost use Rattle.layouts.specs.Tables.{spansOf, startsOf, widthsOf, integers, Lows, Highs};
 use super::Bytes9;
 use super::Limits9;
 use super::Span;
@@ -104,13 +104,13 @@ impl IndexA {
     }
 
     pub fn integer_lows() -> Limits9
-        ensures { λ r. ⌜ r ≡ lowsOf (integers indexA) ⌝ }
+        ensures { λ r. ⌜ Lows indexA r ⌝ }
     {
         [1, 0, 0, 0, 0, 0, 0, 1, 0]
     }
 
     pub fn integer_highs() -> Limits9
-        ensures { λ r. ⌜ r ≡ highsOf (integers indexA) ⌝ }
+        ensures { λ r. ⌜ Highs indexA r ⌝ }
     {
         [19, 999, 99, 9999, 1, 1, 9999, 1, 9]
     }

@@ -1,6 +1,6 @@
 ghost use mathlib.Core.Path.{_≡_};
 ghost use Rattle.format.specs.Layout.{indexC};
-ghost use Rattle.layouts.specs.Tables.{spansOf, startsOf, widthsOf, integers, lowsOf, highsOf};
+ghost use Rattle.layouts.specs.Tables.{spansOf, startsOf, widthsOf, integers, Lows, Highs};
 use super::Bytes13;
 use super::Limits13;
 use super::Span;
@@ -110,13 +110,13 @@ impl IndexC {
     }
 
     pub fn integer_lows() -> Limits13
-        ensures { λ r. ⌜ r ≡ lowsOf (integers indexC) ⌝ }
+        ensures { λ r. ⌜ Lows indexC r ⌝ }
     {
         [0; 13]
     }
 
     pub fn integer_highs() -> Limits13
-        ensures { λ r. ⌜ r ≡ highsOf (integers indexC) ⌝ }
+        ensures { λ r. ⌜ Highs indexC r ⌝ }
     {
         [9999, 9999, 1, 1, 1, 1, 1, 1, 1, 1, 1, 1, 3]
     }

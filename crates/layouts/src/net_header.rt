@@ -1,6 +1,6 @@
 ghost use mathlib.Core.Path.{_≡_};
 ghost use Rattle.format.specs.Layout.{netHeader};
-ghost use Rattle.layouts.specs.Tables.{spansOf, startsOf, widthsOf, integers, lowsOf, highsOf};
+ghost use Rattle.layouts.specs.Tables.{spansOf, startsOf, widthsOf, integers, Lows, Highs};
 use super::Bytes9;
 use super::Limits9;
 use super::Span;
@@ -108,13 +108,13 @@ impl NetHeader {
     }
 
     pub fn integer_lows() -> Limits9
-        ensures { λ r. ⌜ r ≡ lowsOf (integers netHeader) ⌝ }
+        ensures { λ r. ⌜ Lows netHeader r ⌝ }
     {
         [0, 0, 0, 0, 0, 0, 1, 0, 0]
     }
 
     pub fn integer_highs() -> Limits9
-        ensures { λ r. ⌜ r ≡ highsOf (integers netHeader) ⌝ }
+        ensures { λ r. ⌜ Highs netHeader r ⌝ }
     {
         [9999, 99, 9999, 9999, 99, 99, 999999, 999999, 99]
     }

@@ -1,6 +1,6 @@
 ghost use mathlib.Core.Path.{_≡_};
 ghost use Rattle.format.specs.Layout.{sheetA};
-ghost use Rattle.layouts.specs.Tables.{spansOf, startsOf, widthsOf, integers, lowsOf, highsOf};
+ghost use Rattle.layouts.specs.Tables.{spansOf, startsOf, widthsOf, integers, Lows, Highs};
 use super::Bytes4;
 use super::Limits4;
 use super::Span;
@@ -83,13 +83,13 @@ impl SheetA {
     }
 
     pub fn integer_lows() -> Limits4
-        ensures { λ r. ⌜ r ≡ lowsOf (integers sheetA) ⌝ }
+        ensures { λ r. ⌜ Lows sheetA r ⌝ }
     {
         [500, 0, 1, 0]
     }
 
     pub fn integer_highs() -> Limits4
-        ensures { λ r. ⌜ r ≡ highsOf (integers sheetA) ⌝ }
+        ensures { λ r. ⌜ Highs sheetA r ⌝ }
     {
         [10000, 99, 1, 9]
     }

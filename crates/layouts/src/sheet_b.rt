@@ -1,6 +1,6 @@
 ghost use mathlib.Core.Path.{_≡_};
 ghost use Rattle.format.specs.Layout.{sheetB};
-ghost use Rattle.layouts.specs.Tables.{spansOf, startsOf, widthsOf, integers, lowsOf, highsOf};
+ghost use Rattle.layouts.specs.Tables.{spansOf, startsOf, widthsOf, integers, Lows, Highs};
 use super::Bytes11;
 use super::Limits11;
 use super::Span;
@@ -104,7 +104,7 @@ impl SheetB {
     }
 
     pub fn integer_lows() -> Limits11
-        ensures { λ r. ⌜ r ≡ lowsOf (integers sheetB) ⌝ }
+        ensures { λ r. ⌜ Lows sheetB r ⌝ }
     {
         [
             -999999, // lower left X
@@ -122,7 +122,7 @@ impl SheetB {
     }
 
     pub fn integer_highs() -> Limits11
-        ensures { λ r. ⌜ r ≡ highsOf (integers sheetB) ⌝ }
+        ensures { λ r. ⌜ Highs sheetB r ⌝ }
     {
         [
             9999999, // lower left X

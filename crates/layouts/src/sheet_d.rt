@@ -1,6 +1,6 @@
 ghost use mathlib.Core.Path.{_≡_};
 ghost use Rattle.format.specs.Layout.{sheetD};
-ghost use Rattle.layouts.specs.Tables.{spansOf, startsOf, widthsOf, integers, lowsOf, highsOf};
+ghost use Rattle.layouts.specs.Tables.{spansOf, startsOf, widthsOf, integers, Lows, Highs};
 use super::Bytes5;
 use super::Limits5;
 use super::Span;
@@ -89,13 +89,13 @@ impl SheetD {
     }
 
     pub fn integer_lows() -> Limits5
-        ensures { λ r. ⌜ r ≡ lowsOf (integers sheetD) ⌝ }
+        ensures { λ r. ⌜ Lows sheetD r ⌝ }
     {
         [0; 5]
     }
 
     pub fn integer_highs() -> Limits5
-        ensures { λ r. ⌜ r ≡ highsOf (integers sheetD) ⌝ }
+        ensures { λ r. ⌜ Highs sheetD r ⌝ }
     {
         [9, 9, 2, 9, 9]
     }

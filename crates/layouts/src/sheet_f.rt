@@ -1,6 +1,6 @@
 ghost use mathlib.Core.Path.{_≡_};
 ghost use Rattle.format.specs.Layout.{sheetF};
-ghost use Rattle.layouts.specs.Tables.{spansOf, startsOf, widthsOf, integers, lowsOf, highsOf};
+ghost use Rattle.layouts.specs.Tables.{spansOf, startsOf, widthsOf, integers, Lows, Highs};
 use super::Bytes12;
 use super::Limits12;
 use super::Span;
@@ -148,13 +148,13 @@ impl SheetF {
     }
 
     pub fn integer_lows() -> Limits12
-        ensures { λ r. ⌜ r ≡ lowsOf (integers sheetF) ⌝ }
+        ensures { λ r. ⌜ Lows sheetF r ⌝ }
     {
         [0; 12]
     }
 
     pub fn integer_highs() -> Limits12
-        ensures { λ r. ⌜ r ≡ highsOf (integers sheetF) ⌝ }
+        ensures { λ r. ⌜ Highs sheetF r ⌝ }
     {
         [
             99999, // scale 1

@@ -1,13 +1,16 @@
--- `layouts::Element::integer_highs` meets its contract: result and table compute to one list. Assumes nothing.
+-- `layouts::Element::integer_highs` meets its contract: result and table compute to one list, and each number is one that its column may hold.
+-- Assumes nothing.
 use mathlib.Core.Path.{refl}
+use Rattle.format.specs.Column.{fits, textOf, digits, digitsIn}
 use Rattle.format.specs.Layout.{element}
 use Rattle.layouts.specs.Tables.{highsOf, integers}
+use Rattle.layouts.proofs.Limits.{highs}
 use Rattle.layouts.proofs.element_record.Element.integer_highs.Statement.{statement}
 use Rattle.layouts.proofs.element_record.Element.integer_highs.Tie as tie
 
 returns : tie.Need-returns
-unfolding element highsOf integers
-returns c = refl
+unfolding element highsOf integers fits textOf digits digitsIn
+returns c = highs element _ refl refl
 
 pub integer-highs-spec : {M : Type 1} → statement M
 integer-highs-spec = tie.close (tie.spec returns)

@@ -1,0 +1,90 @@
+-- The numbers of a layout's tables are the least and the greatest that its integer columns may hold. Assumes nothing.
+use mathlib.Core.Path.{_≡_, sym, _∙_}
+use mathlib.Core.Bool.{Bool, true, _&&_}
+use mathlib.Core.List.{List, [], _∷_}
+use Prim.Native.Nat.{ℕ, zero, suc, _-_, _^_, _≤_}
+use native.Mathlib.Omega.{arith}
+use borrow.Author.Tests.{leb-true}
+use lib.Dec.{leb}
+use lib.IntN.{ℤ, pos}
+use lib.Signed.{leZ}
+use Rattle.format.specs.Basics.{minus}
+use Rattle.format.specs.Column.{fits}
+use Rattle.format.specs.Layout.{Rule, anySign, atLeast, range, within, oneOf, isOne, inside, Col}
+use Rattle.format.proofs.Basics.{and-true}
+use Rattle.format.proofs.ColumnFits.{fits-range}
+use Rattle.layouts.specs.Tables.{integers, low, high, ruleOf, lowsOf, highsOf, Least, Greatest, LeastEach, least-none, least-more, GreatestEach, greatest-none, greatest-more, Lows, Highs}
+use Rattle.layouts.proofs.Ranges.{list-between, size-between}
+
+-- what a width of 1 to 18 holds lies between two numbers
+module _ (w : ℕ) (z : ℤ) (h : 1 ≤ w) (k : w ≤ 18) (e : fits w z ≡ true) where
+  held : (leZ (minus (10 ^ (w - 1) - 1)) z ≡ true) × (leZ z (pos (10 ^ w - 1)) ≡ true)
+  held = go w h k e
+    where
+      go : (w : ℕ) → 1 ≤ w → w ≤ 18 → fits w z ≡ true → (leZ (minus (10 ^ (w - 1) - 1)) z ≡ true) × (leZ z (pos (10 ^ w - 1)) ≡ true)
+      go zero h k e = absurd (omega arith)
+      go (suc v) h k e =
+          let q : suc v - 1 ≡ v = omega arith in
+          rw q (and-true (leZ (minus (10 ^ v - 1)) z) (leZ z (pos (10 ^ suc v - 1))) (sym (fits-range v z (omega arith)) ∙ e))
+
+  not-below : (rule : Rule) → inside rule z ≡ true → leZ (low rule w) z ≡ true
+  not-below anySign i = held .0
+  not-below (atLeast n) i = i
+  not-below (range n m) i = and-true (leZ (pos n) z) (leZ z (pos m)) i .0
+  not-below (within n) i = and-true (leZ (minus n) z) (leZ z (pos n)) (sym (size-between z n) ∙ i) .0
+  not-below (oneOf ns) i = and-true _ _ (sym (list-between z (10 ^ w - 1) ns) ∙ i) .0
+
+  not-above : (rule : Rule) → inside rule z ≡ true → leZ z (high rule w) ≡ true
+  not-above anySign i = held .1
+  not-above (atLeast n) i = held .1
+  not-above (range n m) i = and-true (leZ (pos n) z) (leZ z (pos m)) i .1
+  not-above (within n) i = and-true (leZ (minus n) z) (leZ z (pos n)) (sym (size-between z n) ∙ i) .1
+  not-above (oneOf ns) i = and-true (leZ z (high (oneOf ns) w)) (isOne z ns) (and-true (leZ (low (oneOf ns) w) z) (leZ z (high (oneOf ns) w) && isOne z ns) (sym (list-between z (10 ^ w - 1) ns) ∙ i) .1) .0
+
+-- the number is one that the column may hold
+abbrev pub holds : Col → ℤ → Bool
+holds c z = (leb 1 (c .width) && leb (c .width) 18) && (fits (c .width) z && inside (ruleOf (c .what)) z)
+
+abbrev pub holdLows : List Col → Bool
+holdLows [] = true
+holdLows (c ∷ cs) = holds c (low (ruleOf (c .what)) (c .width)) && holdLows cs
+
+abbrev pub holdHighs : List Col → Bool
+holdHighs [] = true
+holdHighs (c ∷ cs) = holds c (high (ruleOf (c .what)) (c .width)) && holdHighs cs
+
+abbrev Holds : Col → ℤ → Type 0
+Holds c z = ((1 ≤ c .width) × (c .width ≤ 18)) × ((fits (c .width) z ≡ true) × (inside (ruleOf (c .what)) z ≡ true))
+
+held-by : (c : Col) (z : ℤ) → holds c z ≡ true → Holds c z
+held-by c z h =
+    let a = and-true (leb 1 (c .width) && leb (c .width) 18) (fits (c .width) z && inside (ruleOf (c .what)) z) h in
+    let b = and-true (leb 1 (c .width)) (leb (c .width) 18) (a .0) in
+    ((leb-true 1 (c .width) (b .0), leb-true (c .width) 18 (b .1)), and-true (fits (c .width) z) (inside (ruleOf (c .what)) z) (a .1))
+
+least-each : (cs : List Col) → holdLows cs ≡ true → LeastEach cs (lowsOf cs)
+unfolding lowsOf
+least-each [] h = least-none
+least-each (c ∷ cs) h =
+    let a = and-true (holds c (low (ruleOf (c .what)) (c .width))) (holdLows cs) h in
+    let b = held-by c (low (ruleOf (c .what)) (c .width)) (a .0) in
+    least-more
+    (record { fits-width = b .1 .0; allowed = b .1 .1; none-less = λ z e i. not-below (c .width) z (b .0 .0) (b .0 .1) e (ruleOf (c .what)) i })
+    (least-each cs (a .1))
+
+greatest-each : (cs : List Col) → holdHighs cs ≡ true → GreatestEach cs (highsOf cs)
+unfolding highsOf
+greatest-each [] h = greatest-none
+greatest-each (c ∷ cs) h =
+    let a = and-true (holds c (high (ruleOf (c .what)) (c .width))) (holdHighs cs) h in
+    let b = held-by c (high (ruleOf (c .what)) (c .width)) (a .0) in
+    greatest-more
+    (record { fits-width = b .1 .0; allowed = b .1 .1; none-greater = λ z e i. not-above (c .width) z (b .0 .0) (b .0 .1) e (ruleOf (c .what)) i })
+    (greatest-each cs (a .1))
+
+-- a layout's tables; that each number is one that its column may hold is computed
+pub lows : (layout : List Col) (l : List ℤ) → l ≡ lowsOf (integers layout) → holdLows (integers layout) ≡ true → Lows layout l
+lows layout l e h = record { are = e; least = rw e (least-each (integers layout) h) }
+
+pub highs : (layout : List Col) (l : List ℤ) → l ≡ highsOf (integers layout) → holdHighs (integers layout) ≡ true → Highs layout l
+highs layout l e h = record { are = e; greatest = rw e (greatest-each (integers layout) h) }
