@@ -1,3 +1,4 @@
 pub mod Neighbours
 pub mod Doubts
 pub mod Rules
+pub mod AtOnce

@@ -11,11 +11,11 @@ use lib.IntN.{pos, negℤ, natAbs}
 use lib.ListN.{length, take, replicate, length-replicate}
 use Rattle.format.specs.declared.Column.the-variants.{Value}
 use Rattle.format.specs.Column.{strip, isDigit, allDigits, valueOf, isNumber, negative, positive, signed, columnOf, formed, integer}
-use Rattle.format.specs.Layout.{Rule, anySign, atLeast, range, within, oneOf, inside, What, text, blank, integral, integralOrSpaces}
+use Rattle.format.specs.Layout.{Rule, anySign, atLeast, range, within, oneOf, inside, What, text, blank, integral, integralOrSpaces, isFormed, isInside}
 use Rattle.format.proofs.Basics.{and-true, true-and}
-use Rattle.byte_forms.specs.Doubt.{leastAt, mostAt, doubt}
+use Rattle.byte_forms.specs.Doubt.{leastAt, mostAt}
 use Rattle.byte_forms.specs.Places.{ruled, placesFor, doubtsIn}
-use Rattle.byte_forms.specs.Told.{fromZero, NoFault, Told}
+use Rattle.byte_forms.specs.Told.{fromZero, zeroAllowed}
 use Rattle.byte_forms.proofs.Neighbours.{Seen, t-digit, t-space, t-minus, told, column-after, natural-after, value-after}
 use Rattle.byte_forms.proofs.Doubts.{right-at, length-places, column-right, column-loose}
 
@@ -26,11 +26,11 @@ unfolding isDigit
 digit-zero = refl
 
 module _ (b : ℕ) (d : isDigit b ≡ true) where
-  digit-at-least : 48 ≤ b
+  pub digit-at-least : 48 ≤ b
   unfolding isDigit
   digit-at-least = leb-true 48 b (and-true (leb 48 b) (leb b 57) d .0)
 
-  digit-at-most : b ≤ 57
+  pub digit-at-most : b ≤ 57
   unfolding isDigit
   digit-at-most = leb-true b 57 (and-true (leb 48 b) (leb b 57) d .1)
 
@@ -41,7 +41,7 @@ module _ (b : ℕ) (d : isDigit b ≡ true) where
   unfolding valueOf
   value-one = omega arith
 
-  one-digit : columnOf (b ∷ []) ≡ Value (pos (b - 48))
+  pub one-digit : columnOf (b ∷ []) ≡ Value (pos (b - 48))
   unfolding columnOf strip signed positive isNumber allDigits
   one-digit = simp (not-this 32 (omega arith), not-this 45 (omega arith), d, value-one)
 
@@ -63,11 +63,11 @@ module _ (b : ℕ) (d : isDigit b ≡ true) where
 
 -- a place up to a digit of at most 9
 module _ (m : ℕ) (h : m ≤ 9) where
-  least-up-to : leastAt (48 + m) ≡ 48
+  pub least-up-to : leastAt (48 + m) ≡ 48
   unfolding leastAt
   least-up-to = simp (ne-eqb (48 + m) 114 (λ (e : 48 + m ≡ 114). omega arith))
 
-  most-up-to : mostAt (48 + m) ≡ 48 + m
+  pub most-up-to : mostAt (48 + m) ≡ 48 + m
   unfolding mostAt
   most-up-to = simp (ne-eqb (48 + m) 90 (λ (e : 48 + m ≡ 90). omega arith)) (go (ltb (48 + m) 57) refl)
     where
@@ -195,17 +195,16 @@ rule-sound (within n) w p l g h e = within-sound n w p l g h e
 rule-sound (oneOf ns) w p l g h e = absurd (never w p l g h e)
 
 -- a column of which no byte is in doubt, whatever is judged in it
+pub record NoFault (what : What) (bytes : List ℕ) : Type 0 where
+  pub is-formed : isFormed what bytes ≡ true
+  pub is-inside : isInside (zeroAllowed what) bytes ≡ true
+
 pub no-fault : (k : What) (w p : ℕ) (l : List ℕ) → 1 ≤ w → w ≤ length l → doubtsIn (placesFor k w) p l ≡ 0 → NoFault k (take w l)
 unfolding placesFor
 no-fault text w p l g h e = record { is-formed = refl; is-inside = refl }
 no-fault blank w p l g h e = record { is-formed = refl; is-inside = refl }
 no-fault (integral rule) w p l g h e = let r = rule-sound rule w p l g h e in record { is-formed = r .0; is-inside = r .1 }
 no-fault integralOrSpaces w p l g h e = record { is-formed = value-after refl (column-loose w p l g h e); is-inside = refl }
-
--- ---- what the contract says of one byte
-
-pub answered : (place before byte r : ℕ) → r ≡ doubt place before byte → Told place before byte r
-answered place before byte r e = record { is = e; columns = no-fault }
 
 -- ---- a column has as many places as bytes
 

@@ -1,5 +1,5 @@
 -- Records told at once to be without fault, and `above_zero`, in the code's own words. Assumes nothing.
-use mathlib.Core.Path.{_≡_, refl, sym}
+use mathlib.Core.Path.{_≡_, refl, sym, _∙_}
 use mathlib.Core.Bool.{Bool, true, false, not, _&&_, and-assoc, and-true}
 use mathlib.Core.List.{List, [], _∷_}
 use Prim.Native.Nat.{ℕ}
@@ -17,8 +17,8 @@ use Rattle.format.specs.declared.Column.the-variants.{Value, MinusZero, Malform
 use Rattle.format.specs.Column.{integer}
 use Rattle.format.specs.Layout.{Col, allInside, columnFault, header, element, gridHeader, netHeader, dataNote}
 use Rattle.columns.specs.InRecord.{columnAt}
-use Rattle.record_forms.specs.Sure.{Sure}
-use Rattle.record_forms.proofs.Sound.{aboveZeros, left-to-ask}
+use Rattle.record_forms.specs.Sure.{sure}
+use Rattle.record_forms.proofs.Sound.{aboveZeros, sure-record, sure-formed, sure-inside}
 use Rattle.layout_faults.specs.Faults.{faultIn}
 use Rattle.layout_faults.proofs.Tables.{says}
 
@@ -38,35 +38,36 @@ module _ (l : List ℕ) (start width : ℕ) (c : Column) (e : c ≡ columnAt l s
 
 -- ---- records without fault
 
-module _ (layout : List Col) (l : List ℕ) (t : Bool) (e : Sure layout l t) (h : t ≡ true) where
+module _ (layout : List Col) (l : List ℕ) (h : sure layout l ≡ true) where
   faultless : allInside (aboveZeros layout) l ≡ true → faultIn layout l ≡ 0
   unfolding faultIn columnFault
-  faultless a = rw (e .whole h, e .all-formed h, left-to-ask layout l (e .all-inside h), a)
+  faultless a = rw (sure-record layout l h, sure-formed layout l h, sure-inside layout l h, a)
 
 module _ (l : List ℕ) (t : Bool) where
-  pub header-faultless : Sure header l t → t ≡ true → 0 ≡ faultIn header l
+  pub header-faultless : t ≡ sure header l → t ≡ true → 0 ≡ faultIn header l
   unfolding header aboveZeros allInside
-  header-faultless e h = sym (faultless header l t e h refl)
+  header-faultless e h = sym (faultless header l (sym e ∙ h) refl)
 
-  pub element-faultless : Sure element l t → t ≡ true → 0 ≡ faultIn element l
+  pub element-faultless : t ≡ sure element l → t ≡ true → 0 ≡ faultIn element l
   unfolding element aboveZeros allInside
-  element-faultless e h = sym (faultless element l t e h refl)
+  element-faultless e h = sym (faultless element l (sym e ∙ h) refl)
 
-  pub data-note-faultless : Sure dataNote l t → t ≡ true → 0 ≡ faultIn dataNote l
+  pub data-note-faultless : t ≡ sure dataNote l → t ≡ true → 0 ≡ faultIn dataNote l
   unfolding dataNote aboveZeros allInside
-  data-note-faultless e h = sym (faultless dataNote l t e h refl)
+  data-note-faultless e h = sym (faultless dataNote l (sym e ∙ h) refl)
 
   -- and some numbers above 0
-  pub grid-header-faultless : (a b c d : Bool) → Sure gridHeader l t → not t ≡ false → a ≡ leZ (pos 1) (integer (columnAt l 18 4)) → b ≡ leZ (pos 1) (integer (columnAt l 22 4)) → c ≡ leZ (pos 1) (integer (columnAt l 30 7)) → d ≡ leZ (pos 1) (integer (columnAt l 37 7)) → ((a && b) && c) && d ≡ true → faultIn gridHeader l ≡ 0
+  pub grid-header-faultless : (a b c d : Bool) → t ≡ sure gridHeader l → not t ≡ false → a ≡ leZ (pos 1) (integer (columnAt l 18 4)) → b ≡ leZ (pos 1) (integer (columnAt l 22 4)) → c ≡ leZ (pos 1) (integer (columnAt l 30 7)) → d ≡ leZ (pos 1) (integer (columnAt l 37 7)) → ((a && b) && c) && d ≡ true → faultIn gridHeader l ≡ 0
   unfolding gridHeader aboveZeros allInside
   grid-header-faultless a b c d e n ea eb ec ed h =
-      let sure = not-false t n in
-      let whole = e .whole sure in
-      faultless gridHeader l t e sure
+      let told = sym e ∙ not-false t n in
+      let whole = sure-record gridHeader l told in
+      faultless gridHeader l told
       (rw (← says l whole 18 4 refl refl, ← says l whole 22 4 refl refl, ← says l whole 30 7 refl refl, ← says l whole 37 7 refl refl, ← ea, ← eb, ← ec, ← ed, and-true) (rw (← and-assoc, ← and-assoc) h))
 
-  pub net-header-faultless : (a : Bool) → Sure netHeader l t → not t ≡ false → a ≡ leZ (pos 1) (integer (columnAt l 20 6)) → a ≡ true → faultIn netHeader l ≡ 0
+  pub net-header-faultless : (a : Bool) → t ≡ sure netHeader l → not t ≡ false → a ≡ leZ (pos 1) (integer (columnAt l 20 6)) → a ≡ true → faultIn netHeader l ≡ 0
   unfolding netHeader aboveZeros allInside
   net-header-faultless a e n ea h =
-      let sure = not-false t n in
-      faultless netHeader l t e sure (rw (← says l (e .whole sure) 20 6 refl refl, ← ea, h))
+      let told = sym e ∙ not-false t n in
+      let whole = sure-record netHeader l told in
+      faultless netHeader l told (rw (← says l whole 20 6 refl refl, ← ea, h))

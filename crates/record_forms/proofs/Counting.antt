@@ -13,8 +13,8 @@ use Rattle.format.specs.Layout.{Col, header, element, gridHeader, netHeader, da
 use Rattle.byte_forms.specs.Doubt.{doubt}
 use Rattle.byte_forms.specs.Places.{behind, placesIn, ruled, placesFor, doubtsIn}
 use Rattle.byte_forms.proofs.Doubts.{at-most-one, anything, one-more, doubts-append}
-use Rattle.record_forms.specs.Sure.{placesOf, surely, Sure}
-use Rattle.record_forms.proofs.Sound.{none, answered, header-laid, element-laid, grid-header-laid, net-header-laid, data-note-laid}
+use Rattle.record_forms.specs.Sure.{sure}
+use Rattle.record_forms.proofs.Sound.{placesOf, surely, zero-sum, header-sure, element-sure, grid-header-sure, net-header-sure, data-note-sure}
 
 -- ---- `middle_doubts`
 
@@ -48,23 +48,13 @@ all-counted places r i doubts n h s =
 
 -- ---- a record
 
-pub no-record : (layout : List Col) (r : List ℕ) → (length r ≡ 84 → ⊥) → Sure layout r false
-unfolding surely
-no-record layout r h = none layout r (rw (ne-eqb (length r) 84 h))
+pub no-record : (layout : List Col) (r : List ℕ) → (length r ≡ 84 → ⊥) → false ≡ sure layout r
+unfolding sure
+no-record layout r h = rw (ne-eqb (length r) 84 h)
 
 -- the places of the bytes from 2 to 81
 unfoldable pub middle : List Col → List ℕ
 middle layout = take 80 (drop 2 (placesOf layout))
-
--- a sum is 0 where both are
-zero-sum : (x y : ℕ) → eqb (x + y) 0 ≡ eqb x 0 && eqb y 0
-zero-sum x y = go (eqb x 0) refl
-  where
-    go : (t : Bool) → eqb x 0 ≡ t → eqb (x + y) 0 ≡ t && eqb y 0
-    go true e = rw (eqb-true x 0 e, zero-add y)
-    go false e =
-        let n : x ≡ 0 → ⊥ = eqb-false x 0 e in
-        ne-eqb (x + y) 0 (λ (p : x + y ≡ 0). n (omega arith))
 
 -- the places a, b, those in the middle, c, d
 module _ (layout : List Col) (a b c d : ℕ) (places : placesOf layout ≡ a ∷ b ∷ (middle layout ++ (c ∷ d ∷ []))) (n : length (middle layout) ≡ 80) (r : List ℕ) (whole : length r ≡ 84) where
@@ -95,34 +85,33 @@ module _ (layout : List Col) (c d : ℕ) (places : placesOf layout ≡ 46 ∷ 46
 
 -- ---- the five layouts
 
-pub header-told : (r : List ℕ) (m x : ℕ) → length r ≡ 84 → m ≡ doubtsIn (middle header) (getD r 1 0) (drop 2 r) → x ≡ doubt 100 (getD r 81 0) (getD r 82 0) → Sure header r (eqb m 0 && eqb x 0)
+pub header-told : (r : List ℕ) (m x : ℕ) → length r ≡ 84 → m ≡ doubtsIn (middle header) (getD r 1 0) (drop 2 r) → x ≡ doubt 100 (getD r 81 0) (getD r 82 0) → eqb m 0 && eqb x 0 ≡ sure header r
 unfolding middle placesOf placesFor ruled placesIn behind header
 header-told r m x whole em ex =
     let e : m + x ≡ m + (x + 0) = omega arith in
-    answered header header-laid r _ (sym (zero-sum m x) ∙ ap (λ (k : ℕ). eqb k 0) e ∙ typed header 100 46 refl refl r whole m em x 0 ex (sym (anything (getD r 82 0) (getD r 83 0))))
+    sym (zero-sum m x) ∙ ap (λ (k : ℕ). eqb k 0) e ∙ typed header 100 46 refl refl r whole m em x 0 ex (sym (anything (getD r 82 0) (getD r 83 0))) ∙ header-sure r
 
-pub element-told : (r : List ℕ) (m y : ℕ) → length r ≡ 84 → m ≡ doubtsIn (middle element) (getD r 1 0) (drop 2 r) → y ≡ doubt 114 (getD r 82 0) (getD r 83 0) → Sure element r (eqb m 0 && eqb y 0)
+pub element-told : (r : List ℕ) (m y : ℕ) → length r ≡ 84 → m ≡ doubtsIn (middle element) (getD r 1 0) (drop 2 r) → y ≡ doubt 114 (getD r 82 0) (getD r 83 0) → eqb m 0 && eqb y 0 ≡ sure element r
 unfolding middle placesOf placesFor ruled placesIn behind element
 element-told r m y whole em ey =
     let e : m + y ≡ m + (0 + y) = omega arith in
-    answered element element-laid r _ (sym (zero-sum m y) ∙ ap (λ (k : ℕ). eqb k 0) e ∙ typed element 46 114 refl refl r whole m em 0 y (sym (anything (getD r 81 0) (getD r 82 0))) ey)
+    sym (zero-sum m y) ∙ ap (λ (k : ℕ). eqb k 0) e ∙ typed element 46 114 refl refl r whole m em 0 y (sym (anything (getD r 81 0) (getD r 82 0))) ey ∙ element-sure r
 
-pub grid-header-told : (r : List ℕ) (m y : ℕ) → length r ≡ 84 → m ≡ doubtsIn (middle gridHeader) (getD r 1 0) (drop 2 r) → y ≡ doubt 114 (getD r 82 0) (getD r 83 0) → Sure gridHeader r (eqb m 0 && eqb y 0)
+pub grid-header-told : (r : List ℕ) (m y : ℕ) → length r ≡ 84 → m ≡ doubtsIn (middle gridHeader) (getD r 1 0) (drop 2 r) → y ≡ doubt 114 (getD r 82 0) (getD r 83 0) → eqb m 0 && eqb y 0 ≡ sure gridHeader r
 unfolding middle placesOf placesFor ruled placesIn behind gridHeader
 grid-header-told r m y whole em ey =
     let e : m + y ≡ m + (0 + y) = omega arith in
-    answered gridHeader grid-header-laid r _ (sym (zero-sum m y) ∙ ap (λ (k : ℕ). eqb k 0) e ∙ typed gridHeader 46 114 refl refl r whole m em 0 y (sym (anything (getD r 81 0) (getD r 82 0))) ey)
+    sym (zero-sum m y) ∙ ap (λ (k : ℕ). eqb k 0) e ∙ typed gridHeader 46 114 refl refl r whole m em 0 y (sym (anything (getD r 81 0) (getD r 82 0))) ey ∙ grid-header-sure r
 
-pub net-header-told : (r : List ℕ) (m : ℕ) → length r ≡ 84 → m ≡ doubtsIn (middle netHeader) (getD r 1 0) (drop 2 r) → Sure netHeader r (eqb m 0)
+pub net-header-told : (r : List ℕ) (m : ℕ) → length r ≡ 84 → m ≡ doubtsIn (middle netHeader) (getD r 1 0) (drop 2 r) → eqb m 0 ≡ sure netHeader r
 unfolding middle placesOf placesFor ruled placesIn behind netHeader
 net-header-told r m whole em =
     let e : m ≡ m + (0 + 0) = omega arith in
-    answered netHeader net-header-laid r _ (ap (λ (k : ℕ). eqb k 0) e ∙ typed netHeader 46 46 refl refl r whole m em 0 0 (sym (anything (getD r 81 0) (getD r 82 0))) (sym (anything (getD r 82 0) (getD r 83 0))))
+    ap (λ (k : ℕ). eqb k 0) e ∙ typed netHeader 46 46 refl refl r whole m em 0 0 (sym (anything (getD r 81 0) (getD r 82 0))) (sym (anything (getD r 82 0) (getD r 83 0))) ∙ net-header-sure r
 
-pub data-note-told : (r : List ℕ) (f s m : ℕ) → length r ≡ 84 → f ≡ doubt 49 32 (getD r 0 0) → s ≡ doubt 77 (getD r 0 0) (getD r 1 0) → m ≡ doubtsIn (middle dataNote) (getD r 1 0) (drop 2 r) → Sure dataNote r ((eqb f 0 && eqb s 0) && eqb m 0)
+pub data-note-told : (r : List ℕ) (f s m : ℕ) → length r ≡ 84 → f ≡ doubt 49 32 (getD r 0 0) → s ≡ doubt 77 (getD r 0 0) (getD r 1 0) → m ≡ doubtsIn (middle dataNote) (getD r 1 0) (drop 2 r) → (eqb f 0 && eqb s 0) && eqb m 0 ≡ sure dataNote r
 unfolding middle placesOf placesFor ruled placesIn behind dataNote
 data-note-told r f s m whole ef es em =
     let e : f + s + m ≡ f + (s + (m + (0 + (0 + 0)))) = omega arith in
-    answered dataNote data-note-laid r _
-    (rw (← zero-sum f s, ← zero-sum (f + s) m)
-    (ap (λ (k : ℕ). eqb k 0) e ∙ told dataNote 49 77 46 46 refl refl r whole f s m 0 0 ef es em (sym (anything (getD r 81 0) (getD r 82 0))) (sym (anything (getD r 82 0) (getD r 83 0)))))
+    rw (← zero-sum f s, ← zero-sum (f + s) m)
+    (ap (λ (k : ℕ). eqb k 0) e ∙ told dataNote 49 77 46 46 refl refl r whole f s m 0 0 ef es em (sym (anything (getD r 81 0) (getD r 82 0))) (sym (anything (getD r 82 0) (getD r 83 0))) ∙ data-note-sure r)

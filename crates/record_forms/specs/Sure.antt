@@ -1,31 +1,18 @@
--- The places of a layout's bytes, records of which no byte is in doubt, and what such a record is without. Assumes nothing.
-use mathlib.Core.Path.{_≡_}
+-- Records that can be told at once. Assumes nothing.
 use mathlib.Core.Bool.{Bool, true, _&&_}
-use mathlib.Core.List.{List, [], _∷_, _++_}
+use mathlib.Core.List.{List, [], _∷_}
 use Prim.Native.Nat.{ℕ}
 use lib.Dec.{eqb}
-use lib.ListN.{length}
-use Rattle.format.specs.Layout.{Col, allFormed, allInside}
-use Rattle.byte_forms.specs.Places.{placesFor, doubtsIn}
-use Rattle.byte_forms.specs.Told.{zeroAllowed}
+use lib.ListN.{length, getD}
+use Rattle.format.specs.Layout.{Col, bytesOf}
+use Rattle.byte_forms.specs.Told.{toldAtOnce}
 
-unfoldable pub placesOf : List Col → List ℕ
-placesOf [] = []
-placesOf (c ∷ cs) = placesFor (c .what) (c .width) ++ placesOf cs
+-- every column of a layout can be told at once: it is well formed; its number is inside its range or list, but for a 0 where a number above 0 is due;
+-- and no 0 of it stands right after a minus. A space counts as the byte before a record
+unfoldable pub allTold : List Col → List ℕ → Bool
+allTold [] r = true
+allTold (c ∷ cs) r = toldAtOnce (c .what) (getD (32 ∷ r) (c .start) 0) (bytesOf c r) && allTold cs r
 
--- a record of which no byte is in doubt
-unfoldable pub surely : List Col → List ℕ → Bool
-surely layout r = eqb (length r) 84 && eqb (doubtsIn (placesOf layout) 32 r) 0
-
--- a layout with 0 allowed where a number above 0 is due
-unfoldable pub zerosAllowed : List Col → List Col
-zerosAllowed [] = []
-zerosAllowed (c ∷ cs) = record { name = c .name; start = c .start; width = c .width; what = zeroAllowed (c .what) } ∷ zerosAllowed cs
-
--- what is answered of a record: whether no byte of it is in doubt. And what that means: then it has 84 bytes, every integer column of the layout is
--- well formed, and every number is inside its range or list, but for a 0 where a number above 0 is due
-pub record Sure (layout : List Col) (r : List ℕ) (answer : Bool) : Type 0 where
-  pub is : answer ≡ surely layout r
-  pub whole : answer ≡ true → length r ≡ 84
-  pub all-formed : answer ≡ true → allFormed layout r ≡ true
-  pub all-inside : answer ≡ true → allInside (zerosAllowed layout) r ≡ true
+-- "records of 84 bytes"; others cannot be told
+unfoldable pub sure : List Col → List ℕ → Bool
+sure layout r = eqb (length r) 84 && allTold layout r

@@ -1,12 +1,12 @@
-// Records told at once: where no byte of a header, element, grid header, net header or note is in doubt, its integer columns are well formed and, but
-// for those that must be above 0, inside their ranges. What is in doubt may still be right.
+// Records told at once: a header, element, grid header, net header or note whose integer columns are well formed and inside their ranges, but for a 0
+// where a number above 0 is due, and in which no 0 stands right after a minus. Any other may still be right: "-05" is.
 //
 // The bytes from 2 to 81 of a record, sixteen at a time, are compared with the places of its layout; its two first and two last bytes apart.
 ghost use mathlib.Core.Path.{_≡_};
 ghost use lib.ListN.{length, getD, drop};
 ghost use Rattle.format.specs.Layout.{header, element, gridHeader, netHeader, dataNote};
 ghost use Rattle.byte_forms.specs.Places.{doubtsIn};
-ghost use Rattle.record_forms.specs.Sure.{Sure};
+ghost use Rattle.record_forms.specs.Sure.{sure};
 use byte_forms::doubt_at;
 
 // "records of 84 bytes"
@@ -43,7 +43,7 @@ fn middle_doubts(record: &[u8], places: &[u8; 80]) -> u8
 }
 
 pub fn header_sure(record: &[u8]) -> bool
-    ensures { λ r. ⌜ Sure header (now («record» .entry)) r ⌝ }
+    ensures { λ r. ⌜ r ≡ sure header (now («record» .entry)) ⌝ }
 {
     if record.len() != RECORD {
         return false;
@@ -55,7 +55,7 @@ pub fn header_sure(record: &[u8]) -> bool
 }
 
 pub fn element_sure(record: &[u8]) -> bool
-    ensures { λ r. ⌜ Sure element (now («record» .entry)) r ⌝ }
+    ensures { λ r. ⌜ r ≡ sure element (now («record» .entry)) ⌝ }
 {
     if record.len() != RECORD {
         return false;
@@ -67,7 +67,7 @@ pub fn element_sure(record: &[u8]) -> bool
 }
 
 pub fn grid_header_sure(record: &[u8]) -> bool
-    ensures { λ r. ⌜ Sure gridHeader (now («record» .entry)) r ⌝ }
+    ensures { λ r. ⌜ r ≡ sure gridHeader (now («record» .entry)) ⌝ }
 {
     if record.len() != RECORD {
         return false;
@@ -79,7 +79,7 @@ pub fn grid_header_sure(record: &[u8]) -> bool
 }
 
 pub fn net_header_sure(record: &[u8]) -> bool
-    ensures { λ r. ⌜ Sure netHeader (now («record» .entry)) r ⌝ }
+    ensures { λ r. ⌜ r ≡ sure netHeader (now («record» .entry)) ⌝ }
 {
     if record.len() != RECORD {
         return false;
@@ -90,7 +90,7 @@ pub fn net_header_sure(record: &[u8]) -> bool
 }
 
 pub fn data_note_sure(record: &[u8]) -> bool
-    ensures { λ r. ⌜ Sure dataNote (now («record» .entry)) r ⌝ }
+    ensures { λ r. ⌜ r ≡ sure dataNote (now («record» .entry)) ⌝ }
 {
     if record.len() != RECORD {
         return false;

@@ -1,7 +1,7 @@
--- `byte_forms::doubt_at` meets its contract: its tests are those of `surelyRight`, one by one, and `no-fault` says what that means for a column. Assumes nothing.
+-- `byte_forms::doubt_at` meets its contract: its tests are those of `surelyRight`, one by one, and `answered` says what that means for a column. Assumes nothing.
 use borrow.Author.Needs.{needs}
 use Rattle.byte_forms.specs.Doubt.{surelyRight, doubt}
-use Rattle.byte_forms.proofs.Rules.{answered}
+use Rattle.byte_forms.proofs.AtOnce.{answered}
 use Rattle.byte_forms.proofs.doubt_at.Statement.{statement}
 use Rattle.byte_forms.proofs.doubt_at.Tie as tie
 

@@ -2,7 +2,7 @@
 -- Assumes nothing.
 use Rattle.format.specs.Layout.{element}
 use Rattle.byte_forms.specs.Places.{behind, placesIn, ruled, placesFor}
-use Rattle.record_forms.specs.Sure.{placesOf}
+use Rattle.record_forms.proofs.Sound.{placesOf}
 use Rattle.record_forms.proofs.Counting.{middle, no-record, element-told}
 use borrow.Author.Needs.{needs}
 use Rattle.record_forms.proofs.element_sure.Statement.{statement}
