@@ -16,7 +16,7 @@ use Rattle.format.specs.declared.Column.the-variants.{Value, MinusZero, Malform
 use Rattle.format.specs.Column.{strip, isDigit, allDigits, valueOf, isNumber, negative, positive, signed, columnOf, formed, integer}
 use Rattle.format.specs.Layout.{Rule, anySign, atLeast, range, within, oneOf, inside, spaces, What, text, blank, integral, integralOrSpaces, isFormed, isInside}
 use Rattle.format.proofs.Basics.{and-true, true-and}
-use Rattle.format.proofs.Columns.{Byte, v-space, v-minus, v-digit, v-other, byte}
+use Rattle.format.proofs.Columns.{Byte, v-space, v-minus, v-digit, v-other, byte, number-digits}
 use Rattle.byte_forms.specs.Doubt.{leastAt, mostAt, isFirst, isSpaced, isSigned, surelyRight, doubt}
 use Rattle.byte_forms.specs.Places.{behind, placesIn, ruled, placesFor, doubtsIn}
 use Rattle.byte_forms.specs.Told.{fromZero, zeroAllowed, zeroAfterMinus, plain, toldAtOnce, hasPlaces, Told}
@@ -54,11 +54,6 @@ negative-below bs = go (isNumber bs) (eqb (valueOf bs) 0) refl
     go true true q e h = false≢true e
     go true false q e h = below-zero (valueOf bs) q h
     go false u q e h = false≢true e
-
-number-digits : (bs : List ℕ) → isNumber bs ≡ true → allDigits bs ≡ true
-unfolding isNumber
-number-digits [] e = absurd (false≢true e)
-number-digits (b ∷ bs) e = e
 
 at-digit : (b : ℕ) (bs : List ℕ) → eqb b 32 ≡ false → eqb b 45 ≡ false → columnOf (b ∷ bs) ≡ positive (b ∷ bs)
 unfolding columnOf strip signed
