@@ -2,9 +2,8 @@
 -- minus, has no byte in doubt; and nowhere but where anything may stand is a 0 right after a minus without doubt. Assumes nothing.
 use mathlib.Core.Path.{_≡_, refl, sym, _∙_}
 use mathlib.Core.Bool.{Bool, true, false, cond, not, _&&_, _||_, or-true, and-false, false≢true}
-use mathlib.Core.Logic.{_⊎_, inl, inr, ⊎-elim}
 use mathlib.Core.List.{List, [], _∷_}
-use Prim.Native.Nat.{ℕ, zero, suc, _+_, _-_, _*_, _^_, _≤_, _<_}
+use Prim.Native.Nat.{ℕ, zero, suc, _+_, _-_, _*_, _^_, _≤_}
 use native.Mathlib.Omega.{arith}
 use borrow.Author.Tests.{le-leb, leb-true, eqb-true, eqb-false, ne-eqb, not-true}
 use lib.Dec.{eqb, leb}
@@ -17,9 +16,9 @@ use Rattle.format.specs.Column.{strip, isDigit, allDigits, valueOf, isNumber, n
 use Rattle.format.specs.Layout.{Rule, anySign, atLeast, range, within, oneOf, inside, spaces, What, text, blank, integral, integralOrSpaces, isFormed, isInside}
 use Rattle.format.proofs.Basics.{and-true, true-and}
 use Rattle.format.proofs.Columns.{Byte, v-space, v-minus, v-digit, v-other, byte, number-digits}
-use Rattle.byte_forms.specs.Doubt.{leastAt, mostAt, isFirst, isSpaced, isSigned, surelyRight, doubt}
+use Rattle.byte_forms.specs.Doubt.{leastAt, mostAt, surelyRight, doubt}
 use Rattle.byte_forms.specs.Places.{behind, placesIn, ruled, placesFor, doubtsIn}
-use Rattle.byte_forms.specs.Told.{fromZero, zeroAllowed, zeroAfterMinus, plain, toldAtOnce, hasPlaces, Told}
+use Rattle.byte_forms.specs.Told.{zeroAllowed, zeroAfterMinus, plain, toldAtOnce, hasPlaces, Told}
 use Rattle.byte_forms.proofs.Neighbours.{firstPlace, betweenPlace, Seen, t-digit, t-space, t-minus, told}
 use Rattle.byte_forms.proofs.Doubts.{right-at, anything}
 use Rattle.byte_forms.proofs.Rules.{one-digit, digit-at-least, digit-at-most, least-up-to, most-up-to, NoFault, no-fault, length-for}

@@ -13,7 +13,7 @@ use Rattle.format.specs.Column.{fits}
 use Rattle.format.specs.Layout.{Rule, anySign, atLeast, range, within, oneOf, isOne, inside, Col}
 use Rattle.format.proofs.Basics.{and-true}
 use Rattle.format.proofs.ColumnFits.{fits-range}
-use Rattle.layouts.specs.Tables.{integers, low, high, ruleOf, lowsOf, highsOf, Least, Greatest, LeastEach, least-none, least-more, GreatestEach, greatest-none, greatest-more, Lows, Highs}
+use Rattle.layouts.specs.Tables.{integers, low, high, ruleOf, lowsOf, highsOf, LeastEach, least-none, least-more, GreatestEach, greatest-none, greatest-more, Lows, Highs}
 use Rattle.layouts.proofs.Ranges.{list-between, size-between}
 
 -- what a width of 1 to 18 holds lies between two numbers
