@@ -2,19 +2,21 @@
 -- other files that start with Checks are the proofs. Assumes nothing.
 use mathlib.Core.Path.{_≡_, refl}
 use mathlib.Core.Logic.{_↔_, inl, inr}
-use mathlib.Core.List.{List}
+use mathlib.Core.List.{List, map}
 use Prim.Native.Nat.{ℕ, _/_}
 use native.Mathlib.Omega.{arith}
 use Rattle.format.specs.Basics.{refused, chunks}
 use Rattle.format.specs.Index.{due-a as index-a}
 use Rattle.format.specs.Sheet.{due-a as sheet-a}
+use Rattle.format.specs.Record.{view}
 use Rattle.format.specs.Judge.{fileOf, headersAndItems, items, accepted, judgeSheet, judgeIndex}
 use Rattle.format.specs.Edit.{Edit}
 use Rattle.format.specs.Above.{up}
 use Rattle.format.specs.Run.{Buffer, call}
-use Rattle.format.specs.Checks.{AnswersFirst, editChecks, wayUpChecks, StageOneFails, StageTwo, IndexStageTwo, Ten, LeftOver, AllPass, Missing, sheetWalk, indexWalk, ofPart, SheetRefusal, IndexRefusal, stageOne, stageTwo, stageThree}
+use Rattle.format.specs.Checks.{AnswersFirst, editChecks, wayUpChecks, StageOneFails, StageTwo, IndexStageTwo, Ten, LeftOver, AllPass, Missing, dueBehindAll, DueMeans, StageMeans, OpenLevel, headerOrItem, sheetWalk, indexWalk, ofPart, SheetRefusal, IndexRefusal, stageOne, stageTwo, stageThree}
 use Rattle.format.proofs.ChecksJudging.{sheet-refused, sheet-accepted, fault-number}
 use Rattle.format.proofs.ChecksIndex.{index-refused, index-accepted}
+use Rattle.format.proofs.ChecksDue.{due-means, open-means, stage-means}
 use Rattle.format.proofs.ChecksEdits.{edit-first}
 use Rattle.format.proofs.ChecksWayUp.{way-up-first}
 
@@ -74,6 +76,18 @@ left-over-exactly used buffer at = (λ e. there ((index-refused used buffer 10 a
     there (stageTwo x (inl f)) = absurd (omega (arith, (fault-number indexWalk index-a 1 (chunks (used / 84) buffer) 10 at f) .1))
     there (stageTwo x (inr y)) = absurd (omega (arith, y .0))
     there (stageThree x y a t) = (x, y, t .0, t .1)
+
+-- what is due when a record is reached is what document 01 says of the records in front: a, b, c, then sets, "this last set revisions + 1 times"
+pub sheet-part-means : (front : List (List ℕ)) → DueMeans (dueBehindAll sheetWalk (ofPart sheet-a) front) front
+sheet-part-means = due-means
+
+-- the open level, behind these records of the body
+pub open-level-means : (front : List (List ℕ)) (opened : ℕ) → dueBehindAll sheetWalk (headerOrItem 0) front ≡ headerOrItem opened → OpenLevel (map view front) opened
+open-level-means = open-means
+
+-- an index
+pub index-means : (front : List (List ℕ)) → StageMeans (dueBehindAll indexWalk index-a front) front
+index-means = stage-means
 
 -- ---- Edits
 -- "Insertion and removal judge the file first (1 to 10)": a sheet that judging refuses is refused so, and the buffer stays

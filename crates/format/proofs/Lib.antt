@@ -41,6 +41,7 @@ pub mod ChecksRecords
 pub mod ChecksParts
 pub mod ChecksWalks
 pub mod ChecksEdits
+pub mod ChecksDue
 pub mod ChecksWayUp
 pub mod ChecksCounts
 pub mod ChecksJudging

@@ -15,7 +15,7 @@ use Rattle.format.specs.Column.{columnOf}
 use Rattle.format.specs.declared.Column.the-variants.{Value}
 use Rattle.format.specs.Layout.{Rule, anySign, atLeast, range, within, oneOf, What, text, blank, integral, integralOrSpaces, Col, bytesOf, integerAt, numberAt, element, gridHeader, netHeader, dataNote, sheetA, sheetB, sheetC, sheetD, sheetE, sheetF, indexA, indexB, indexC}
 use Rattle.format.specs.Record.{RecordType, H, E1, E2, E3, E4, E5, E6, E7, E8, G, T, other, typeOf, Kind, head, item, neither, kindOf, typeColumns, Data, nothing, points3D, points2D, triangles, heights, notes, attributes, dataColumns, isHead, View, view}
-use Rattle.format.specs.Sheet.{Phase, due-a, due-b, due-c, due-d, due-e, due-f, body, after, fractionsOf}
+use Rattle.format.specs.Sheet.{Phase, due-a, due-b, due-c, due-d, due-e, due-f, body, after, wholesOf, fractionsOf}
 use Rattle.format.specs.Index as Index
 use Rattle.format.specs.Index.{Stage}
 use Rattle.format.specs.Judge.{dueOf, openOf, headersAndItems, items, sum, File, fileOf}
@@ -342,6 +342,48 @@ pub data Missing (records : List (List ℕ)) (at : ℕ) : Type 0 where
 -- "A missing record is reached past the end, after those before it"
 abbrev pub StageTwo : List (List ℕ) → (number at : ℕ) → Type 0
 StageTwo records number at = FirstFault sheetWalk (ofPart due-a) 1 records number at ⊎ ((number ≡ 3) × AllPass sheetWalk (ofPart due-a) records × Missing records at)
+
+-- ---- What is due, by the records in front. That the walks go by it is `sheet-part-means`, `index-means` and `open-level-means` in the claims
+-- whole sets of d, e and the f records that d states, so many
+abbrev pub Sets : (count : ℕ) → List (List ℕ) → Type 0
+Sets zero records = records ≡ []
+Sets (suc count) records = (before : List (List ℕ)) × (d : List ℕ) × (e : List ℕ) × (fs : List (List ℕ)) × (records ≡ before ++ d ∷ e ∷ fs) × (length fs ≡ numberAt sheetD "f records" d) × Sets count before
+
+-- "Records a, b, c, then d, e and the f records, this last set revisions + 1 times": a, b, c, whole sets and the records of one that is not
+-- whole; so many sets are still to end. Unit and wholes are those of record b
+pub record InFront (records : List (List ℕ)) (unit : ℕ) (wholes : List ℤ) (toCome : ℕ) (started : List (List ℕ)) : Type 0 where
+  pub a : List ℕ
+  pub b : List ℕ
+  pub c : List ℕ
+  pub sets : List (List ℕ)
+  pub ended : ℕ
+  pub whole : records ≡ a ∷ b ∷ c ∷ (sets ++ started)
+  pub areSets : Sets ended sets
+  pub count : ended + toCome ≡ numberAt sheetA "revisions" a + 1
+  pub unitOfB : unit ≡ numberAt sheetB "unit" b
+  pub wholesOfB : wholes ≡ wholesOf b
+
+abbrev pub PhaseMeans : Phase → List (List ℕ) → Type 0
+PhaseMeans due-a records = records ≡ []
+PhaseMeans (due-b level more) records = (a : List ℕ) × (records ≡ a ∷ []) × (level ≡ numberAt sheetA "level" a) × (more ≡ numberAt sheetA "revisions" a)
+PhaseMeans (due-c unit wholes more) records = (a : List ℕ) × (b : List ℕ) × (records ≡ a ∷ b ∷ []) × (more ≡ numberAt sheetA "revisions" a) × (unit ≡ numberAt sheetB "unit" b) × (wholes ≡ wholesOf b)
+PhaseMeans (due-d unit wholes more) records = InFront records unit wholes (suc more) []
+PhaseMeans (due-e unit wholes more fs) records = (d : List ℕ) × InFront records unit wholes (suc more) (d ∷ []) × (fs ≡ numberAt sheetD "f records" d)
+PhaseMeans (due-f unit wholes more fs) records = (d : List ℕ) × (e : List ℕ) × (done : List (List ℕ)) × InFront records unit wholes (suc more) (d ∷ e ∷ done) × (length done + suc fs ≡ numberAt sheetD "f records" d)
+PhaseMeans body records = (part : List (List ℕ)) × (rest : List (List ℕ)) × (unit : ℕ) × (wholes : List ℤ) × (records ≡ part ++ rest) × InFront part unit wholes 0 []
+
+-- a header, an item or data is due behind the whole sheet part alone
+abbrev pub DueMeans : Due → List (List ℕ) → Type 0
+DueMeans (ofPart phase) records = PhaseMeans phase records
+DueMeans (headerOrItem opened) records = PhaseMeans body records
+DueMeans (dataOf opened held more) records = PhaseMeans body records
+
+-- an index: record a, its b records, its c records
+abbrev pub StageMeans : Stage → List (List ℕ) → Type 0
+StageMeans Index.due-a records = records ≡ []
+StageMeans (Index.due-b bs cs) records = (a : List ℕ) × (done : List (List ℕ)) × (records ≡ a ∷ done) × (length done + suc bs ≡ numberAt indexA "b records" a) × (cs ≡ numberAt indexA "c records" a)
+StageMeans (Index.due-c cs) records = (a : List ℕ) × (done : List (List ℕ)) × (records ≡ a ∷ done) × (length done + suc cs ≡ numberAt indexA "b records" a + numberAt indexA "c records" a)
+StageMeans Index.over records = (a : List ℕ) × (done : List (List ℕ)) × (rest : List (List ℕ)) × (records ≡ a ∷ (done ++ rest)) × (length done ≡ numberAt indexA "b records" a + numberAt indexA "c records" a)
 
 -- ---- Stage three of a sheet
 -- "Sheet element count: all items. Sheet record count: all records but the sheet part"
