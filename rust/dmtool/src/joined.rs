@@ -31,7 +31,11 @@ pub fn rule(bytes: &[u8], named: &Named) -> Vec<Fault> {
             vec![fault("sheets", "decides the b records".to_string()), fault("b records", words)]
         }
         "note data" => {
-            let range = if number("writing direction") == 0 { "-45 to 45 where the writing direction is 0, across" } else { "-135 to -45 where the writing direction is 1, down" };
+            let range = if number("writing direction") == 0 {
+                "-45 to 45 where the writing direction is 0, across"
+            } else {
+                "-135 to -45 where the writing direction is 1, down"
+            };
             let direction = layout.value("direction", named.bytes).unwrap_or(0);
             vec![fault("direction", format!("is {direction}, must be {range}"))]
         }

@@ -162,7 +162,11 @@ fn element(r: &mut Random, all: &Layouts, kind: usize, level: usize) -> Vec<Vec<
 fn note(r: &mut Random, all: &Layouts) -> Vec<u8> {
     let writing = r.below(2);
     let direction = if writing == 0 { r.between(-45, 45) } else { r.between(-135, -45) };
-    Draft::new(&all.note).number(r, "writing direction", writing as i64).number(r, "direction", direction).text("text", "a name").filled(r)
+    Draft::new(&all.note)
+        .number(r, "writing direction", writing as i64)
+        .number(r, "direction", direction)
+        .text("text", "a name")
+        .filled(r)
 }
 
 fn grid(r: &mut Random, all: &Layouts, level: usize) -> Vec<Vec<u8>> {
