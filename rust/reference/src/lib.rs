@@ -16,6 +16,7 @@ pub mod protocol;
 pub mod random;
 pub mod record;
 pub mod sheets;
+pub mod vectors;
 pub mod way_up;
 
 /// A refusal: the paper's number and the record, 0 where it names none.

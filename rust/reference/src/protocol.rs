@@ -128,3 +128,8 @@ pub fn answer(line: &str) -> Result<String, String> {
         None => Ok(text),
     }
 }
+
+/// What the protocol writes for a line.
+pub fn reply(line: &str) -> String {
+    answer(line).unwrap_or_else(|reason| format!("error {reason}"))
+}

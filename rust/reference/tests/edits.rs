@@ -1,8 +1,6 @@
-//! The stored lists of edits: answered as stored, every answer among them, accepted ones common, and removals that undo insertions.
+//! The stored lists of edits: every answer among them, accepted ones common, and removals that undo insertions.
 
 use std::collections::BTreeMap;
-use std::io::Write;
-use std::process::{Command, Stdio};
 
 fn stored(name: &str) -> Vec<u8> {
     let folder = concat!(env!("CARGO_MANIFEST_DIR"), "/../../crates/edit_vectors/");
@@ -11,17 +9,6 @@ fn stored(name: &str) -> Vec<u8> {
 
 fn answers() -> Vec<String> {
     String::from_utf8(stored("stdout")).expect("text").lines().map(str::to_string).collect()
-}
-
-#[test]
-fn the_stored_answers_are_the_references() {
-    let mut command = Command::new(env!("CARGO_BIN_EXE_edits"));
-    let mut child = command.arg("answer").stdin(Stdio::piped()).stdout(Stdio::piped()).spawn().expect("edits");
-    // The child reads all of its input before it writes.
-    child.stdin.take().expect("a pipe").write_all(&stored("stdin")).expect("its input");
-    let output = child.wait_with_output().expect("its output");
-    assert!(output.status.success());
-    assert!(output.stdout == stored("stdout"));
 }
 
 /// The lines of calls, in order: the word and whether it is followed by bytes stand in the input, the answers in the output.

@@ -1,0 +1,5 @@
+//! The stored vectors: what the vector programs read, made from a seed, and what they have to print.
+
+pub mod edits;
+pub mod files;
+pub mod leaves;
