@@ -5,15 +5,37 @@ use reference::random::Random;
 use reference::{sheets, RECORD};
 use zvaigulta::{insert, judge_index, judge_sheet, remove, Refusal};
 
-/// A quarter of a million cases for the calls on numbers, 30,000 for those on files.
-#[test]
-fn no_difference() {
-    for area in &AREAS {
-        let cases = if area.name.contains("columns") || area.name.contains("corners") { 250_000 } else { 30_000 };
-        let mut answers = Answers::default();
-        (area.run)(&mut Random(2026), cases, &mut answers).unwrap_or_else(|difference| panic!("{}: {difference}", area.name));
-        assert!(answers.have(area.answers), "{}: {:?}", area.name, answers.0);
-    }
+/// So many cases of an area, with every answer that must be among them.
+fn no_difference_in(name: &str, cases: usize) {
+    let area = AREAS.iter().find(|area| area.name == name).expect("an area");
+    let mut answers = Answers::default();
+    (area.run)(&mut Random(2026), cases, &mut answers).unwrap_or_else(|difference| panic!("{}: {difference}", area.name));
+    assert!(answers.have(area.answers), "{}: {:?}", area.name, answers.0);
+}
+
+/// A test for each area, so that they run beside each other; and one that none is left out.
+macro_rules! areas {
+    ($($test:ident: $name:literal, $cases:literal;)*) => {
+        $(#[test] fn $test() { no_difference_in($name, $cases) })*
+
+        #[test]
+        fn every_area_has_its_test() {
+            assert_eq!(AREAS.map(|area| area.name), [$($name),*]);
+        }
+    };
+}
+
+areas! {
+    reading_columns: "reading columns", 250_000;
+    writing_columns: "writing columns", 250_000;
+    joining_corners: "joining corners", 250_000;
+    splitting_corners: "splitting corners", 250_000;
+    judging_sheets: "judging sheets", 30_000;
+    judging_indexes: "judging indexes", 30_000;
+    normal_forms: "normal forms", 30_000;
+    ways_up: "ways up", 30_000;
+    the_programs_line: "the program's line", 30_000;
+    lists_of_edits: "lists of edits", 30_000;
 }
 
 #[test]
@@ -52,26 +74,10 @@ fn the_technicians_grid() {
     }
 }
 
-/// A layer of single-record points that make a sheet of just so many records.
-fn points(records: usize) -> Vec<u8> {
-    let part = sheets::sheet_of(&mut Random(3), Vec::new(), 0).len() / RECORD;
-    let layers = (records - part).div_ceil(50_000);
-    let mut body = Vec::new();
-    let mut items = 0;
-    for n in 0..layers {
-        let count = (records - part - layers) / layers + usize::from(n < (records - part - layers) % layers);
-        body.push(sheets::layer(&[(5, count)]));
-        let point = "E52101 0   0   1 2 00210 00   0   0      0      0        0       2408              1";
-        body.extend(std::iter::repeat_n(point.as_bytes().to_vec(), count));
-        items += count;
-    }
-    sheets::sheet_of(&mut Random(3), body, items)
-}
-
 /// 200,000 records are accepted, one more is 1; inserting into a full file is 14; a block that would not fit the buffer is 15.
 #[test]
 fn two_hundred_thousand_records() {
-    let mut file = points(200_000);
+    let mut file = sheets::sheet_of_points(200_000);
     let used = file.len();
     assert_eq!(used, 200_000 * RECORD);
     assert_eq!(judge_sheet(&file, used).map(|c| c.records), Ok(200_000));

@@ -350,6 +350,22 @@ pub fn sheet_of(r: &mut Random, body: Vec<Vec<u8>>, items: usize) -> Vec<u8> {
     records.concat()
 }
 
+/// An accepted sheet of just so many records: layers of points, of one record each.
+pub fn sheet_of_points(records: usize) -> Vec<u8> {
+    let part = sheet_of(&mut Random(3), Vec::new(), 0).len() / RECORD;
+    let layers = (records - part).div_ceil(50_000);
+    let mut body = Vec::new();
+    let mut items = 0;
+    for n in 0..layers {
+        let count = (records - part - layers) / layers + usize::from(n < (records - part - layers) % layers);
+        body.push(layer(&[(5, count)]));
+        let point = "E52101 0   0   1 2 00210 00   0   0      0      0        0       2408              1";
+        body.extend(std::iter::repeat_n(point.as_bytes().to_vec(), count));
+        items += count;
+    }
+    sheet_of(&mut Random(3), body, items)
+}
+
 /// A random accepted sheet; `size` bounds its branching.
 pub fn sheet(r: &mut Random, size: usize) -> Vec<u8> {
     let mut out = Vec::new();
