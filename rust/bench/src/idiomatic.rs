@@ -178,7 +178,7 @@ fn element(record: &[u8], kind: usize) -> Item {
         1 | 2 => points && count >= 1,
         3 | 4 => points && count == 3,
         5 => (data <= 1 && count == 0) || (points && count >= 1),
-        6 => points && count >= 2 && count % 2 == 0,
+        6 => points && count >= 2 && count.is_multiple_of(2),
         7 => data == 4 && count >= 1,
         _ => data == 5 && count >= 1,
     };
@@ -374,7 +374,7 @@ impl<'a> Judge<'a> {
 
 /// Judges a sheet.
 pub fn judge_sheet(buffer: &[u8], used: usize) -> Result<Counts, Refusal> {
-    if used == 0 || used % RECORD != 0 || used / RECORD > MOST_RECORDS {
+    if used == 0 || !used.is_multiple_of(RECORD) || used / RECORD > MOST_RECORDS {
         return refuse(1, 0);
     }
     let Some(file) = buffer.get(..used) else {

@@ -19,7 +19,7 @@ fn some_column(r: &mut Random) -> Vec<u8> {
     }
     if width > 0 && r.once_in(4) {
         let at = r.below(width);
-        bytes[at] = if r.once_in(2) { r.next() as u8 } else { *r.pick(b" -+09/:") };
+        bytes[at] = if r.once_in(2) { r.word() as u8 } else { *r.pick(b" -+09/:") };
     }
     bytes
 }
@@ -32,7 +32,7 @@ fn some_number(r: &mut Random) -> i64 {
         1 => 10i64.pow(r.below(19) as u32) + near,
         2 => -(10i64.pow(r.below(19) as u32)) + near,
         3 => *r.pick(&[i64::MIN, i64::MIN + 1, i64::MAX, i64::MAX - 1, 0, -1]),
-        _ => r.next() as i64 >> r.below(64),
+        _ => r.word() as i64 >> r.below(64),
     }
 }
 

@@ -89,7 +89,7 @@ fn the_ends_of_its_input() {
 #[test]
 fn arbitrary_bytes() {
     let mut r = Random(65);
-    let bytes: Vec<u8> = (0..100 * RECORD).map(|_| r.next() as u8).collect();
+    let bytes: Vec<u8> = (0..100 * RECORD).map(|_| r.word() as u8).collect();
     prints("bytes", &bytes, "refused 2 at record 1");
     prints("ragged_bytes", &bytes[5..], "refused 1 at record 0");
 }

@@ -25,9 +25,9 @@ fn number(r: &mut Random) -> String {
     ];
     match r.below(12) {
         0 => r.pick(&ODD).to_string(),
-        1 => format!("-{}", r.next() >> (1 + r.below(63))),
+        1 => format!("-{}", r.word() >> (1 + r.below(63))),
         2 => format!("000{}", r.below(100)),
-        _ => (r.next() >> (1 + r.below(63))).to_string(),
+        _ => (r.word() >> (1 + r.below(63))).to_string(),
     }
 }
 

@@ -43,7 +43,7 @@ fn place(r: &mut Random, places: &[u64], used: usize) -> u64 {
         return *r.pick(places);
     }
     let records = (used / RECORD) as u64;
-    let some = r.next() % (records + 2);
+    let some = r.word() % (records + 2);
     *r.pick(&[0, 1, records, records + 1, records + 2, u64::MAX, some])
 }
 

@@ -7,7 +7,7 @@ use crate::{refuse, Refusal, MOST_RECORDS, RECORD};
 
 /// The item that a block is: exactly one, sound but for nesting.
 fn block_item(block: &[u8]) -> Option<(Sort, usize)> {
-    if block.is_empty() || block.len() % RECORD != 0 {
+    if block.is_empty() || !block.len().is_multiple_of(RECORD) {
         return None;
     }
     let records: Vec<&[u8]> = block.chunks(RECORD).collect();

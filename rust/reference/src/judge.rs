@@ -29,7 +29,7 @@ pub struct Walked {
 
 /// Stage one.
 pub fn records(buffer: &[u8], used: usize) -> Result<Vec<&[u8]>, Refusal> {
-    if used == 0 || used > buffer.len() || used % RECORD != 0 || used / RECORD > MOST_RECORDS {
+    if used == 0 || used > buffer.len() || !used.is_multiple_of(RECORD) || used / RECORD > MOST_RECORDS {
         return refuse(1, 0);
     }
     Ok(buffer[..used].chunks(RECORD).collect())

@@ -81,7 +81,7 @@ impl Item {
                     1 | 2 => points && count >= 1,
                     3 | 4 => points && count == 3,
                     5 => ((kind == 0 || kind == 1) && count == 0) || (points && count >= 1),
-                    6 => points && count >= 2 && count % 2 == 0,
+                    6 => points && count >= 2 && count.is_multiple_of(2),
                     7 => kind == 4 && count >= 1,
                     _ => kind == 5 && count >= 1,
                 };

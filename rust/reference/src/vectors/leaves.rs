@@ -5,7 +5,7 @@ use crate::random::Random;
 
 /// A number whose size is as likely small as large, either sign.
 fn value(r: &mut Random) -> i64 {
-    let n = (r.next() >> r.below(64)) as i64;
+    let n = (r.word() >> r.below(64)) as i64;
     if r.once_in(2) {
         n.wrapping_neg()
     } else {
