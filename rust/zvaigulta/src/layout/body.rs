@@ -149,6 +149,16 @@ pub static DATA_GRID: Layout = Layout {
 };
 
 /// Data of a note: I1 (0,1), direction I7, I5, I5, I2, A64.
+///
+/// The names are those of source 002: the writing direction is 0 across and 1 down, the direction is in degrees, letter size and spacing are in
+/// tenths of a millimetre, and the line weight is how thick the letters are drawn.
+///
+/// ```
+/// use zvaigulta::layout::DATA_NOTE;
+///
+/// let names: Vec<&str> = DATA_NOTE.columns.iter().map(|column| column.name).collect();
+/// assert_eq!(names, ["writing direction", "direction", "letter size", "letter spacing", "line weight", "text"]);
+/// ```
 pub static DATA_NOTE: Layout = Layout {
     name: "note data",
     columns: &laid([
