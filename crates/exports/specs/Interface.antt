@@ -1,6 +1,6 @@
 -- Answers as the structs of numbers that C sees: the values of an accepted call, or number and record of its refusal. Assumes nothing.
 use mathlib.Core.List.{List}
-use Prim.Native.Nat.{ℕ}
+use Prim.Native.Nat.{ℕ, suc}
 use lib.IntN.{ℤ, pos}
 use Rattle.format.specs.Basics.{Answer, given, refused, Outcome}
 use Rattle.format.specs.Corner.{Corner}
@@ -46,3 +46,17 @@ wroteOf o = record { result = lengthOf (o .answer); bytes = o .bytes }
 -- an edit: its answer, and all bytes of the lent buffer afterwards
 abbrev pub editedOf : Step → Wrote
 editedOf s = record { result = lengthOf (s .reply); bytes = s .buffer .bytes }
+
+-- ---- A struct says no less than its answer where `refusal` is 0 for no refusal and `header` is 0 for no header. That this is so of every answer of every call,
+-- and that the structs then tell their answers apart, is in proofs/ClaimsInterface.antt
+
+-- a refusal's number is at least 1
+pub data Numbered {A : Type 0} : Answer A → Type 0 where
+  answers : {a : A} → Numbered (given a)
+  refuses : {n at : ℕ} → Numbered (refused (suc n) at)
+
+-- and so is the number of a header
+pub data WayNumbered : Answer Way → Type 0 where
+  hasNone : WayNumbered (given noHeader)
+  hasHeader : {n passed : ℕ} → WayNumbered (given (toHeader (suc n) passed))
+  refusesWay : {n at : ℕ} → WayNumbered (refused (suc n) at)
