@@ -29,9 +29,12 @@ same-decides [] (y ∷ ys) = record { yes = λ e. absurd (false≢true e); no = 
 same-decides (x ∷ xs) [] = record { yes = λ e. absurd (false≢true e); no = λ e q. let x : _≡_ {A = ℕ} 0 1 = cc in omega arith }
 same-decides (x ∷ xs) (y ∷ ys) = decides-map (λ h. let p : x ≡ y = h .0 in let q : xs ≡ ys = h .1 in cc) (λ q. let p : x ≡ y = cc in let t : xs ≡ ys = cc in (p, t)) (decides-and (decides-eqb x y) (same-decides xs ys))
 
-starts-says : (type : String) (r : List ℕ) → length (bytes type) ≡ 2 → Says (begins type r) (Starts type r → ⊥)
+pub starts-decides : (type : String) (r : List ℕ) → length (bytes type) ≡ 2 → Decides (begins type r) (Starts type r)
 unfolding begins
-starts-says type r two = decides-says (rw two (same-decides (take 2 r) (bytes type)))
+starts-decides type r two = rw two (same-decides (take 2 r) (bytes type))
+
+starts-says : (type : String) (r : List ℕ) → length (bytes type) ≡ 2 → Says (begins type r) (Starts type r → ⊥)
+starts-says type r two = decides-says (starts-decides type r two)
 
 -- ---- 6 at record b
 of-two : (n a b : ℕ) → Decides (eqb n a || eqb n b) (OneOf n (a ∷ b ∷ []))
@@ -70,7 +73,7 @@ says-not : {test : Bool} {P : Type 0} → Decides test P → Says (not test) P
 says-not {test = true} d = record { yes = λ e. d .yes refl; no = λ e. absurd (false≢true e) }
 says-not {test = false} d = record { yes = λ e. absurd (false≢true (sym e)); no = λ e. d .no refl }
 
-fraction-says : (unit : ℕ) (whole fraction : ℤ) → Says (fractionOk unit whole fraction) (FractionWrong unit whole fraction)
+pub fraction-says : (unit : ℕ) (whole fraction : ℤ) → Says (fractionOk unit whole fraction) (FractionWrong unit whole fraction)
 unfolding fractionOk
 fraction-says unit whole fraction = says-and (large-says unit fraction) (says-not (decides-or (decides-and (decides-ltZ whole (pos 0)) (decides-ltZ (pos 0) fraction)) (decides-and (decides-ltZ (pos 0) whole) (decides-ltZ fraction (pos 0)))))
 
@@ -92,7 +95,7 @@ two-bytes-M : length (bytes "M ") ≡ 2
 unfolding bytes
 two-bytes-M = refl
 
-two-bytes-I : length (bytes "I ") ≡ 2
+pub two-bytes-I : length (bytes "I ") ≡ 2
 unfolding bytes
 two-bytes-I = refl
 

@@ -108,7 +108,7 @@ level-says (item k) opened level = says-and (says-and (says-leb 2 level) (says-l
 level-says neither opened level = says-and (says-and (says-leb 2 level) (says-leb level 9)) (near opened level)
 
 -- ---- 8
-member-decides : (n : ℕ) (ns : List ℕ) → Decides (member n ns) (OneOf n ns)
+pub member-decides : (n : ℕ) (ns : List ℕ) → Decides (member n ns) (OneOf n ns)
 member-decides n [] = record { yes = λ e. false≢true e; no = λ e x. x }
 member-decides n (m ∷ ns) = decides-or (decides-eqb n m) (member-decides n ns)
 

@@ -3,20 +3,21 @@ use mathlib.Core.Path.{_≡_, ap, sym, _∙_}
 use mathlib.Core.Bool.{true}
 use mathlib.Core.Logic.{_⊎_, _↔_}
 use mathlib.Core.List.{List, [], _∷_, _++_}
-use Prim.Native.Nat.{ℕ, suc, _/_, _<_}
+use Prim.Native.Nat.{ℕ, suc, _/_, _≤_, _<_}
 use lib.IntN.{ℤ}
-use lib.ListN.{length}
-use borrow.Author.Tests.{lt-leb}
+use lib.ListN.{length, drop}
+use borrow.Author.Tests.{lt-leb, le-leb}
 use Rattle.format.specs.Text.{bytes}
 use Rattle.format.specs.Basics.{given, refused, none, chunks}
 use Rattle.format.specs.Record.{View, isHead, nothing}
-use Rattle.format.specs.Program.{line, printed}
+use Rattle.format.specs.Program.{lineOf, line, printed, lineTo, reportTo}
 use Rattle.format.specs.Column.{readAlone, writeAlone}
 use Rattle.format.specs.Corner.{Corner, join, split}
-use Rattle.format.specs.Judge.{File, fileOf, headersAndItems, countUnder, walk, accepted, judge, judgeSheet}
+use Rattle.format.specs.Judge.{File, fileOf, headersAndItems, countUnder, walk, accepted, judge, judgeSheet, judgeIndex}
 use Rattle.format.specs.Edit.{Edit, dueBehind}
 use Rattle.format.specs.Run.{Buffer, Runs, Sound}
 use Rattle.format.specs.Above.{countWithAbove}
+use Rattle.format.specs.Checks.{Starts}
 use Rattle.format.proofs.JudgeWalks.{headersAndItems-append, walk-passes}
 use Rattle.format.proofs.JudgeCounts.{Agree, counted-at}
 use Rattle.format.proofs.Above.{dataRecords-head}
@@ -26,6 +27,7 @@ use Rattle.format.proofs.ColumnRoundTrip.{round-trip}
 use Rattle.format.proofs.Corners.{split-only, split-joins, split-answers, refused-unjoined, unjoined-refused}
 use Rattle.format.proofs.Run.{Opened, accepted-opened, held-judged, sound, demand3}
 use Rattle.format.proofs.SheetCounts.{theLaws}
+use Rattle.format.proofs.ChecksAlone.{input-index, input-sheet}
 
 -- what was written reads as that number, for every width and number
 pub written-reads : (column : List ℕ) (z : ℤ) (n : ℕ) → (writeAlone column z) .answer ≡ given n → readAlone ((writeAlone column z) .bytes) ≡ given z
@@ -77,7 +79,23 @@ counts-stated f n m e P Q h is due hh kind l = agree .each kind l ∙ sym (meani
     agree : Agree h (headersAndItems 0 Q)
     agree = counted-at (headersAndItems 0 P) h (headersAndItems 0 Q) hh (rw entries at (k .counted))
 
+-- "standard input up to 65,520 bytes; judged as an index if it starts "I ", else as a sheet"
+pub printed-index : (input : List ℕ) → length input ≤ 65520 → Starts "I " input → printed input ≡ lineOf (judgeIndex (length input) input) ++ 10 ∷ []
+printed-index = input-index
+
+pub printed-sheet : (input : List ℕ) → length input ≤ 65520 → (Starts "I " input → ⊥) → printed input ≡ lineOf (judgeSheet (length input) input) ++ 10 ∷ []
+printed-sheet = input-sheet
+
 -- a longer input is not judged
 pub too-long : (input : List ℕ) → 65520 < length input → printed input ≡ bytes "too long" ++ 10 ∷ []
 unfolding printed line
 too-long input h = rw (lt-leb (length input) 65520 h)
+
+-- the same in a lent buffer: 15 at record 0 where it is shorter than the line, and it is as it was; else the line, and the bytes behind it stay
+pub report-15 : (input out : List ℕ) → length out < length (printed input) → reportTo input out ≡ record { answer = refused 15 0; bytes = out }
+unfolding reportTo lineTo
+report-15 input out l = rw (lt-leb (length (printed input)) (length out) l)
+
+pub report-written : (input out : List ℕ) → length (printed input) ≤ length out → reportTo input out ≡ record { answer = given (length (printed input)); bytes = printed input ++ drop (length (printed input)) out }
+unfolding reportTo lineTo
+report-written input out l = rw (le-leb (length (printed input)) (length out) l)

@@ -3,19 +3,24 @@
 use mathlib.Core.Path.{_≡_, refl}
 use mathlib.Core.Logic.{_↔_, inl, inr}
 use mathlib.Core.List.{List, map}
-use Prim.Native.Nat.{ℕ, _/_}
+use Prim.Native.Nat.{ℕ, suc, _+_, _/_}
 use native.Mathlib.Omega.{arith}
+use lib.IntN.{ℤ}
 use Rattle.format.specs.Basics.{refused, chunks}
 use Rattle.format.specs.Index.{due-a as index-a}
 use Rattle.format.specs.Sheet.{due-a as sheet-a}
-use Rattle.format.specs.Record.{view}
+use Rattle.format.specs.Record.{H, view, typeOf, countIndex, dataColumns}
+use Rattle.format.specs.Layout.{numberAt, header}
+use Rattle.format.specs.Corner.{join}
 use Rattle.format.specs.Judge.{fileOf, headersAndItems, items, accepted, judgeSheet, judgeIndex}
 use Rattle.format.specs.Edit.{Edit}
 use Rattle.format.specs.Above.{up}
 use Rattle.format.specs.Run.{Buffer, call}
-use Rattle.format.specs.Checks.{AnswersFirst, editChecks, wayUpChecks, StageOneFails, StageTwo, IndexStageTwo, Ten, LeftOver, AllPass, Missing, dueBehindAll, DueMeans, StageMeans, OpenLevel, headerOrItem, sheetWalk, indexWalk, ofPart, SheetRefusal, IndexRefusal, stageOne, stageTwo, stageThree}
+use Rattle.format.specs.Checks.{AnswersFirst, editChecks, wayUpChecks, StageOneFails, StageTwo, IndexStageTwo, Ten, LeftOver, AllPass, Missing, dueBehindAll, DueMeans, StageMeans, OpenLevel, headerOrItem, FirstOf, inOrder, headerOrItemFaults, stated, joinChecks, TypeMeans, countOf, JudgedBehind, sheetWalk, indexWalk, ofPart, SheetRefusal, IndexRefusal, stageOne, stageTwo, stageThree}
 use Rattle.format.proofs.ChecksJudging.{sheet-refused, sheet-accepted, fault-number}
 use Rattle.format.proofs.ChecksIndex.{index-refused, index-accepted}
+use Rattle.format.proofs.ChecksAlone.{join-first, type-means, count-means}
+use Rattle.format.proofs.ChecksData.{judged-behind}
 use Rattle.format.proofs.ChecksDue.{due-means, open-means, stage-means}
 use Rattle.format.proofs.ChecksEdits.{edit-first}
 use Rattle.format.proofs.ChecksWayUp.{way-up-first}
@@ -88,6 +93,24 @@ open-level-means = open-means
 -- an index
 pub index-means : (front : List (List ℕ)) → StageMeans (dueBehindAll indexWalk index-a front) front
 index-means = stage-means
+
+-- a header or an item is what its first two bytes say
+pub types-mean : (r : List ℕ) → TypeMeans (typeOf r) r
+types-mean = type-means
+
+-- and a header counts it in the column of its own kind
+pub own-kind : (h r : List ℕ) → typeOf h ≡ H → (view h) .count (countIndex ((view r) .kind)) ≡ numberAt header (countOf (typeOf r)) h
+own-kind = count-means
+
+-- the judged columns of a data record are those of the points or heights that its item's counts reach there, by data kind, rows and columns, or
+-- triangles, with so many data records of the item in front of it and so many behind
+pub data-means : (opened : ℕ) (start : List ℕ) → FirstOf (inOrder (headerOrItemFaults opened start)) 0 → (front more : ℕ) → front + suc more ≡ stated start → JudgedBehind (typeOf start) start front (dataColumns ((view start) .dataHeld) more)
+data-means = judged-behind
+
+-- ---- Corners
+-- "Called alone, joining checks in this order": 16, then 9, at record 0; the millimetres exactly where neither applies
+pub joins-in-order : (unit : ℕ) (whole fraction : ℤ) → AnswersFirst (joinChecks unit whole fraction) (join unit whole fraction)
+joins-in-order = join-first
 
 -- ---- Edits
 -- "Insertion and removal judge the file first (1 to 10)": a sheet that judging refuses is refused so, and the buffer stays

@@ -86,11 +86,11 @@ read-given l z r = at-width (width (length l))
 
 -- ---- WRITTEN ALONE
 -- whether a number fits, in numbers
-data Fitting (w : ℕ) (z : ℤ) : Type 0 where
+pub data Fitting (w : ℕ) (z : ℤ) : Type 0 where
   small : fits w z ≡ true → (TooLarge w z → ⊥) → Fitting w z
   large : fits w z ≡ false → TooLarge w z → Fitting w z
 
-fitting : (w : ℕ) (z : ℤ) → RightWidth w → Fitting w z
+pub fitting : (w : ℕ) (z : ℤ) → RightWidth w → Fitting w z
 fitting w (pos n) r = at-test (ltb n (10 ^ w)) refl
   where
     at-test : (t : Bool) → ltb n (10 ^ w) ≡ t → Fitting w (pos n)

@@ -46,6 +46,8 @@ pub mod ChecksWayUp
 pub mod ChecksCounts
 pub mod ChecksJudging
 pub mod ChecksIndex
+pub mod ChecksAlone
+pub mod ChecksData
 pub mod ClaimsColumns
 pub mod Claims
 pub mod ClaimsNested

@@ -13,7 +13,8 @@ use Rattle.format.specs.Text.{bytes}
 use Rattle.format.specs.Basics.{minus, Answer, given, refused, chunks}
 use Rattle.format.specs.Column.{columnOf}
 use Rattle.format.specs.declared.Column.the-variants.{Value}
-use Rattle.format.specs.Layout.{Rule, anySign, atLeast, range, within, oneOf, What, text, blank, integral, integralOrSpaces, Col, bytesOf, integerAt, numberAt, element, gridHeader, netHeader, dataNote, sheetA, sheetB, sheetC, sheetD, sheetE, sheetF, indexA, indexB, indexC}
+use Rattle.format.specs.Shape.{TooLarge}
+use Rattle.format.specs.Layout.{Rule, anySign, atLeast, range, within, oneOf, What, text, blank, integral, integralOrSpaces, Col, bytesOf, integerAt, numberAt, element, gridHeader, netHeader, data3D, data2D, dataNote, dataAttribute, dataGrid, dataNet, sheetA, sheetB, sheetC, sheetD, sheetE, sheetF, indexA, indexB, indexC}
 use Rattle.format.specs.Record.{RecordType, H, E1, E2, E3, E4, E5, E6, E7, E8, G, T, other, typeOf, Kind, head, item, neither, kindOf, typeColumns, Data, nothing, points3D, points2D, triangles, heights, notes, attributes, dataColumns, isHead, View, view}
 use Rattle.format.specs.Sheet.{Phase, due-a, due-b, due-c, due-d, due-e, due-f, body, after, wholesOf, fractionsOf}
 use Rattle.format.specs.Index as Index
@@ -520,3 +521,82 @@ editChecks (remove place) b =
 abbrev pub wayUpChecks : (used : ℕ) → List ℕ → (number : ℕ) → List Check
 wayUpChecks used buffer number =
     record { number = 17; applies = (number ≡ 0) ⊎ (number ≤ (fileOf (chunks (used / 84) buffer)) .partLength) ⊎ (used / 84 < number) } ∷ []
+
+-- ---- Joining alone, "in this order: unit not 1, 10 or 999, or whole or fraction not fitting its column: 16; fraction too large or of opposite sign:
+-- 9". A whole's column is I7, a fraction's I4
+abbrev pub joinChecks : (unit : ℕ) → (whole fraction : ℤ) → List Check
+joinChecks unit whole fraction =
+    record { number = 16; applies = ((OneOf unit (1 ∷ 10 ∷ 999 ∷ []) → ⊥) ⊎ TooLarge 7 whole) ⊎ TooLarge 4 fraction } ∷
+    record { number = 9; applies = FractionWrong unit whole fraction } ∷ []
+
+-- ---- The type of a record: its first two bytes, "H, E1..E8, G or T"
+abbrev pub letters : List String
+letters = "H " ∷ "E1" ∷ "E2" ∷ "E3" ∷ "E4" ∷ "E5" ∷ "E6" ∷ "E7" ∷ "E8" ∷ "G " ∷ "T " ∷ []
+
+abbrev pub TypeMeans : RecordType → List ℕ → Type 0
+TypeMeans H r = Starts "H " r
+TypeMeans E1 r = Starts "E1" r
+TypeMeans E2 r = Starts "E2" r
+TypeMeans E3 r = Starts "E3" r
+TypeMeans E4 r = Starts "E4" r
+TypeMeans E5 r = Starts "E5" r
+TypeMeans E6 r = Starts "E6" r
+TypeMeans E7 r = Starts "E7" r
+TypeMeans E8 r = Starts "E8" r
+TypeMeans G r = Starts "G " r
+TypeMeans T r = Starts "T " r
+TypeMeans other r = Some (λ (two : String). Starts two r) letters → ⊥
+
+-- ---- The judged columns of a data record, by its item's first record and how many data records of the item stand in front of it
+-- "Points or heights after the last used one are not judged": a record takes `each` of the `count` in all, and the next record goes on
+abbrev pub Used : (each count front used : ℕ) → Type 0
+Used each count front used = (used ≤ each) × ((nth : ℕ) → nth < each → (nth < used) ↔ (each * front + nth < count))
+
+-- "3D and net, four points of three I7; 2D, six points of two I7; grid, twelve I7"
+abbrev pub Judged3D : (count front : ℕ) → (layout columns : List Col) → Type 0
+Judged3D count front layout columns = (used : ℕ) × Used 4 count front used × (columns ≡ take (3 * used) layout)
+
+abbrev pub Judged2D : (count front : ℕ) → (layout columns : List Col) → Type 0
+Judged2D count front layout columns = (used : ℕ) × Used 6 count front used × (columns ≡ take (2 * used) layout)
+
+abbrev pub JudgedGrid : (count front : ℕ) → (layout columns : List Col) → Type 0
+JudgedGrid count front layout columns = (used : ℕ) × Used 12 count front used × (columns ≡ take used layout)
+
+-- of an element, by its data kind
+pub record JudgedByKind (kind count front : ℕ) (columns : List Col) : Type 0 where
+  pub kind2 : kind ≡ 2 → Judged2D count front data2D columns
+  pub kinds36 : OneOf kind (3 ∷ 6 ∷ []) → Judged3D count front data3D columns
+  pub kind4 : kind ≡ 4 → columns ≡ dataNote
+  pub kind5 : kind ≡ 5 → columns ≡ dataAttribute
+
+abbrev pub JudgedElement : List ℕ → (front : ℕ) → List Col → Type 0
+JudgedElement start front columns = JudgedByKind (numberAt element "data kind" start) (numberAt element "data count" start) front columns
+
+abbrev pub JudgedBehind : RecordType → List ℕ → (front : ℕ) → List Col → Type 0
+JudgedBehind H start front columns = Unit {0}
+JudgedBehind E1 start front columns = JudgedElement start front columns
+JudgedBehind E2 start front columns = JudgedElement start front columns
+JudgedBehind E3 start front columns = JudgedElement start front columns
+JudgedBehind E4 start front columns = JudgedElement start front columns
+JudgedBehind E5 start front columns = JudgedElement start front columns
+JudgedBehind E6 start front columns = JudgedElement start front columns
+JudgedBehind E7 start front columns = JudgedElement start front columns
+JudgedBehind E8 start front columns = JudgedElement start front columns
+JudgedBehind G start front columns = JudgedGrid (numberAt gridHeader "rows" start * numberAt gridHeader "columns" start) front dataGrid columns
+JudgedBehind T start front columns = Judged3D (3 * numberAt netHeader "triangles" start) front dataNet columns
+JudgedBehind other start front columns = Unit {0}
+
+-- ---- The count of a header that a header or an item belongs to: its own kind, by the column's name
+abbrev pub countOf : RecordType → String
+countOf H = "groups"
+countOf E1 = "area"
+countOf E2 = "line"
+countOf E3 = "circle"
+countOf E4 = "arc"
+countOf E5 = "point"
+countOf E6 = "direction"
+countOf E7 = "note"
+countOf E8 = "attribute"
+countOf G = "grid and net"
+countOf T = "grid and net"
+countOf other = "none"

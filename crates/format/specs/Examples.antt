@@ -1,11 +1,11 @@
--- Examples, computed: a whole sheet as text, with what the program prints, its corners, the way up, an item taken out and put in again;
--- and the cases of "Around the edges" that bear no star.
+-- Examples, computed: a whole sheet as text, with what the program prints, its corners, the way up, an item taken out and put in again; an
+-- index; and the cases of "Around the edges" that bear no star.
 use mathlib.Core.Path.{_≡_, refl}
 use mathlib.Core.List.{List, [], _∷_, _++_}
 use Prim.Native.Nat.{ℕ, _/_}
 use Prim.Native.String.{String}
 use lib.IntN.{ℤ, pos}
-use lib.ListN.{length}
+use lib.ListN.{length, replicate}
 use Rattle.format.specs.Basics.{Answer, given, refused, minus, chunks}
 use Rattle.format.specs.Text.{bytes, rows, begins}
 use Rattle.format.specs.Column.{strip, isDigit, allDigits, valueOf, isNumber, negative, positive, signed, columnOf, digitsIn, digits, textOf, fits, written, readAlone, writeAlone}
@@ -28,11 +28,14 @@ d = "2408240700Plotter                       Approval 1                    100  
 abbrev pub e : String
 e = "Survey office                            -56  50   0   0   0  50 -56   0            "
 
+abbrev pub blankRow : String
+blankRow = "                                                                                    "
+
 abbrev pub five : List String
 five =
     "M 09LD1234Example sheet         500Town plan                      010               " ∷
     "  -1234   5678   -934   5978        1      4  1   -934   5678  -1234   5978         " ∷
-    "                                                                                    " ∷
+    blankRow ∷
     d ∷
     e ∷ []
 
@@ -52,9 +55,30 @@ example = rows five ++ (bytes layer ++ rows item)
 abbrev pub wrong : List ℕ
 wrong = rows five ++ (bytes "H 2100 0   0   0 1    2    0    0    1    0    0    0    0    0    002408         0 " ++ rows item)
 
+-- the example without its item
+abbrev pub emptied : List ℕ
+emptied =
+    rows (
+    "M 09LD1234Example sheet         500Town plan                      010               " ∷
+    "  -1234   5678   -934   5978        0      1  1   -934   5678  -1234   5978         " ∷
+    blankRow ∷
+    d ∷
+    e ∷
+    "H 2100 0   0   0 1    0    0    0    0    0    0    0    0    0    002408         0 " ∷ [])
+
+-- an index of eleven sheets
+abbrev pub indexFile : List ℕ
+indexFile =
+    rows (
+    "I  9City survey office             11 2   1002008Regulation                    10   " ∷
+    "09LD123109LD123209LD123309LD123409LD123509LD123609LD123709LD123809LD123909LD1240    " ∷
+    "09LD1241                                                                            " ∷
+    "2101210101000000002Roads                                                            " ∷ [])
+
 -- ---- One table, one claim
 pub data Example : Type 0 where
   reads : (column : String) → Answer ℤ → Example
+  joins : (unit : ℕ) → (whole fraction : ℤ) → Answer ℤ → Example
   prints : (input : List ℕ) → (text : String) → Example
   gridNeed : (rows columns records : ℕ) → Example
   gridStated : (repeat column records : ℕ) → Example
@@ -62,7 +86,7 @@ pub data Example : Type 0 where
   index : (record1 : String) → (number at : ℕ) → Example
   cornersAre : (file : List ℕ) → (millimetres : List ℤ) → Example
   upwards : (file : List ℕ) → (number header passed : ℕ) → Example
-  edits : (calls : List Edit) → (file : List ℕ) → (replies : List (Answer ℕ)) → (after : List ℕ) → Example
+  edits : (calls : List Edit) → (file : List ℕ) → (behind : String) → (replies : List (Answer ℕ)) → (after : List ℕ) → Example
 
 abbrev pub table : List Example
 table =
@@ -75,6 +99,8 @@ table =
     reads "--5" (refused 5 0) ∷
     reads "5-" (refused 5 0) ∷
     reads " -05" (given (minus 5)) ∷
+    -- "in mm for unit 1 ..; otherwise in cm": unit 999 too
+    joins 999 (minus 1234) (minus 56) (given (minus 1234560)) ∷
     -- "prints, whole: `accepted 9 records 1 items`"
     prints example "accepted 9 records 1 items" ∷
     -- "With header total 2 it prints `refused 10 at record 6`"
@@ -94,10 +120,16 @@ table =
     -- from the second data record: the layer's header, one header passed
     upwards example 9 6 1 ∷
     -- a removal at a header and one in the middle of an item, refused; the item taken out, and put in again; then all is as before
-    edits (remove 6 ∷ remove 8 ∷ remove 7 ∷ insert 7 (rows item) ∷ []) example (refused 11 0 ∷ refused 11 0 ∷ given 504 ∷ given 756 ∷ []) example ∷ []
+    edits (remove 6 ∷ remove 8 ∷ remove 7 ∷ insert 7 (rows item) ∷ []) example "behind" (refused 11 0 ∷ refused 11 0 ∷ given 504 ∷ given 756 ∷ []) (example ++ bytes "behind") ∷
+    -- "Removal fills the freed end with spaces; bytes past that .. stay"; the four columns fall
+    edits (remove 7 ∷ []) example "behind" (given 504 ∷ []) (emptied ++ (replicate 252 32 ++ bytes "behind")) ∷
+    -- an index: eleven sheets in two b records, one c record; and one record too many
+    prints indexFile "accepted 4 records 0 items" ∷
+    prints (indexFile ++ bytes blankRow) "refused 10 at record 1" ∷ []
 
 abbrev pub Says : Example → Type 0
 Says (reads column a) = readAlone (bytes column) ≡ a
+Says (joins unit whole fraction a) = join unit whole fraction ≡ a
 Says (prints input text) = printed input ≡ bytes text ++ 10 ∷ []
 Says (gridNeed rows columns records) = gridNeeds rows columns ≡ records
 Says (gridStated repeat column records) = gridStates repeat column ≡ records
@@ -105,9 +137,9 @@ Says (elementNeed kind count records) = elementRecords kind count ≡ records
 Says (index record1 number at) = judgeIndex 84 (bytes record1) ≡ refused number at
 Says (cornersAre file millimetres) = corners (chunks (length file / 84) file) ≡ millimetres
 Says (upwards file number header passed) = up (length file) file number ≡ given (toHeader header passed)
-Says (edits calls file replies after) =
-    (repliesBuffer calls (record { bytes = file; used = length file }) ≡ replies)
-    × ((runBuffer calls (record { bytes = file; used = length file })) .bytes ≡ after)
+Says (edits calls file behind replies after) =
+    (repliesBuffer calls (record { bytes = file ++ bytes behind; used = length file }) ≡ replies)
+    × ((runBuffer calls (record { bytes = file ++ bytes behind; used = length file })) .bytes ≡ after)
 
 abbrev pub Every : List Example → Type 0
 Every [] = Unit {0}
@@ -115,4 +147,4 @@ Every (e ∷ es) = Says e × Every es
 
 pub examples : Every table
 unfolding bytes rows begins strip isDigit allDigits valueOf isNumber negative positive signed columnOf digitsIn digits textOf fits written readAlone writeAlone fractionOk millimetres join split column splice find integerAt numberAt allFormed allInside columnFault indexA indexB indexC sheetA sheetB sheetC sheetD sheetE sheetF header element gridHeader netHeader data3D data2D dataNote dataAttribute dataGrid dataNet typeOf countName dataColumns directionOk dataFault elementRecords elementRule gridStates gridNeeds netNeeds headerView elementView gridView netView otherView view rewrite raise lower wholesOf fractionsOf partLength sheetFault corners statedElements statedRecords writeCounts indexFault judge judgeRecords judgeIndexRecords judgeSheet judgeIndex plain call up line printed
-examples = (refl, (refl, (refl, (refl, (refl, (refl, (refl, (refl, (refl, (refl, (refl, (refl, (refl, (refl, (refl, (refl, (refl, ((refl, refl), tt))))))))))))))))))
+examples = (refl, (refl, (refl, (refl, (refl, (refl, (refl, (refl, (refl, (refl, (refl, (refl, (refl, (refl, (refl, (refl, (refl, (refl, ((refl, refl), ((refl, refl), (refl, (refl, tt))))))))))))))))))))))
