@@ -3,16 +3,19 @@
 use mathlib.Core.Path.{_≡_}
 use mathlib.Core.Logic.{_⊎_, inl, _↔_}
 use mathlib.Core.List.{List, _∷_, _++_}
-use Prim.Native.Nat.{ℕ}
+use Prim.Native.Nat.{ℕ, _+_, _^_, _≤_, _<_}
 use native.Mathlib.Omega.{arith}
-use lib.IntN.{ℤ}
+use Prim.Native.String.{String}
+use lib.IntN.{ℤ, pos}
 use lib.ListN.{length, replicate}
 use Rattle.format.specs.declared.Column.the-variants.{Value, MinusZero, Malformed}
 use Rattle.format.specs.Basics.{given, refused}
 use Rattle.format.specs.Column.{columnOf, readAlone, writeAlone}
-use Rattle.format.specs.Shape.{Says, MinusZeros, Shapeless, NoDigit, RightWidth, WrongWidth, TooLarge, WrittenAlone}
+use Rattle.format.specs.Layout.{Col, find, bytesOf}
+use Rattle.format.specs.Record.{rewrite}
+use Rattle.format.specs.Shape.{Says, MinusZeros, Shapeless, NoDigit, RightWidth, WrongWidth, TooLarge, WrittenAlone, InWrittenForm}
 use Rattle.format.proofs.ColumnMeaning.{value-exactly, minus-zero-exactly, malformed-exactly, only-digits-behind, no-other-byte, spaces-malformed}
-use Rattle.format.proofs.ColumnAlone.{read-16, read-5, read-given, write-16, write-refused-kept, write-gives}
+use Rattle.format.proofs.ColumnAlone.{read-16, read-5, read-given, write-16, write-refused-kept, write-gives, rewritten}
 
 -- ---- What a column says
 -- a number: exactly spaces, then digits of that number; or, for one below 0, a minus between them
@@ -67,3 +70,7 @@ write-kept = write-refused-kept
 -- else it answers as many bytes as the column has, and they say the number in its shortest digits
 pub write-form : (column : List ℕ) (z : ℤ) → RightWidth (length column) → (TooLarge (length column) z → ⊥) → WrittenAlone column z (writeAlone column z)
 write-form = write-gives
+
+-- "in written form": so is every column of a record that an edit writes anew, of a number that fits
+pub rewrites-in-form : (layout : List Col) (name : String) (number : ℕ) (r : List ℕ) → RightWidth ((find name layout) .width) → (find name layout) .start + (find name layout) .width ≤ length r → number < 10 ^ (find name layout) .width → InWrittenForm (bytesOf (find name layout) (rewrite layout name number r)) (pos number)
+rewrites-in-form = rewritten

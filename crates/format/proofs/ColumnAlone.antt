@@ -3,7 +3,8 @@ use mathlib.Core.Path.{_≡_, refl, ap, _∙_}
 use mathlib.Core.Bool.{Bool, true, false, cond, _&&_}
 use mathlib.Core.Logic.{_⊎_, inl, inr, _↔_}
 use mathlib.Core.List.{List, _++_}
-use Prim.Native.Nat.{ℕ, zero, suc, _-_, _^_, _<_}
+use Prim.Native.Nat.{ℕ, zero, suc, _+_, _-_, _^_, _≤_, _<_}
+use Prim.Native.String.{String}
 use native.Mathlib.Omega.{arith}
 use borrow.Author.Tests.{leb-true, leb-false, ltb-true, ltb-false}
 use lib.Dec.{leb, ltb}
@@ -15,7 +16,9 @@ use Rattle.format.specs.declared.Column.the-variants.{Value, MinusZero, 
 use Rattle.format.specs.Basics.{given, refused, Outcome}
 use Rattle.format.specs.Column.{columnOf, digitsIn, digits, textOf, fits, written, widthOk, columnAnswer, readAlone, writeAlone}
 use Rattle.format.specs.Shape.{Digits, MinusZeros, Says, Shapeless, Shortest, InWrittenForm, RightWidth, WrongWidth, TooLarge, WrittenAlone}
-use Rattle.format.proofs.Columns.{Means, length-written, digits-mean, short, digits-below, pow-up}
+use Rattle.format.specs.Layout.{Col, find, bytesOf}
+use Rattle.format.specs.Record.{rewrite}
+use Rattle.format.proofs.Columns.{Means, column-own, length-written, digits-mean, short, digits-below, pow-up}
 use Rattle.format.proofs.ColumnFits.{fits-plus, fits-minus, fits-size}
 use Rattle.format.proofs.ColumnMeaning.{numbered, is-number, left-means, value-exactly, minus-zero-exactly, malformed-exactly}
 
@@ -172,3 +175,12 @@ gives (refuses (inr h)) w s = absurd (s h)
 
 pub write-gives : (column : List ℕ) (z : ℤ) → RightWidth (length column) → (TooLarge (length column) z → ⊥) → WrittenAlone column z (writeAlone column z)
 write-gives column z = gives (alone column z)
+
+-- a column of a record written anew
+pub rewritten : (layout : List Col) (name : String) (number : ℕ) (r : List ℕ) → RightWidth ((find name layout) .width) → (find name layout) .start + (find name layout) .width ≤ length r → number < 10 ^ (find name layout) .width → InWrittenForm (bytesOf (find name layout) (rewrite layout name number r)) (pos number)
+unfolding rewrite
+rewritten layout name number r w room l = rw (column-own ((find name layout) .start) ((find name layout) .width) (written ((find name layout) .width) (pos number)) r (length-written ((find name layout) .width) (pos number)) room) (go (fitting ((find name layout) .width) (pos number) w))
+  where
+    go : Fitting ((find name layout) .width) (pos number) → InWrittenForm (written ((find name layout) .width) (pos number)) (pos number)
+    go (small e n) = in-form _ (pos number) w e
+    go (large e n) = absurd (omega (arith, l, n))

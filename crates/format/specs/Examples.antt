@@ -1,11 +1,12 @@
 -- Examples, computed: a whole sheet as text, with what the program prints, its corners, the way up, an item taken out and put in again; an
 -- index; and the cases of "Around the edges" that bear no star.
 use mathlib.Core.Path.{_≡_, refl}
+use mathlib.Core.Bool.{Bool, cond}
 use mathlib.Core.List.{List, [], _∷_, _++_}
-use Prim.Native.Nat.{ℕ, _/_}
+use Prim.Native.Nat.{ℕ, zero, suc, _/_}
 use Prim.Native.String.{String}
 use lib.IntN.{ℤ, pos}
-use lib.ListN.{length, replicate}
+use lib.ListN.{length, take, replicate}
 use Rattle.format.specs.Basics.{Answer, given, refused, minus, chunks}
 use Rattle.format.specs.Text.{bytes, rows, begins}
 use Rattle.format.specs.Column.{strip, isDigit, allDigits, valueOf, isNumber, negative, positive, signed, columnOf, digitsIn, digits, textOf, fits, written, readAlone, writeAlone}
@@ -15,8 +16,8 @@ use Rattle.format.specs.Record.{typeOf, countName, dataColumns, directio
 use Rattle.format.specs.Sheet.{wholesOf, fractionsOf, partLength, sheetFault, corners, statedElements, statedRecords, writeCounts}
 use Rattle.format.specs.Index.{indexFault}
 use Rattle.format.specs.Judge.{judge, judgeRecords, judgeIndexRecords, judgeSheet, judgeIndex}
-use Rattle.format.specs.Edit.{Edit, plain, insert, remove}
-use Rattle.format.specs.Run.{call, runBuffer, repliesBuffer}
+use Rattle.format.specs.Edit.{Edit, plain, insert, remove, BlockItem, blockItem}
+use Rattle.format.specs.Run.{call, runBuffer, repliesBuffer, inFour}
 use Rattle.format.specs.Above.{toHeader, up}
 use Rattle.format.specs.Program.{line, printed}
 
@@ -86,6 +87,8 @@ pub data Example : Type 0 where
   index : (record1 : String) → (number at : ℕ) → Example
   cornersAre : (file : List ℕ) → (millimetres : List ℤ) → Example
   upwards : (file : List ℕ) → (number header passed : ℕ) → Example
+  alone : (block : List ℕ) → Answer BlockItem → Example
+  rewrites : (above : ℕ) → (item : String) → (starts widths : List ℕ) → Example
   edits : (calls : List Edit) → (file : List ℕ) → (behind : String) → (replies : List (Answer ℕ)) → (after : List ℕ) → Example
 
 abbrev pub table : List Example
@@ -119,6 +122,15 @@ table =
     cornersAre example (minus 1234056 ∷ pos 5678050 ∷ minus 934000 ∷ pos 5978000 ∷ minus 934000 ∷ pos 5678050 ∷ minus 1234056 ∷ pos 5978000 ∷ []) ∷
     -- from the second data record: the layer's header, one header passed
     upwards example 9 6 1 ∷
+    -- a block alone: a line, the second of a header's kinds, of level 2; 12 of no block, of one without its last record, of a header
+    alone (rows item) (given (record { count = 2; level = 2 })) ∷
+    alone [] (refused 12 0) ∷
+    alone (take 168 (rows item)) (refused 12 0) ∷
+    alone (bytes layer) (refused 12 0) ∷
+    -- "four columns .. (total and own kind in the header above, both sheet counts)": the bytes of the example's file that a line under record 6
+    -- rewrites, and a net, whose count is one byte wide
+    rewrites 6 "E2" (115 ∷ 121 ∷ 438 ∷ 453 ∷ []) (6 ∷ 7 ∷ 5 ∷ 5 ∷ []) ∷
+    rewrites 6 "T " (115 ∷ 121 ∷ 438 ∷ 488 ∷ []) (6 ∷ 7 ∷ 5 ∷ 1 ∷ []) ∷
     -- a removal at a header and one in the middle of an item, refused; the item taken out, and put in again; then all is as before
     edits (remove 6 ∷ remove 8 ∷ remove 7 ∷ insert 7 (rows item) ∷ []) example "behind" (refused 11 0 ∷ refused 11 0 ∷ given 504 ∷ given 756 ∷ []) (example ++ bytes "behind") ∷
     -- "Removal fills the freed end with spaces; bytes past that .. stay"; the four columns fall
@@ -126,6 +138,20 @@ table =
     -- an index: eleven sheets in two b records, one c record; and one record too many
     prints indexFile "accepted 4 records 0 items" ∷
     prints (indexFile ++ bytes blankRow) "refused 10 at record 1" ∷ []
+
+-- the numbers from `start` on, so many; those of some starts and widths; those below a number that pass a test
+abbrev pub numbers : (start many : ℕ) → List ℕ
+numbers start zero = []
+numbers start (suc many) = start ∷ numbers (suc start) many
+
+abbrev pub spans : (starts widths : List ℕ) → List ℕ
+spans [] widths = []
+spans (s ∷ starts) [] = []
+spans (s ∷ starts) (w ∷ widths) = numbers s w ++ spans starts widths
+
+abbrev pub passing : (ℕ → Bool) → List ℕ → List ℕ
+passing test [] = []
+passing test (n ∷ ns) = cond (test n) (n ∷ passing test ns) (passing test ns)
 
 abbrev pub Says : Example → Type 0
 Says (reads column a) = readAlone (bytes column) ≡ a
@@ -137,6 +163,8 @@ Says (elementNeed kind count records) = elementRecords kind count ≡ records
 Says (index record1 number at) = judgeIndex 84 (bytes record1) ≡ refused number at
 Says (cornersAre file millimetres) = corners (chunks (length file / 84) file) ≡ millimetres
 Says (upwards file number header passed) = up (length file) file number ≡ given (toHeader header passed)
+Says (alone block a) = blockItem block ≡ a
+Says (rewrites above item starts widths) = passing (inFour above (view (bytes item))) (numbers 0 756) ≡ spans starts widths
 Says (edits calls file behind replies after) =
     (repliesBuffer calls (record { bytes = file ++ bytes behind; used = length file }) ≡ replies)
     × ((runBuffer calls (record { bytes = file ++ bytes behind; used = length file })) .bytes ≡ after)
@@ -146,5 +174,5 @@ Every [] = Unit {0}
 Every (e ∷ es) = Says e × Every es
 
 pub examples : Every table
-unfolding bytes rows begins strip isDigit allDigits valueOf isNumber negative positive signed columnOf digitsIn digits textOf fits written readAlone writeAlone fractionOk millimetres join split column splice find integerAt numberAt allFormed allInside columnFault indexA indexB indexC sheetA sheetB sheetC sheetD sheetE sheetF header element gridHeader netHeader data3D data2D dataNote dataAttribute dataGrid dataNet typeOf countName dataColumns directionOk dataFault elementRecords elementRule gridStates gridNeeds netNeeds headerView elementView gridView netView otherView view rewrite raise lower wholesOf fractionsOf partLength sheetFault corners statedElements statedRecords writeCounts indexFault judge judgeRecords judgeIndexRecords judgeSheet judgeIndex plain call up line printed
-examples = (refl, (refl, (refl, (refl, (refl, (refl, (refl, (refl, (refl, (refl, (refl, (refl, (refl, (refl, (refl, (refl, (refl, (refl, ((refl, refl), ((refl, refl), (refl, (refl, tt))))))))))))))))))))))
+unfolding bytes rows begins strip isDigit allDigits valueOf isNumber negative positive signed columnOf digitsIn digits textOf fits written readAlone writeAlone fractionOk millimetres join split column splice find integerAt numberAt allFormed allInside columnFault indexA indexB indexC sheetA sheetB sheetC sheetD sheetE sheetF header element gridHeader netHeader data3D data2D dataNote dataAttribute dataGrid dataNet typeOf countName dataColumns directionOk dataFault elementRecords elementRule gridStates gridNeeds netNeeds headerView elementView gridView netView otherView view rewrite raise lower wholesOf fractionsOf partLength sheetFault corners statedElements statedRecords writeCounts indexFault judge judgeRecords judgeIndexRecords judgeSheet judgeIndex plain blockItem call up line printed
+examples = (refl, (refl, (refl, (refl, (refl, (refl, (refl, (refl, (refl, (refl, (refl, (refl, (refl, (refl, (refl, (refl, (refl, (refl, (refl, (refl, (refl, (refl, (refl, (refl, ((refl, refl), ((refl, refl), (refl, (refl, tt))))))))))))))))))))))))))))
