@@ -12,7 +12,7 @@ use Rattle.format.specs.Index as Index
 use Rattle.format.specs.Index.{Stage, dueBs, dueCs}
 use Rattle.format.specs.Judge.{openOf}
 use Rattle.format.specs.Edit.{dueBehind, openBehind}
-use Rattle.format.specs.Checks.{dueBehindAll, Due, ofPart, headerOrItem, dataOf, enter, dueAgain, stated, dueNext, sheetWalk, indexWalk, InFront, PhaseMeans, DueMeans, StageMeans, OpenLevel}
+use Rattle.format.specs.Checks.{dueBehindAll, Due, ofPart, headerOrItem, dataDue, enter, dueAgain, stated, dueNext, sheetWalk, indexWalk, InFront, PhaseMeans, DueMeans, StageMeans, OpenLevel}
 use Rattle.format.proofs.JudgeWalks.{sort}
 use Rattle.format.proofs.ChecksEdits.{open-is}
 
@@ -84,7 +84,7 @@ again-means o held (suc n) records m = m
 due-step : (due : Due) (records : List (List ℕ)) (r : List ℕ) → DueMeans due records → DueMeans (dueNext due r) (records ++ r ∷ [])
 due-step (ofPart p) records r m = enter-means (after p r) (records ++ r ∷ []) (phase-step p records r m)
 due-step (headerOrItem opened) records r m = again-means (openOf ((view r) .kind) ((view r) .level)) ((view r) .dataHeld) (stated r) (records ++ r ∷ []) (phase-step body records r m)
-due-step (dataOf opened held more) records r m = again-means opened held more (records ++ r ∷ []) (phase-step body records r m)
+due-step (dataDue opened held more) records r m = again-means opened held more (records ++ r ∷ []) (phase-step body records r m)
 
 due-means-from : (rs : List (List ℕ)) (due : Due) (front : List (List ℕ)) → DueMeans due front → DueMeans (dueBehindAll sheetWalk due rs) (front ++ rs)
 due-means-from [] due front m = rw (append-nil front) m

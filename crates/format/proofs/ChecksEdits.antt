@@ -9,10 +9,10 @@ use lib.Dec.{leb, ltb, eqb}
 use lib.ListN.{length, length-append, length-map, take, drop, getD, take-append-drop, drop-of-length-le}
 use lib.Seq.{take-append-seam, getD-append-seam, length-take-le, drop-cons, take-all}
 use borrow.Author.Tests.{leb-true, leb-false, le-leb, ltb-true, ltb-false, lt-ltb, eqb-true, eq-eqb, not-true}
-use Rattle.format.specs.Basics.{fine, flat, unless, chunks}
+use Rattle.format.specs.Basics.{fine, flat, unless, chunks, given, refused}
 use Rattle.format.specs.Record.{RecordType, H, E1, E2, E3, E4, E5, E6, E7, E8, G, T, other, typeOf, kindOf, isHead, countIndex, Data, nothing, View, view, viewAs, headerView, elementView, gridView, netView, otherView}
 use Rattle.format.specs.Judge.{File, headersAndItems, openOf, openAfter, dueAfter, faultAt, walk, accepted, judgeSheet}
-use Rattle.format.specs.Edit.{Edit, insert, remove, RecordList, absent, dueBehind, openBehind, aboveIn, bodyPlace, blockOf, conclude, plain, fault12, notBelow, isBlock, insertFault, remove11, before, aboveBlock}
+use Rattle.format.specs.Edit.{blockItem, itemIn, Edit, insert, remove, RecordList, absent, dueBehind, openBehind, aboveIn, bodyPlace, blockOf, conclude, plain, fault12, notBelow, isBlock, insertFault, remove11, before, aboveBlock}
 use Rattle.format.specs.Above.{HeaderAbove}
 use Rattle.format.specs.Run.{Buffer, call, listOf, sheetOf}
 use Rattle.format.specs.Checks.{Check, FirstOf, AnswersFirst, StartsAt, OneItem, OpenLevel, beforeFirst, behindHeader, behindItem, inOrder, headerOrItemFaults, dataFaults, editChecks, beforePlace, LevelWrong, TooMany, TooShort}
@@ -219,6 +219,19 @@ one-item-decides block = decides-by (there (blockOf block) refl) back
 
     back : OneItem block → isOneItem (map view (blockOf block)) ≡ true
     back o = rw (block-records block o) (surely (item-decides (o .start) (o .rest)) (o .isItem, o .passes, o .asMany, o .restPasses))
+
+-- a block alone
+pub block-item : (block : List ℕ) (o : OneItem block) → blockItem block ≡ given (record { count = countIndex ((view (o .start)) .kind); level = (view (o .start)) .level })
+unfolding blockItem
+block-item block o = rw (fault12-is (map view (blockOf block)), surely (one-item-decides block) o, block-records block o)
+
+pub block-none : (block : List ℕ) → (OneItem block → ⊥) → blockItem block ≡ refused 12 0
+unfolding blockItem
+block-none block none = go (isOneItem (map view (blockOf block))) refl
+  where
+    go : (t : Bool) → isOneItem (map view (blockOf block)) ≡ t → itemIn (map view (blockOf block)) ≡ refused 12 0
+    go true e = absurd (none ((one-item-decides block) .yes e))
+    go false e = rw (fault12-is (map view (blockOf block)), e)
 
 -- ---- 13
 one-less : (n : ℕ) → pred n ≡ n - 1

@@ -11,7 +11,7 @@ use Rattle.format.specs.Record.{Data, nothing, view}
 use Rattle.format.specs.Part.{partFrom, partFault}
 use Rattle.format.specs.Sheet.{Phase, due-a, due-b, due-c, due-d, due-e, due-f, body, isOver, after, wrongIn, sheetMachine}
 use Rattle.format.specs.Judge.{openOf, faultAt, walk}
-use Rattle.format.specs.Checks.{FirstOf, inOrder, Walk, dueBehindAll, AllPass, FirstFault, Due, ofPart, headerOrItem, dataOf, faultsDue, enter, dueAgain, stated, dueNext, sheetWalk, Missing, fromPart, fromItem, StageTwo}
+use Rattle.format.specs.Checks.{FirstOf, inOrder, Walk, dueBehindAll, AllPass, FirstFault, Due, ofPart, headerOrItem, dataDue, faultsDue, enter, dueAgain, stated, dueNext, sheetWalk, Missing, fromPart, fromItem, StageTwo}
 use Rattle.format.proofs.ChecksOrder.{one-first}
 use Rattle.format.proofs.ChecksRecords.{due-first, data-first}
 use Rattle.format.proofs.ChecksParts.{part-first}
@@ -80,13 +80,13 @@ module _ (W : Walk) (found : W .Due → List ℕ → ℕ) (right : (due : W .Due
 numberDue : Due → List ℕ → ℕ
 numberDue (ofPart p) r = wrongIn p r
 numberDue (headerOrItem opened) r = faultAt opened 0 nothing (view r)
-numberDue (dataOf opened held more) r = faultAt opened (suc more) held (view r)
+numberDue (dataDue opened held more) r = faultAt opened (suc more) held (view r)
 
 number-right : (due : Due) (r : List ℕ) → FirstOf (inOrder (faultsDue due r)) (numberDue due r)
 unfolding numberDue
 number-right (ofPart p) r = part-first p r
 number-right (headerOrItem opened) r = due-first opened nothing r
-number-right (dataOf opened held more) r = data-first opened more held r
+number-right (dataDue opened held more) r = data-first opened more held r
 
 abbrev sheetFaultFrom : Due → ℕ → List (List ℕ) → Fault
 sheetFaultFrom due i rs = records-fault sheetWalk numberDue number-right due i rs
@@ -95,12 +95,12 @@ sheetFaultFrom due i rs = records-fault sheetWalk numberDue number-right due i r
 lacking : Due → (owner : ℕ) → Fault
 lacking (ofPart p) owner = fault 3 owner
 lacking (headerOrItem opened) owner = none
-lacking (dataOf opened held more) owner = fault 3 owner
+lacking (dataDue opened held more) owner = fault 3 owner
 
 ownerNext : Due → (owner i : ℕ) → ℕ
 ownerNext (ofPart p) owner i = owner
 ownerNext (headerOrItem opened) owner i = i
-ownerNext (dataOf opened held more) owner i = owner
+ownerNext (dataDue opened held more) owner i = owner
 
 ownerBehind : Due → (owner i : ℕ) → List (List ℕ) → ℕ
 ownerBehind due owner i [] = owner
@@ -168,7 +168,7 @@ part-total (r ∷ rs) q i = part-step q i r rs (part-total rs (after q r) (suc i
 
 -- ---- What is missing
 -- data records alone: the owner stays
-data-behind : (o n : ℕ) (held : Data) (rest : List (List ℕ)) → length rest < n → (m : ℕ) × (dueBehindAll sheetWalk (dueAgain o held n) rest ≡ dataOf o held m)
+data-behind : (o n : ℕ) (held : Data) (rest : List (List ℕ)) → length rest < n → (m : ℕ) × (dueBehindAll sheetWalk (dueAgain o held n) rest ≡ dataDue o held m)
 data-behind o zero held rest l = absurd (omega arith)
 data-behind o (suc n) held [] l = (n, refl)
 data-behind o (suc n) held (r ∷ rest) l = data-behind o n held rest (omega arith)
@@ -201,13 +201,13 @@ record Item (due : Due) (owner i : ℕ) (rs : List (List ℕ)) : Type 0 where
 
 data InData (due : Due) (owner i : ℕ) (rs : List (List ℕ)) : Type 0 where
   owned : Item due owner i rs → InData due owner i rs
-  unowned : (o : ℕ) (held : Data) (m : ℕ) → due ≡ dataOf o held m → length rs ≤ m → ownerBehind due owner i rs ≡ owner → InData due owner i rs
+  unowned : (o : ℕ) (held : Data) (m : ℕ) → due ≡ dataDue o held m → length rs ≤ m → ownerBehind due owner i rs ≡ owner → InData due owner i rs
 
-again-is : (a n : ℕ) (h : Data) (o : ℕ) (held : Data) (m : ℕ) → dueAgain a h n ≡ dataOf o held m → n ≡ suc m
+again-is : (a n : ℕ) (h : Data) (o : ℕ) (held : Data) (m : ℕ) → dueAgain a h n ≡ dataDue o held m → n ≡ suc m
 again-is a zero h o held m e = let x : _≡_ {A = ℕ} 0 1 = cc in absurd (omega arith)
 again-is a (suc n) h o held m e = let x : n ≡ m = cc in ap suc x
 
-enter-not-data : (q : Phase) (o : ℕ) (held : Data) (m : ℕ) → enter q ≡ dataOf o held m → ⊥
+enter-not-data : (q : Phase) (o : ℕ) (held : Data) (m : ℕ) → enter q ≡ dataDue o held m → ⊥
 enter-not-data body o held m e = let x : _≡_ {A = ℕ} 0 1 = cc in omega arith
 enter-not-data due-a o held m e = let x : _≡_ {A = ℕ} 0 1 = cc in omega arith
 enter-not-data (due-b level more) o held m e = let x : _≡_ {A = ℕ} 0 1 = cc in omega arith
@@ -216,7 +216,7 @@ enter-not-data (due-d unit wholes more) o held m e = let x : _≡_ {A = ℕ} 0 1
 enter-not-data (due-e unit wholes more fs) o held m e = let x : _≡_ {A = ℕ} 0 1 = cc in omega arith
 enter-not-data (due-f unit wholes more fs) o held m e = let x : _≡_ {A = ℕ} 0 1 = cc in omega arith
 
-in-data : (due : Due) (owner i : ℕ) (rs : List (List ℕ)) (o : ℕ) (held : Data) (m : ℕ) → dueBehindAll sheetWalk due rs ≡ dataOf o held m → InData due owner i rs
+in-data : (due : Due) (owner i : ℕ) (rs : List (List ℕ)) (o : ℕ) (held : Data) (m : ℕ) → dueBehindAll sheetWalk due rs ≡ dataDue o held m → InData due owner i rs
 unfolding ownerBehind ownerNext
 in-data due owner i [] o held m e = unowned o held m e (omega arith) refl
 in-data due owner i (r ∷ rs) o held m e = go due (in-data (dueNext due r) (ownerNext due owner i) (suc i) rs o held m e)
@@ -224,14 +224,14 @@ in-data due owner i (r ∷ rs) o held m e = go due (in-data (dueNext due r) (own
     go : (d : Due) → InData (dueNext d r) (ownerNext d owner i) (suc i) rs → InData d owner i (r ∷ rs)
     go d (owned x) = owned (record { front = r ∷ x .front; it = x .it; rest = x .rest; opened = x .opened; whole = ap (λ (l : List (List ℕ)). r ∷ l) (x .whole); at = x .at; short = x .short; owns = x .owns ∙ omega arith })
     go (headerOrItem a) (unowned o₂ held₂ m₂ q l w) = owned (record { front = []; it = r; rest = rs; opened = a; whole = refl; at = refl; short = omega (arith, again-is _ (stated r) _ o₂ held₂ m₂ q); owns = w ∙ omega arith })
-    go (dataOf a h n) (unowned o₂ held₂ m₂ q l w) = unowned a h n refl (omega (arith, again-is a n h o₂ held₂ m₂ q)) w
+    go (dataDue a h n) (unowned o₂ held₂ m₂ q l w) = unowned a h n refl (omega (arith, again-is a n h o₂ held₂ m₂ q)) w
     go (ofPart p) (unowned o₂ held₂ m₂ q l w) = absurd (enter-not-data (after p r) o₂ held₂ m₂ q)
 
 -- behind the sheet part there is no way back
 isPart : Due → Bool
 isPart (ofPart p) = true
 isPart (headerOrItem opened) = false
-isPart (dataOf opened held more) = false
+isPart (dataDue opened held more) = false
 
 again-out : (o : ℕ) (held : Data) (n : ℕ) → isPart (dueAgain o held n) ≡ false
 unfolding isPart
@@ -243,7 +243,7 @@ unfolding isPart
 stays-out due [] e = e
 stays-out (ofPart p) (r ∷ rs) e = absurd (false≢true (sym e))
 stays-out (headerOrItem opened) (r ∷ rs) e = stays-out (dueNext (headerOrItem opened) r) rs (again-out (openOf ((view r) .kind) ((view r) .level)) ((view r) .dataHeld) (stated r))
-stays-out (dataOf opened held more) (r ∷ rs) e = stays-out (dueAgain opened held more) rs (again-out opened held more)
+stays-out (dataDue opened held more) (r ∷ rs) e = stays-out (dueAgain opened held more) rs (again-out opened held more)
 
 out-of-part : (due : Due) (rs : List (List ℕ)) (p : Phase) → isPart due ≡ false → dueBehindAll sheetWalk due rs ≡ ofPart p → ⊥
 unfolding isPart
@@ -254,13 +254,13 @@ unfolding ownerBehind ownerNext isPart
 part-owner due owner i [] p e = refl
 part-owner (ofPart q) owner i (r ∷ rs) p e = part-owner (enter (after q r)) owner (suc i) rs p e
 part-owner (headerOrItem opened) owner i (r ∷ rs) p e = absurd (out-of-part (headerOrItem opened) (r ∷ rs) p refl e)
-part-owner (dataOf opened held more) owner i (r ∷ rs) p e = absurd (out-of-part (dataOf opened held more) (r ∷ rs) p refl e)
+part-owner (dataDue opened held more) owner i (r ∷ rs) p e = absurd (out-of-part (dataDue opened held more) (r ∷ rs) p refl e)
 
 abbrev atEnd : List (List ℕ) → Fault
 atEnd rs = lacking (dueBehindAll sheetWalk (ofPart due-a) rs) (ownerBehind (ofPart due-a) 1 1 rs)
 
 -- behind an item that is short of data records
-short-due : (due : Due) (front : List (List ℕ)) (it : List ℕ) (rest : List (List ℕ)) (opened : ℕ) → dueBehindAll sheetWalk due front ≡ headerOrItem opened → length rest < stated it → (m : ℕ) × (dueBehindAll sheetWalk due (front ++ it ∷ rest) ≡ dataOf (openOf ((view it) .kind) ((view it) .level)) ((view it) .dataHeld) m)
+short-due : (due : Due) (front : List (List ℕ)) (it : List ℕ) (rest : List (List ℕ)) (opened : ℕ) → dueBehindAll sheetWalk due front ≡ headerOrItem opened → length rest < stated it → (m : ℕ) × (dueBehindAll sheetWalk due (front ++ it ∷ rest) ≡ dataDue (openOf ((view it) .kind) ((view it) .level)) ((view it) .dataHeld) m)
 short-due due front it rest opened at short = let d = data-behind (openOf ((view it) .kind) ((view it) .level)) (stated it) ((view it) .dataHeld) rest short in (d .0, behind-append due front (it ∷ rest) ∙ ap (λ (x : Due). dueBehindAll sheetWalk x (it ∷ rest)) at ∙ d .1)
 
 short-owner : (due : Due) (owner i : ℕ) (front : List (List ℕ)) (it : List ℕ) (rest : List (List ℕ)) (opened : ℕ) → dueBehindAll sheetWalk due front ≡ headerOrItem opened → length rest < stated it → ownerBehind due owner i (front ++ it ∷ rest) ≡ i + length front
@@ -281,7 +281,7 @@ missing-exactly rs n k = (go (dueBehindAll sheetWalk (ofPart due-a) rs) refl, λ
     go : (d : Due) → dueBehindAll sheetWalk (ofPart due-a) rs ≡ d → lacking d owner ≡ fault n k → (n ≡ 3) × Missing rs k
     go (ofPart p) q e = let a : n ≡ 3 = cc in let b : owner ≡ k = cc in (a, fromPart p q (sym b ∙ part-owner (ofPart due-a) 1 1 rs p q))
     go (headerOrItem opened) q e = let x : _≡_ {A = ℕ} 0 1 = cc in absurd (omega arith)
-    go (dataOf o held m) q e = let a : n ≡ 3 = cc in let b : owner ≡ k = cc in (a, item b (in-data (ofPart due-a) 1 1 rs o held m q))
+    go (dataDue o held m) q e = let a : n ≡ 3 = cc in let b : owner ≡ k = cc in (a, item b (in-data (ofPart due-a) 1 1 rs o held m q))
 
     back : n ≡ 3 → Missing rs k → atEnd rs ≡ fault n k
     back three (fromPart p e is) = ap (λ (d : Due). lacking d owner) e ∙ (let a : owner ≡ 1 = part-owner (ofPart due-a) 1 1 rs p e in cc)

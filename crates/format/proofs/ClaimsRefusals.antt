@@ -6,23 +6,23 @@ use mathlib.Core.List.{List, map}
 use Prim.Native.Nat.{ℕ, suc, _+_, _/_}
 use native.Mathlib.Omega.{arith}
 use lib.IntN.{ℤ}
-use Rattle.format.specs.Basics.{refused, chunks}
+use Rattle.format.specs.Basics.{given, refused, chunks}
 use Rattle.format.specs.Index.{due-a as index-a}
 use Rattle.format.specs.Sheet.{due-a as sheet-a}
 use Rattle.format.specs.Record.{H, view, typeOf, countIndex, dataColumns}
 use Rattle.format.specs.Layout.{numberAt, header}
 use Rattle.format.specs.Corner.{join}
 use Rattle.format.specs.Judge.{fileOf, headersAndItems, items, accepted, judgeSheet, judgeIndex}
-use Rattle.format.specs.Edit.{Edit}
+use Rattle.format.specs.Edit.{Edit, blockItem}
 use Rattle.format.specs.Above.{up}
 use Rattle.format.specs.Run.{Buffer, call}
-use Rattle.format.specs.Checks.{AnswersFirst, editChecks, wayUpChecks, StageOneFails, StageTwo, IndexStageTwo, Ten, LeftOver, AllPass, Missing, dueBehindAll, DueMeans, StageMeans, OpenLevel, headerOrItem, FirstOf, inOrder, headerOrItemFaults, stated, joinChecks, TypeMeans, countOf, JudgedBehind, sheetWalk, indexWalk, ofPart, SheetRefusal, IndexRefusal, stageOne, stageTwo, stageThree}
+use Rattle.format.specs.Checks.{AnswersFirst, OneItem, editChecks, wayUpChecks, StageOneFails, StageTwo, IndexStageTwo, Ten, LeftOver, AllPass, Missing, dueBehindAll, DueMeans, StageMeans, OpenLevel, headerOrItem, FirstOf, inOrder, headerOrItemFaults, stated, joinChecks, TypeMeans, countOf, JudgedBehind, sheetWalk, indexWalk, ofPart, SheetRefusal, IndexRefusal, stageOne, stageTwo, stageThree}
 use Rattle.format.proofs.ChecksJudging.{sheet-refused, sheet-accepted, fault-number}
 use Rattle.format.proofs.ChecksIndex.{index-refused, index-accepted}
 use Rattle.format.proofs.ChecksAlone.{join-first, type-means, count-means}
 use Rattle.format.proofs.ChecksData.{judged-behind}
 use Rattle.format.proofs.ChecksDue.{due-means, open-means, stage-means}
-use Rattle.format.proofs.ChecksEdits.{edit-first}
+use Rattle.format.proofs.ChecksEdits.{edit-first, block-item, block-none}
 use Rattle.format.proofs.ChecksWayUp.{way-up-first}
 
 -- ---- Judging
@@ -117,6 +117,13 @@ joins-in-order = join-first
 pub edits-judge-first : (edit : Edit) (b : Buffer) (number at : ℕ) → judgeSheet (b .used) (b .bytes) ≡ refused number at → call edit b ≡ record { reply = refused number at; buffer = b }
 unfolding call
 edits-judge-first edit b number at e = rw e
+
+-- a block alone is its first record's count and level exactly when it is "exactly one item that passes 4 to 9 but for nesting, level 2..9", else 12
+pub blocks-that-are-items : (block : List ℕ) (o : OneItem block) → blockItem block ≡ given (record { count = countIndex ((view (o .start)) .kind); level = (view (o .start)) .level })
+blocks-that-are-items = block-item
+
+pub blocks-that-are-none : (block : List ℕ) → (OneItem block → ⊥) → blockItem block ≡ refused 12 0
+blocks-that-are-none = block-none
 
 -- "then 11 to 15 in order": of an accepted sheet the first that applies, at record 0, and exactly where none applies the new used length. To a
 -- removal only 11 ever does

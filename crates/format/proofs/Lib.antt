@@ -1,4 +1,4 @@
--- Laws of the definitions, in the order of specs/; Claims and ClaimsColumns state the theorems that a reader should know.
+-- Laws of the definitions, in the order of specs/; Claims and the files whose names begin with it state the theorems that a reader should know.
 pub mod Basics
 pub mod Lists
 pub mod Columns

@@ -1,4 +1,4 @@
--- For each answer that is an enum, this paper's number and values for every case, one to one (`Claims`: two enums with the same answer are the same). The
+-- For each answer that is an enum, this paper's number and values for every case, one to one (`ClaimsAnswers`: two enums with the same answer are the same). The
 -- promises use these. Assumes nothing.
 use mathlib.Core.List.{List}
 -- a column inside a record: the number, or 5 at record 0. Document 01 refuses "a minus before zeros only" like any malformed column; the enum tells the

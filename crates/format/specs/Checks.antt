@@ -1,5 +1,6 @@
 -- The order of checks: which number is answered, at which record. In document 01's words ("Answer numbers and order"), by none of the tests that
--- judging and editing use. That they answer so is proofs/ClaimsRefusals.antt. Assumes nothing.
+-- judging and editing use. What a record reads as (its type, its numbers, the columns of its data records) is shared with them, and claimed for itself
+-- (`types-mean`, `data-means`, Shape, Positions). That they answer so is proofs/ClaimsRefusals.antt. Assumes nothing.
 use mathlib.Core.Path.{_≡_}
 use mathlib.Core.Logic.{_⊎_, _≢_, _↔_}
 use mathlib.Core.Bool.{true, false}
@@ -301,12 +302,12 @@ module _ (W : Walk) where
 pub data Due : Type 0 where
   ofPart : Phase → Due
   headerOrItem : (opened : ℕ) → Due
-  dataOf : (opened : ℕ) → Data → (more : ℕ) → Due
+  dataDue : (opened : ℕ) → Data → (more : ℕ) → Due
 
 abbrev pub faultsDue : Due → List ℕ → Faults
 faultsDue (ofPart phase) r = partFaults phase r
 faultsDue (headerOrItem opened) r = headerOrItemFaults opened r
-faultsDue (dataOf opened held more) r = dataFaults held more r
+faultsDue (dataDue opened held more) r = dataFaults held more r
 
 -- behind the sheet part a header or an item is due, "0 before the first layer"
 abbrev pub enter : Phase → Due
@@ -320,7 +321,7 @@ enter body = headerOrItem 0
 
 abbrev pub dueAgain : (opened : ℕ) → Data → (left : ℕ) → Due
 dueAgain opened held zero = headerOrItem opened
-dueAgain opened held (suc more) = dataOf opened held more
+dueAgain opened held (suc more) = dataDue opened held more
 
 -- so many data records a header or an item has
 abbrev pub stated : List ℕ → ℕ
@@ -329,7 +330,7 @@ stated r = dueOf ((view r) .kind) ((view r) .dataRecords)
 abbrev pub dueNext : Due → List ℕ → Due
 dueNext (ofPart phase) r = enter (after phase r)
 dueNext (headerOrItem opened) r = dueAgain (openOf ((view r) .kind) ((view r) .level)) ((view r) .dataHeld) (stated r)
-dueNext (dataOf opened held more) r = dueAgain opened held more
+dueNext (dataDue opened held more) r = dueAgain opened held more
 
 abbrev pub sheetWalk : Walk
 sheetWalk = record { Due = Due; next = dueNext; faults = faultsDue }
@@ -377,7 +378,7 @@ PhaseMeans body records = (part : List (List ℕ)) × (rest : List (List ℕ)) �
 abbrev pub DueMeans : Due → List (List ℕ) → Type 0
 DueMeans (ofPart phase) records = PhaseMeans phase records
 DueMeans (headerOrItem opened) records = PhaseMeans body records
-DueMeans (dataOf opened held more) records = PhaseMeans body records
+DueMeans (dataDue opened held more) records = PhaseMeans body records
 
 -- an index: record a, its b records, its c records
 abbrev pub StageMeans : Stage → List (List ℕ) → Type 0
@@ -461,7 +462,7 @@ pub record StartsAt (f : File) (place : ℕ) : Type 0 where
   pub due : dueBehind 0 front ≡ 0
   pub number : place ≡ f .partLength + suc (length front)
 
--- "exactly one item that passes 4 to 9 but for nesting, level 2..9": below open level 8 every level of an item nests
+-- "exactly one item that passes 4 to 9 but for nesting, level 2..9": at open level 8 every level of an item nests
 pub record OneItem (block : List ℕ) : Type 0 where
   pub start : List ℕ
   pub rest : List (List ℕ)

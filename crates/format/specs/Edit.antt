@@ -34,7 +34,7 @@ abbrev pub absent : View
 absent = record { kind = head; level = 0; dataRecords = 0; dataHeld = nothing; columnFault = 0; ruleFault = 0; faultAsData = λ held behind. 0; total = 0; count = λ kind. 0 }
 
 -- ---- The refusals 12 to 14 of a block
--- 12: "block is not exactly one item that passes 4 to 9 but for nesting, level 2..9": below open level 8 every level of an item nests
+-- 12: "block is not exactly one item that passes 4 to 9 but for nesting, level 2..9": at open level 8 every level of an item nests
 abbrev pub isBlock : View → List View → Bool
 isBlock itemView dataViews = not (isHead (itemView .kind)) && (fine (walk 8 0 nothing 0 0 (itemView ∷ dataViews)) && eqb (length dataViews) (itemView .dataRecords))
 

@@ -126,6 +126,8 @@ table =
     -- "A note direction is -45..45 when the first column is 0, -135..-45 when it is 1"
     prints (sheet "     1      3" (head " 1" oneNote ++ note "1" "    -90")) "accepted 8 records 1 items" ∷
     prints (sheet "     1      3" (head " 1" oneNote ++ note "0" "    -90")) "refused 6 at record 8" ∷
+    -- "1,000 x 1,080 points need 90,000 and cannot be stated: 8": nor can its largest statement, repeat 9 and 9,999 records
+    prints (sheet "     1      1" (head " 1" oneNet ++ "G 7101 0   0   1 2100010809999     10     10      0      02408         021         9" ∷ [])) "refused 8 at record 7" ∷
     -- a grid of 13 heights, one of them in the second record; of 12 heights, the last one used and malformed
     prints (sheet "     1      4" (head " 1" oneNet ++ grid "  13" "   2" ++ elevenHeights ∷ "    -11" ∷ "     12unused text is not judged                                                    " ∷ [])) "accepted 9 records 1 items" ∷
     prints (sheet "     1      3" (head " 1" oneNet ++ grid "  12" "   1" ++ elevenHeights ∷ "   1 1 " ∷ [])) "refused 5 at record 8" ∷
@@ -136,4 +138,4 @@ table =
 
 pub examples : Every table
 unfolding bytes rows begins strip isDigit allDigits valueOf isNumber negative positive signed columnOf digitsIn digits fractionOk millimetres column find integerAt numberAt allFormed allInside columnFault indexA indexB indexC sheetA sheetB sheetC sheetD sheetE sheetF header element gridHeader netHeader data3D data2D dataNote dataAttribute dataGrid dataNet typeOf countName dataColumns directionOk dataFault elementRecords elementRule gridStates gridNeeds netNeeds headerView elementView gridView netView otherView view wholesOf fractionsOf partLength sheetFault corners statedElements statedRecords judge judgeRecords judgeSheet line printed
-examples = (refl, (refl, (refl, (refl, (refl, (refl, (refl, (refl, (refl, (refl, (refl, (refl, (refl, (refl, (refl, (refl, (refl, (refl, tt))))))))))))))))))
+examples = (refl, (refl, (refl, (refl, (refl, (refl, (refl, (refl, (refl, (refl, (refl, (refl, (refl, (refl, (refl, (refl, (refl, (refl, (refl, tt)))))))))))))))))))

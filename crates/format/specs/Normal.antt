@@ -1,5 +1,5 @@
 -- The normal form: "the same file with every judged integer in written form". What that says of every byte, with the columns of judging,
--- stands in Judged and is claimed in proofs/ClaimsNormal.antt. Assumes nothing.
+-- stands in JudgedColumns and is claimed in proofs/ClaimsNormal.antt. Assumes nothing.
 use mathlib.Core.Bool.{cond}
 use mathlib.Core.List.{List, [], _∷_, _++_}
 use Prim.Native.Nat.{ℕ, zero, suc, _+_, _/_}

@@ -30,7 +30,7 @@ pub record Step : Type 0 where
   pub reply : Answer ℕ
   pub buffer : Buffer
 
--- "Insertion and removal judge the file first (1 to 10), then 11 to 15 in order"; "every lent buffer is byte for byte as before" a refusal;
+-- "Insertion and removal judge the file first (1 to 10), then 11 to 15 in order"; after a refusal "every lent buffer is byte for byte as before";
 -- an accepted edit "moves the rest unchanged. Removal fills the freed end with spaces; bytes past that, or past the new length after an
 -- insertion, stay"
 abbrev pub afterJudging : Answer Counts → PlainStep → Buffer → Step
