@@ -10,9 +10,9 @@
  * What the caller owes: a pointer has as many bytes behind it as the length says, and is not NULL, even where the length is 0; a buffer that
  * a call writes overlaps no other buffer of that call.
  *
- * Link with target/staticlib/libexports.a, which `rt staticlib exports` makes:
+ * Link with target/staticlib/libc_interface.a, which `rt staticlib c_interface` makes:
  *
- *     cc -std=c99 -Iinclude include/example.c target/staticlib/libexports.a -o example
+ *     cc -std=c99 -Iinclude include/example.c target/staticlib/libc_interface.a -o example
  */
 #ifndef ZVAIGULTA_H
 #define ZVAIGULTA_H

@@ -4,13 +4,13 @@ use std::path::Path;
 
 fn main() {
     let folder = Path::new(env!("CARGO_MANIFEST_DIR")).join("../../target/staticlib");
-    let archive = folder.join("libexports.a");
+    let archive = folder.join("libc_interface.a");
     println!("cargo:rerun-if-changed={}", archive.display());
     if !archive.exists() {
         println!(
-            "cargo:warning=target/staticlib/libexports.a is missing: run `rt staticlib exports` at the repository's root first"
+            "cargo:warning=target/staticlib/libc_interface.a is missing: run `rt staticlib c_interface` at the repository's root first"
         );
     }
     println!("cargo:rustc-link-search=native={}", folder.display());
-    println!("cargo:rustc-link-lib=static=exports");
+    println!("cargo:rustc-link-lib=static=c_interface");
 }

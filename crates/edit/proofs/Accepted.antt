@@ -20,9 +20,9 @@ use Rattle.format.proofs.Lists.{length-flat, length-chunks}
 use Rattle.format.proofs.EditRecords.{Held}
 use Rattle.format.proofs.SheetCounts.{theLaws}
 use Rattle.format.proofs.JudgeWalks.{Passes, sort, passes-split}
-use Rattle.parts.specs.declared.SheetPart.{SheetPart}
-use Rattle.parts.specs.Result as Parts
-use Rattle.parts.proofs.Laws.{SoundPart, sound-part, refused-part, front-records}
+use Rattle.part_and_index.specs.declared.SheetPart.{SheetPart}
+use Rattle.part_and_index.specs.Result as Parts
+use Rattle.part_and_index.proofs.Laws.{SoundPart, sound-part, refused-part, front-records}
 use Rattle.places.specs.Place.{recordsOf, bodyOf}
 use Rattle.edit.specs.Plans.{Accepts, refusedStep}
 

@@ -20,8 +20,8 @@ use Rattle.format.proofs.Lists.{wide-get}
 use Rattle.format.proofs.JudgeWalks.{Passes, Good, good, sort}
 use Rattle.records.specs.Entry.{viewFault, entryOf}
 use Rattle.records.proofs.Laws.{entry-fault, entry-level, header-total, header-count}
-use Rattle.parts.specs.declared.SheetPart.{SheetPart}
-use Rattle.parts.specs.Result as Parts
+use Rattle.part_and_index.specs.declared.SheetPart.{SheetPart}
+use Rattle.part_and_index.specs.Result as Parts
 use Rattle.places.specs.declared.Place.{Place}
 use Rattle.places.specs.Place.{recordsOf, bodyOf, placeOf}
 use Rattle.places.proofs.Laws.{place-due, place-opened, place-header}

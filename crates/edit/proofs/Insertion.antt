@@ -17,14 +17,14 @@ use Rattle.format.specs.Edit.{blockItem, insertFault, insert11, fault12, fault1
 use Rattle.format.proofs.Basics.{and-true}
 use Rattle.format.proofs.Lists.{length-chunks, flat-chunks}
 use Rattle.records.specs.Entry.{entryOf}
-use Rattle.parts.specs.declared.SheetPart.{SheetPart}
-use Rattle.parts.specs.Result as Parts
+use Rattle.part_and_index.specs.declared.SheetPart.{SheetPart}
+use Rattle.part_and_index.specs.Result as Parts
 use Rattle.places.specs.declared.Place.{Place}
 use Rattle.places.specs.Place.{recordsOf, placeOf}
 use Rattle.format.specs.declared.Block.{Block}
 use Rattle.format.specs.declared.Block.the-variants.{Item, NoItem}
 use Rattle.format.specs.Answers.{blockAnswer}
-use Rattle.blocks.proofs.Laws.{OneItem, read-item, read-none}
+use Rattle.edit_block.proofs.Laws.{OneItem, read-item, read-none}
 use Rattle.edit.specs.declared.counts.Change.{Change}
 use Rattle.edit.specs.declared.plans.Plan.{Plan}
 use Rattle.edit.specs.declared.plans.Plan.the-variants.{Refuse, Store}

@@ -21,11 +21,11 @@ use Rattle.format.proofs.EditRemove.{cuts, enough}
 use Rattle.records.specs.declared.items.Entry.{Entry}
 use Rattle.records.specs.Entry.{entryOf}
 use Rattle.records.proofs.Laws.{entry-kind, entry-level, entry-data-records, entry-head, kind-most}
-use Rattle.parts.specs.declared.SheetPart.{SheetPart}
-use Rattle.parts.specs.Result as Parts
+use Rattle.part_and_index.specs.declared.SheetPart.{SheetPart}
+use Rattle.part_and_index.specs.Result as Parts
 use Rattle.places.specs.declared.Place.{Place}
 use Rattle.places.specs.Place.{recordsOf, placeOf}
-use Rattle.blocks.proofs.Items.{item-high}
+use Rattle.edit_block.proofs.Items.{item-high}
 use Rattle.edit.specs.declared.counts.Change.{Change}
 use Rattle.edit.specs.declared.plans.Plan.{Plan}
 use Rattle.edit.specs.declared.plans.Plan.the-variants.{Refuse}

@@ -12,7 +12,7 @@ use Rattle.format.specs.Record.{countIn}
 use Rattle.format.specs.Judge.{accepted, judgeSheet}
 use Rattle.format.specs.Edit.{insert, remove}
 use Rattle.format.specs.Run.{Step, call}
-use Rattle.parts.specs.declared.SheetPart.{SheetPart}
+use Rattle.part_and_index.specs.declared.SheetPart.{SheetPart}
 use Rattle.places.specs.Place.{recordsOf}
 use Rattle.edit.specs.declared.counts.Change.{Change}
 use Rattle.edit.specs.declared.plans.Plan.{Plan}

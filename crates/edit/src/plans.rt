@@ -10,7 +10,7 @@ use super::counts;
 use super::counts::Change;
 use format::Block;
 use format::Judged;
-use parts::SheetPart;
+use part_and_index::SheetPart;
 
 // Bytes of a record.
 const RECORD: usize = 84;
@@ -140,7 +140,7 @@ fn insertion_in_sheet(buffer: &[u8], used: usize, place: usize, block: &[u8]) ->
     ensures { λ r. ⌜ InsertionPlanned (now (buffer .entry)) used place (now (block .entry)) r ⌝ }
 {
     let file = &buffer[..used];
-    let part = parts::sheet_part(file);
+    let part = part_and_index::sheet_part(file);
     let first = part.length;
     if place <= first {
         return Plan::Refuse(NO_PLACE, 0);
@@ -153,7 +153,7 @@ fn insertion_in_sheet(buffer: &[u8], used: usize, place: usize, block: &[u8]) ->
     if here.due != 0 {
         return Plan::Refuse(NO_PLACE, 0);
     }
-    let Block::Item(kind, level) = blocks::read_block(block) else {
+    let Block::Item(kind, level) = edit_block::read_block(block) else {
         return Plan::Refuse(NO_ITEM, 0);
     };
     if here.opened < level - 1 {
@@ -173,7 +173,7 @@ fn removal_in_sheet(buffer: &[u8], used: usize, place: usize) -> Plan
     ensures { λ r. ⌜ RemovalPlanned (now (buffer .entry)) used place r ⌝ }
 {
     let file = &buffer[..used];
-    let part = parts::sheet_part(file);
+    let part = part_and_index::sheet_part(file);
     let first = part.length;
     if place <= first {
         return Plan::Refuse(NO_PLACE, 0);

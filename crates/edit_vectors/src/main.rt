@@ -114,7 +114,7 @@ fn edit_sheet(
 // One call at a place or from a record, told apart by its word's first letter; answers the used length for the next call.
 fn answer(word: u8, place: usize, buffer: &mut [u8], used: usize, block: &[u8]) -> usize {
     if word == b'u' {
-        print_way_up(above::way_up(buffer, used, place));
+        print_way_up(way_up::way_up(buffer, used, place));
         return used;
     }
     let edited = edit_sheet(word == b'i', buffer, used, place, block);

@@ -14,7 +14,7 @@ use Rattle.format.specs.Judge.{Counts, items, countFault, bodyFault, verdict, j
 use Rattle.format.specs.Answers.{judgedAnswer}
 use Rattle.format.specs.declared.Judged.the-variants.{Accepted, Refused}
 use Rattle.format.proofs.Lists.{length-chunks}
-use Rattle.parts.specs.declared.SheetPart.{SheetPart}
+use Rattle.part_and_index.specs.declared.SheetPart.{SheetPart}
 use Rattle.judge.specs.declared.WalkedBody.{WalkedBody}
 use Rattle.judge.specs.Walks.{viewsFrom, faultFrom, entries, wrongAt, Body, bodyOf, wrongSheetOf}
 use Rattle.judge.proofs.Steps.{views-end}

@@ -18,10 +18,10 @@ use Rattle.format.specs.declared.Judged.{Judged}
 use Rattle.format.specs.declared.Judged.the-variants.{Accepted, Refused}
 use Rattle.format.proofs.Basics.{and-true}
 use Rattle.format.proofs.Lists.{length-chunks}
-use Rattle.parts.specs.Result.{recordsOf, sheetPartOf, indexFaultOf}
-use Rattle.parts.specs.declared.SheetPart.{SheetPart}
-use Rattle.parts.specs.declared.Fault.{Fault}
-use Rattle.parts.proofs.Laws.{SoundPart, sound-part, refused-part, sound-index, refused-index, front-records}
+use Rattle.part_and_index.specs.Result.{recordsOf, sheetPartOf, indexFaultOf}
+use Rattle.part_and_index.specs.declared.SheetPart.{SheetPart}
+use Rattle.part_and_index.specs.declared.Fault.{Fault}
+use Rattle.part_and_index.proofs.Laws.{SoundPart, sound-part, refused-part, sound-index, refused-index, front-records}
 use Rattle.judge.specs.Walks.{Room, viewsFrom, bodyOf}
 
 -- ---- the body behind the sheet part, in the file's bytes

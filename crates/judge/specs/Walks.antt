@@ -9,7 +9,7 @@ use Rattle.format.specs.Basics.{Fault, none, fault, orElse, first, unless, chun
 use Rattle.format.specs.Record.{Data, nothing, View, view, isHead, countIndex}
 use Rattle.format.specs.Judge.{walk, faultAt, headersAndItems, items, countUnder, countFault, File}
 use Rattle.records.specs.declared.items.Entry.{Entry}
-use Rattle.parts.specs.declared.SheetPart.{SheetPart}
+use Rattle.part_and_index.specs.declared.SheetPart.{SheetPart}
 use Rattle.judge.specs.declared.Walked.{Walked}
 use Rattle.judge.specs.declared.WalkedBody.{WalkedBody}
 

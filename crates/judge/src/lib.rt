@@ -1,7 +1,7 @@
 // Judging a sheet file and an index file, in the three stages of document 01. The walk of stage two also counts, so that stage three reads
 // no more than each header's own counts.
 use format::Judged;
-use parts::SheetPart;
+use part_and_index::SheetPart;
 use records::Entry;
 use records::Held;
 ghost use mathlib.Core.Path.{_≡_};
@@ -166,7 +166,7 @@ fn next(file: &[u8], k: usize) -> usize
     requires { ⌜ 84 * k + 84 ≤ length (now file) ⌝ }
     ensures { λ r. ⌜ r ≡ k + 1 ⌝ }
 {
-    if ahead::go_on(file, 84 * k, 84 * k + 84) {
+    if read_ahead::go_on(file, 84 * k, 84 * k + 84) {
         k + 1
     } else {
         k
@@ -177,7 +177,7 @@ fn next(file: &[u8], k: usize) -> usize
 fn begin(file: &[u8], k: usize) -> usize
     ensures { λ r. ⌜ r ≡ k ⌝ }
 {
-    if ahead::start(file) { k } else { 0 }
+    if read_ahead::start(file) { k } else { 0 }
 }
 
 // The data records of the item at record k, whose entry this is.
@@ -308,7 +308,7 @@ pub fn judge_sheet(buffer: &[u8], used: usize) -> Judged
     if !length_ok(buffer, used) {
         return Judged::Refused(1, 0);
     }
-    let part = parts::sheet_part(&buffer[..used]);
+    let part = part_and_index::sheet_part(&buffer[..used]);
     if part.fault != 0 {
         return Judged::Refused(part.fault, part.at);
     }
@@ -322,7 +322,7 @@ pub fn judge_index(buffer: &[u8], used: usize) -> Judged
     if !length_ok(buffer, used) {
         return Judged::Refused(1, 0);
     }
-    let found = parts::index_fault(&buffer[..used]);
+    let found = part_and_index::index_fault(&buffer[..used]);
     if found.number != 0 {
         return Judged::Refused(found.number, found.at);
     }

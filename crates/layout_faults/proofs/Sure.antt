@@ -17,8 +17,8 @@ use Rattle.format.specs.declared.Column.the-variants.{Value, MinusZero, Malform
 use Rattle.format.specs.Column.{integer}
 use Rattle.format.specs.Layout.{Col, allInside, columnFault, header, element, gridHeader, netHeader, dataNote}
 use Rattle.columns.specs.InRecord.{columnAt}
-use Rattle.record_forms.specs.Sure.{sure}
-use Rattle.record_forms.proofs.Sound.{aboveZeros, sure-record, sure-formed, sure-inside}
+use Rattle.form_records.specs.Sure.{sure}
+use Rattle.form_records.proofs.Sound.{aboveZeros, sure-record, sure-formed, sure-inside}
 use Rattle.layout_faults.specs.Faults.{faultIn}
 use Rattle.layout_faults.proofs.Tables.{says}
 

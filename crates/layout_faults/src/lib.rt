@@ -216,7 +216,7 @@ pub fn sheet_f_fault(record: &[u8]) -> u8
 pub fn header_fault(record: &[u8]) -> u8
     ensures { λ r. ⌜ r ≡ faultIn header (now («record» .entry)) ⌝ }
 {
-    if record_forms::header_sure(record) {
+    if form_records::header_sure(record) {
         return 0;
     }
     let starts = Header::integer_starts();
@@ -230,7 +230,7 @@ pub fn header_fault(record: &[u8]) -> u8
 pub fn element_fault(record: &[u8]) -> u8
     ensures { λ r. ⌜ r ≡ faultIn element (now («record» .entry)) ⌝ }
 {
-    if record_forms::element_sure(record) {
+    if form_records::element_sure(record) {
         return 0;
     }
     let starts = Element::integer_starts();
@@ -255,7 +255,7 @@ pub fn element_fault(record: &[u8]) -> u8
 fn grid_header_sure(record: &[u8]) -> bool
     ensures { λ r. ⌜ (r ≡ true → faultIn gridHeader (now («record» .entry)) ≡ 0) ⌝ }
 {
-    if !record_forms::grid_header_sure(record) {
+    if !form_records::grid_header_sure(record) {
         return false;
     }
     let rows = above_zero(record, GridHeader::ROWS_START, GridHeader::ROWS_WIDTH);
@@ -290,7 +290,7 @@ pub fn grid_header_fault(record: &[u8]) -> u8
 fn net_header_sure(record: &[u8]) -> bool
     ensures { λ r. ⌜ (r ≡ true → faultIn netHeader (now («record» .entry)) ≡ 0) ⌝ }
 {
-    if !record_forms::net_header_sure(record) {
+    if !form_records::net_header_sure(record) {
         return false;
     }
     above_zero(
@@ -316,7 +316,7 @@ pub fn net_header_fault(record: &[u8]) -> u8
 pub fn data_note_fault(record: &[u8]) -> u8
     ensures { λ r. ⌜ r ≡ faultIn dataNote (now («record» .entry)) ⌝ }
 {
-    if record_forms::data_note_sure(record) {
+    if form_records::data_note_sure(record) {
         return 0;
     }
     let starts = DataNote::integer_starts();

@@ -187,7 +187,7 @@ fn answer_split(unit: u64, millimetres: i64) {
 // formed START COUNT BYTES: the bytes are spelled out in `space` first.
 fn answer_formed(start: usize, count: usize, word: &[u8], space: &mut [u8]) {
     let length = unhex(word, space);
-    if data_columns::columns_well_formed(&space[..length], start, count) {
+    if form_columns::columns_well_formed(&space[..length], start, count) {
         io::write_all(STDOUT_FILENO, b"yes");
     } else {
         io::write_all(STDOUT_FILENO, b"no");

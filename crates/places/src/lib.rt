@@ -61,7 +61,7 @@ fn go_on(file: &[u8], part: usize, from: usize, to: usize) -> usize
     if file.len() / RECORD <= part + to {
         return to;
     }
-    if ahead::go_on(file, RECORD * (part + from), RECORD * (part + to)) {
+    if read_ahead::go_on(file, RECORD * (part + from), RECORD * (part + to)) {
         to
     } else {
         from

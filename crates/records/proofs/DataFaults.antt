@@ -18,8 +18,8 @@ use Rattle.format.specs.Layout.{find, numberAt, integerAt, allFormed, allInside
 use Rattle.format.specs.Record.{nothing, notes, dataColumns, directionOk, dataFault}
 use Rattle.columns.specs.InRecord.{columnAt}
 use Rattle.columns.proofs.Numbers.{back}
-use Rattle.data_columns.specs.Columns.{eachFormed, columnsFormed}
-use Rattle.data_columns.proofs.Records.{alone, columnFault-3D, columnFault-2D, columnFault-net, columnFault-grid}
+use Rattle.form_columns.specs.Columns.{eachFormed, columnsFormed}
+use Rattle.form_columns.proofs.Records.{alone, columnFault-3D, columnFault-2D, columnFault-net, columnFault-grid}
 use Rattle.layout_faults.specs.Faults.{faultIn}
 use Rattle.layout_faults.proofs.Laws.{fault-in-record, integer-is}
 use Rattle.records.specs.declared.Held.{Held}

@@ -173,7 +173,7 @@ pub fn data_fault(record: &[u8], held: Held, behind: usize) -> u8
         return note_fault(record);
     }
     let used = data::columns_used(held, behind);
-    if data_columns::columns_well_formed(record, 0, used) {
+    if form_columns::columns_well_formed(record, 0, used) {
         0
     } else {
         5

@@ -18,7 +18,7 @@ fn compiled(name: &str) -> PathBuf {
     let program = Path::new(env!("CARGO_TARGET_TMPDIR")).join(name);
     let out = program.to_str().expect("a path in UTF-8");
     let strict = ["-std=c99", "-Wall", "-Wextra", "-Werror", "-pedantic", "-Iinclude"];
-    gcc(&[&strict[..], &["include/example.c", "target/staticlib/libexports.a", "-o", out]].concat());
+    gcc(&[&strict[..], &["include/example.c", "target/staticlib/libc_interface.a", "-o", out]].concat());
     program
 }
 

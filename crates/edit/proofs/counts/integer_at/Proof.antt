@@ -1,5 +1,5 @@
 -- `integer_at` answers the column's number, or 0. Assumes nothing.
-use Rattle.parts.proofs.Numbers.{value-read, none-read}
+use Rattle.part_and_index.proofs.Numbers.{value-read, none-read}
 use borrow.Author.Needs.{needs}
 use Rattle.edit.proofs.counts.integer_at.Statement.{statement}
 use Rattle.edit.proofs.counts.integer_at.Tie as tie

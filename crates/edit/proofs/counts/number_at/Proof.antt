@@ -1,5 +1,5 @@
 -- `number_at` answers the column's number of at least 0, which fits. Assumes nothing.
-use Rattle.parts.proofs.Numbers.{number-cast, number-below-zero, number-read}
+use Rattle.part_and_index.proofs.Numbers.{number-cast, number-below-zero, number-read}
 use borrow.Author.Needs.{needs}
 use Rattle.edit.proofs.counts.number_at.Statement.{statement}
 use Rattle.edit.proofs.counts.number_at.Tie as tie

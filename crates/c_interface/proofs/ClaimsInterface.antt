@@ -1,0 +1,99 @@
+-- Claims: every refusal of the interface has a number of at least 1 and every header that it answers a record number of at least 1, so that a struct with
+-- `refusal` 0 is an answer and one with `header` 0 is none; and two answers with the same struct are the same. A C program loses nothing. Assumes nothing.
+use mathlib.Core.Path.{_≡_, refl, ap, ap₂}
+use mathlib.Core.List.{List}
+use Prim.Native.Nat.{ℕ, suc}
+use native.Mathlib.Omega.{arith}
+use lib.IntN.{ℤ}
+use Rattle.format.specs.Basics.{Answer, given, refused}
+use Rattle.format.specs.Column.{readAlone, writeAlone}
+use Rattle.format.specs.Corner.{Corner, join, split}
+use Rattle.format.specs.Judge.{Counts, judgeSheet, judgeIndex}
+use Rattle.format.specs.Above.{Way, noHeader, toHeader, up}
+use Rattle.format.specs.Edit.{Edit}
+use Rattle.format.specs.Run.{Buffer, call}
+use Rattle.format.specs.Normal.{normalSheet, normalIndex}
+use Rattle.format.specs.Program.{reportTo}
+use Rattle.c_interface.specs.declared.ZvWay.{ZvWay}
+use Rattle.c_interface.specs.declared.ZvNumber.{ZvNumber}
+use Rattle.c_interface.specs.declared.ZvCorner.{ZvCorner}
+use Rattle.c_interface.specs.declared.ZvCounts.{ZvCounts}
+use Rattle.c_interface.specs.declared.ZvLength.{ZvLength}
+use Rattle.c_interface.specs.Interface.{numberOf, cornerOf, countsOf, lengthOf, wayOf, Numbered, answers, refuses, WayNumbered, hasNone, hasHeader, refusesWay}
+use Rattle.c_interface.proofs.Numbered.{column-read, column-written, joined, parted, judged-sheet, judged-index, way-numbered, sheet-written, index-written, line-written, edited}
+
+-- ---- what the calls answer
+pub read-numbered : (column : List ℕ) → Numbered (readAlone column)
+read-numbered = column-read
+
+pub write-numbered : (column : List ℕ) (z : ℤ) → Numbered ((writeAlone column z) .answer)
+write-numbered = column-written
+
+pub join-numbered : (unit : ℕ) (whole fraction : ℤ) → Numbered (join unit whole fraction)
+join-numbered = joined
+
+pub split-numbered : (unit : ℕ) (z : ℤ) → Numbered (split unit z)
+split-numbered = parted
+
+pub sheet-numbered : (used : ℕ) (buffer : List ℕ) → Numbered (judgeSheet used buffer)
+sheet-numbered = judged-sheet
+
+pub index-numbered : (used : ℕ) (buffer : List ℕ) → Numbered (judgeIndex used buffer)
+index-numbered = judged-index
+
+pub up-numbered : (used : ℕ) (buffer : List ℕ) (number : ℕ) → WayNumbered (up used buffer number)
+up-numbered = way-numbered
+
+pub normal-sheet-numbered : (used : ℕ) (buffer second : List ℕ) → Numbered ((normalSheet used buffer second) .answer)
+normal-sheet-numbered = sheet-written
+
+pub normal-index-numbered : (used : ℕ) (buffer second : List ℕ) → Numbered ((normalIndex used buffer second) .answer)
+normal-index-numbered = index-written
+
+pub edit-numbered : (edit : Edit) (b : Buffer) → Numbered ((call edit b) .reply)
+edit-numbered = edited
+
+pub report-numbered : (input out : List ℕ) → Numbered ((reportTo input out) .answer)
+report-numbered = line-written
+
+-- ---- two of these with the same struct are the same
+pub number-tells : {a b : Answer ℤ} → Numbered a → Numbered b → numberOf a ≡ numberOf b → a ≡ b
+number-tells answers answers e = ap given (ap (λ (r : ZvNumber). r .value) e)
+number-tells answers (refuses {n}) e = let z : 0 ≡ suc n = ap (λ (r : ZvNumber). r .refusal) e in absurd (omega arith)
+number-tells (refuses {n}) answers e = let z : suc n ≡ 0 = ap (λ (r : ZvNumber). r .refusal) e in absurd (omega arith)
+number-tells refuses refuses e = ap₂ refused (ap (λ (r : ZvNumber). r .refusal) e) (ap (λ (r : ZvNumber). r .at) e)
+
+same-corner : {w f v g : ℤ} → w ≡ v → f ≡ g → _≡_ {A = Corner} (record { whole = w; fraction = f }) (record { whole = v; fraction = g })
+same-corner e d = rw (e, d)
+
+pub corner-tells : {a b : Answer Corner} → Numbered a → Numbered b → cornerOf a ≡ cornerOf b → a ≡ b
+corner-tells answers answers e = ap given (same-corner (ap (λ (r : ZvCorner). r .whole) e) (ap (λ (r : ZvCorner). r .fraction) e))
+corner-tells answers (refuses {n}) e = let z : 0 ≡ suc n = ap (λ (r : ZvCorner). r .refusal) e in absurd (omega arith)
+corner-tells (refuses {n}) answers e = let z : suc n ≡ 0 = ap (λ (r : ZvCorner). r .refusal) e in absurd (omega arith)
+corner-tells refuses refuses e = ap₂ refused (ap (λ (r : ZvCorner). r .refusal) e) (ap (λ (r : ZvCorner). r .at) e)
+
+same-counts : {n m k l : ℕ} → n ≡ k → m ≡ l → _≡_ {A = Counts} (record { records = n; items = m }) (record { records = k; items = l })
+same-counts e d = rw (e, d)
+
+pub counts-tell : {a b : Answer Counts} → Numbered a → Numbered b → countsOf a ≡ countsOf b → a ≡ b
+counts-tell answers answers e = ap given (same-counts (ap (λ (r : ZvCounts). r .records) e) (ap (λ (r : ZvCounts). r .items) e))
+counts-tell answers (refuses {n}) e = let z : 0 ≡ suc n = ap (λ (r : ZvCounts). r .refusal) e in absurd (omega arith)
+counts-tell (refuses {n}) answers e = let z : suc n ≡ 0 = ap (λ (r : ZvCounts). r .refusal) e in absurd (omega arith)
+counts-tell refuses refuses e = ap₂ refused (ap (λ (r : ZvCounts). r .refusal) e) (ap (λ (r : ZvCounts). r .at) e)
+
+pub length-tells : {a b : Answer ℕ} → Numbered a → Numbered b → lengthOf a ≡ lengthOf b → a ≡ b
+length-tells answers answers e = ap given (ap (λ (r : ZvLength). r .length) e)
+length-tells answers (refuses {n}) e = let z : 0 ≡ suc n = ap (λ (r : ZvLength). r .refusal) e in absurd (omega arith)
+length-tells (refuses {n}) answers e = let z : suc n ≡ 0 = ap (λ (r : ZvLength). r .refusal) e in absurd (omega arith)
+length-tells refuses refuses e = ap₂ refused (ap (λ (r : ZvLength). r .refusal) e) (ap (λ (r : ZvLength). r .at) e)
+
+pub way-tells : {a b : Answer Way} → WayNumbered a → WayNumbered b → wayOf a ≡ wayOf b → a ≡ b
+way-tells hasNone hasNone e = refl
+way-tells hasNone (hasHeader {n}) e = let z : 0 ≡ suc n = ap (λ (r : ZvWay). r .header) e in absurd (omega arith)
+way-tells hasNone (refusesWay {n}) e = let z : 0 ≡ suc n = ap (λ (r : ZvWay). r .refusal) e in absurd (omega arith)
+way-tells (hasHeader {n}) hasNone e = let z : suc n ≡ 0 = ap (λ (r : ZvWay). r .header) e in absurd (omega arith)
+way-tells hasHeader hasHeader e = ap given (ap₂ toHeader (ap (λ (r : ZvWay). r .header) e) (ap (λ (r : ZvWay). r .passed) e))
+way-tells hasHeader (refusesWay {n}) e = let z : 0 ≡ suc n = ap (λ (r : ZvWay). r .refusal) e in absurd (omega arith)
+way-tells (refusesWay {n}) hasNone e = let z : suc n ≡ 0 = ap (λ (r : ZvWay). r .refusal) e in absurd (omega arith)
+way-tells (refusesWay {n}) hasHeader e = let z : suc n ≡ 0 = ap (λ (r : ZvWay). r .refusal) e in absurd (omega arith)
+way-tells refusesWay refusesWay e = ap₂ refused (ap (λ (r : ZvWay). r .refusal) e) (ap (λ (r : ZvWay). r .at) e)

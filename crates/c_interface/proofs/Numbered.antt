@@ -1,0 +1,190 @@
+-- Every refusal of every call has a number of at least 1, and so has every header that the way up answers. Assumes nothing.
+use mathlib.Core.Path.{_≡_, refl}
+use mathlib.Core.Bool.{Bool, true, false, cond, _&&_}
+use mathlib.Core.List.{List, [], _∷_, _++_, map}
+use Prim.Native.Nat.{ℕ, zero, suc, _+_, _-_, _/_}
+use native.Mathlib.Omega.{arith}
+use borrow.Author.Tests.{eqb-false}
+use lib.Dec.{leb, ltb, eqb}
+use lib.ListN.{length, drop}
+use lib.IntN.{ℤ}
+use Rattle.format.specs.Basics.{Answer, given, refused, Outcome, Fault, none, fault, orElse, toFault, unless, stageOneOk, chunks, flat}
+use Rattle.format.specs.Column.{readAlone, writeAlone, columnAnswer, columnOf, widthOk, fits, written}
+use Rattle.format.specs.declared.Column.{Column}
+use Rattle.format.specs.declared.Column.the-variants.{Value, MinusZero, Malformed}
+use Rattle.format.specs.Corner.{isUnit, fractionOk, millimetres, join, gives, split}
+use Rattle.format.proofs.Corners.{wholeOf, fractionOf}
+use Rattle.format.specs.Record.{Data, nothing, View, view}
+use Rattle.format.specs.Part.{Machine, partFrom, partFault}
+use Rattle.format.specs.Sheet.{sheetFault, sheetMachine}
+use Rattle.format.specs.Sheet as Sheet
+use Rattle.format.specs.Index.{indexFault, indexMachine}
+use Rattle.format.specs.Index as Index
+use Rattle.format.specs.Judge.{openAfter, dueAfter, heldAfter, ownerAfter, faultAt, missing, walk, headersAndItems, headerCountFault, countFault, items, File, fileOf, sheetCountFault, bodyFault, Counts, verdict, judge, afterPart, judgeRecords, judgeIndexRecords, afterStageOne, judgeSheet, judgeIndex}
+use Rattle.format.specs.Above.{Way, noHeader, toHeader, aboveAt, headersMet, up}
+use Rattle.format.specs.Above as Above
+use Rattle.format.specs.Edit.{Edit, insert, remove, PlainStep, conclude, plain, RecordList, blockOf, insertFault, inserted, remove11, removed}
+use Rattle.format.specs.Run.{Buffer, Step, listOf, call}
+use Rattle.format.specs.Run as Run
+use Rattle.format.specs.Normal.{normalTo, normalSheetRecords, normalIndexRecords, normalSheet, normalIndex}
+use Rattle.format.specs.Program.{printed, lineTo, reportTo}
+use Rattle.c_interface.specs.Interface.{Numbered, answers, refuses, WayNumbered, hasNone, hasHeader, refusesWay}
+
+-- what holds of both sides of a test holds of what it chooses
+chosen : {A : Type 0} (P : A → Type 0) (t : Bool) {a b : A} → P a → P b → P (cond t a b)
+chosen P true p q = p
+chosen P false p q = q
+
+-- ---- faults
+data Clean : Fault → Type 0 where
+  fine : Clean none
+  wrong : {n at : ℕ} → Clean (fault (suc n) at)
+
+or-else : {a b : Fault} → Clean a → Clean b → Clean (orElse a b)
+or-else fine q = q
+or-else wrong q = wrong
+
+to-fault : (n i : ℕ) → Clean (toFault n i)
+to-fault zero i = fine
+to-fault (suc n) i = wrong
+
+part-fault : (M : Machine) (p : M .Phase) (i : ℕ) (rs : List (List ℕ)) → Clean (partFault M p i rs)
+part-fault M p i [] = chosen Clean (M .over p) fine wrong
+part-fault M p i (r ∷ rs) = chosen Clean (M .over p) fine (or-else (to-fault (M .wrong p r) i) (part-fault M (M .step p r) (suc i) rs))
+
+missing-fault : (due owner : ℕ) → Clean (missing due owner)
+missing-fault zero owner = fine
+missing-fault (suc due) owner = wrong
+
+walk-fault : (opened due : ℕ) (held : Data) (owner number : ℕ) (rs : List View) → Clean (walk opened due held owner number rs)
+walk-fault opened due held owner number [] = missing-fault due owner
+walk-fault opened due held owner number (r ∷ rs) =
+    or-else (to-fault (faultAt opened due held r) number) (walk-fault (openAfter opened due r) (dueAfter due r) (heldAfter due held r) (ownerAfter due owner number) (suc number) rs)
+
+count-fault : (due number : ℕ) (rs : List View) → Clean (countFault due number rs)
+count-fault due number [] = fine
+count-fault zero number (r ∷ rs) = or-else (to-fault (headerCountFault r (headersAndItems (dueAfter zero r) rs)) number) (count-fault (dueAfter zero r) (suc number) rs)
+count-fault (suc due) number (r ∷ rs) = count-fault due (suc number) rs
+
+body-fault : (f : File) → Clean (bodyFault f)
+body-fault f = or-else (walk-fault 0 0 nothing 0 (suc (f .partLength)) (f .body)) (or-else (to-fault (sheetCountFault f) 2) (count-fault 0 (suc (f .partLength)) (f .body)))
+
+-- ---- judging
+verdict-numbered : {a : Fault} (n m : ℕ) → Clean a → Numbered (verdict a n m)
+verdict-numbered n m fine = answers
+verdict-numbered n m wrong = refuses
+
+judge-numbered : (f : File) → Numbered (judge f)
+unfolding judge
+judge-numbered f = verdict-numbered (f .partLength + length (f .body)) (items (headersAndItems 0 (f .body))) (body-fault f)
+
+after-part : {a : Fault} {b : Answer Counts} → Clean a → Numbered b → Numbered (afterPart a b)
+after-part fine q = q
+after-part wrong q = refuses
+
+records-numbered : (rs : List (List ℕ)) → Numbered (judgeRecords rs)
+unfolding judgeRecords sheetFault
+records-numbered rs = after-part (part-fault sheetMachine Sheet.due-a 1 rs) (judge-numbered (fileOf rs))
+
+index-numbered : (rs : List (List ℕ)) → Numbered (judgeIndexRecords rs)
+unfolding judgeIndexRecords indexFault
+index-numbered rs = verdict-numbered (length rs) 0 (or-else (part-fault indexMachine Index.due-a 1 rs) (to-fault (unless (eqb (length rs) (partFrom indexMachine Index.due-a rs)) 10) 1))
+
+stage-one : (t : Bool) {a : Answer Counts} → Numbered a → Numbered (afterStageOne t a)
+stage-one true p = p
+stage-one false p = refuses
+
+pub judged-sheet : (used : ℕ) (buffer : List ℕ) → Numbered (judgeSheet used buffer)
+unfolding judgeSheet
+judged-sheet used buffer = stage-one (stageOneOk used buffer) (records-numbered (chunks (used / 84) buffer))
+
+pub judged-index : (used : ℕ) (buffer : List ℕ) → Numbered (judgeIndex used buffer)
+unfolding judgeIndex
+judged-index used buffer = stage-one (stageOneOk used buffer) (index-numbered (chunks (used / 84) buffer))
+
+given-or : {A : Type 0} (n : ℕ) (t : Bool) (a : A) → Numbered (cond t (given a) (refused (suc n) 0))
+given-or n true a = answers
+given-or n false a = refuses
+
+written-or : (n : ℕ) (t : Bool) (size : ℕ) (new old : List ℕ) → Numbered ((cond {A = Outcome ℕ} t (record { answer = given size; bytes = new }) (record { answer = refused (suc n) 0; bytes = old })) .answer)
+written-or n true size new old = answers
+written-or n false size new old = refuses
+
+-- ---- columns and corners
+column-said : (c : Column) → Numbered (columnAnswer c)
+column-said (Value z) = answers
+column-said MinusZero = refuses
+column-said Malformed = refuses
+
+pub column-read : (column : List ℕ) → Numbered (readAlone column)
+unfolding readAlone
+column-read column = chosen Numbered (widthOk (length column)) (column-said (columnOf column)) (refuses {n = 15} {at = 0})
+
+pub column-written : (column : List ℕ) (z : ℤ) → Numbered ((writeAlone column z) .answer)
+unfolding writeAlone
+column-written column z = written-or 15 (widthOk (length column) && fits (length column) z) (length column) (written (length column) z) column
+
+pub joined : (unit : ℕ) (whole fraction : ℤ) → Numbered (join unit whole fraction)
+unfolding join
+joined unit whole fraction = chosen Numbered (isUnit unit && fits 7 whole && fits 4 fraction) (given-or 8 (fractionOk unit whole fraction) (millimetres unit whole fraction)) (refuses {n = 15} {at = 0})
+
+pub parted : (unit : ℕ) (z : ℤ) → Numbered (split unit z)
+unfolding split
+parted unit z = given-or 15 (gives (join unit (wholeOf z) (fractionOf unit z)) z) (record { whole = wholeOf z; fraction = fractionOf unit z })
+
+-- ---- the way up
+some-header : (number met : ℕ) → (number ≡ 0 → ⊥) → WayNumbered (given (toHeader number met))
+some-header zero met some = absurd (some refl)
+some-header (suc n) met some = hasHeader
+
+header-placed : (part above met : ℕ) → WayNumbered (given (cond (eqb above 0) noHeader (toHeader (part + above) met)))
+header-placed part above met = go (eqb above 0) refl
+  where
+    go : (t : Bool) → eqb above 0 ≡ t → WayNumbered (given (cond t noHeader (toHeader (part + above) met)))
+    go true e = hasNone
+    go false e = some-header (part + above) met (λ d. let none-above : above ≡ 0 = omega arith in eqb-false above 0 e none-above)
+
+way-judged : {a : Answer Counts} {w : Answer Way} → Numbered a → WayNumbered w → WayNumbered (Above.afterJudging a w)
+way-judged answers q = q
+way-judged refuses q = refusesWay
+
+pub way-numbered : (used : ℕ) (buffer : List ℕ) (number : ℕ) → WayNumbered (up used buffer number)
+unfolding up
+way-numbered used buffer number = way-judged (judged-sheet used buffer) (chosen WayNumbered (ltb (f .partLength) number && leb number (f .partLength + length (f .body))) (header-placed (f .partLength) (aboveAt (f .body) (number - f .partLength)) (headersMet number (f .body) (number - f .partLength))) (refusesWay {n = 16} {at = 0}))
+  where
+    f : File
+    f = fileOf (chunks (used / 84) buffer)
+
+-- ---- calls that write
+normal-numbered : {a : Answer Counts} (used : ℕ) (records : List (List ℕ)) (second : List ℕ) → Numbered a → Numbered ((normalTo a used records second) .answer)
+normal-numbered used records second answers = written-or 14 (leb used (length second)) used (flat records ++ drop used second) second
+normal-numbered used records second refuses = refuses
+
+pub sheet-written : (used : ℕ) (buffer second : List ℕ) → Numbered ((normalSheet used buffer second) .answer)
+unfolding normalSheet
+sheet-written used buffer second = normal-numbered used (normalSheetRecords (chunks (used / 84) buffer)) second (judged-sheet used buffer)
+
+pub index-written : (used : ℕ) (buffer second : List ℕ) → Numbered ((normalIndex used buffer second) .answer)
+unfolding normalIndex
+index-written used buffer second = normal-numbered used (normalIndexRecords (chunks (used / 84) buffer)) second (judged-index used buffer)
+
+pub line-written : (input out : List ℕ) → Numbered ((reportTo input out) .answer)
+unfolding reportTo lineTo
+line-written input out = written-or 14 (leb (length (printed input)) (length out)) (length (printed input)) (printed input ++ drop (length (printed input)) out) out
+
+concluded : (n : ℕ) (old new : RecordList) → Numbered ((conclude n old new) .reply)
+concluded zero old new = answers
+concluded (suc n) old new = refuses
+
+plain-numbered : (edit : Edit) (list : RecordList) → Numbered ((plain edit list) .reply)
+unfolding plain
+plain-numbered (insert place block) list = concluded (insertFault (fileOf (list .records)) (list .tail) place (map view (blockOf block))) list (inserted list place (blockOf block))
+plain-numbered (remove place) list = concluded (remove11 (fileOf (list .records)) (list .tail) place) list (removed list place)
+
+call-judged : {a : Answer Counts} (s : PlainStep) (b : Buffer) → Numbered a → Numbered (s .reply) → Numbered ((Run.afterJudging a s b) .reply)
+call-judged s b answers q = q
+call-judged s b refuses q = refuses
+
+pub edited : (edit : Edit) (b : Buffer) → Numbered ((call edit b) .reply)
+unfolding call
+edited edit b = call-judged (plain edit (listOf b)) b (judged-sheet (b .used) (b .bytes)) (plain-numbered edit (listOf b))

@@ -1,0 +1,268 @@
+// The C interface: every public call as a function with C linkage, its answer a struct of numbers. A slice passes as a pointer and a length.
+//
+// In each answer `refusal` is 0, or the number of the refusal, `at` the record that the refusal names, 0 where it names none; the other
+// fields hold the values of an accepted call, and 0 for a refused one.
+ghost use mathlib.Core.Path.{_≡_};
+ghost use Rattle.format.specs.Column.{readAlone, writeAlone};
+ghost use Rattle.format.specs.Corner.{join, split};
+ghost use Rattle.format.specs.Judge.{judgeSheet, judgeIndex};
+ghost use Rattle.format.specs.Above.{up};
+ghost use Rattle.format.specs.Edit.{insert, remove};
+ghost use Rattle.format.specs.Run.{call};
+ghost use Rattle.format.specs.Normal.{normalSheet, normalIndex};
+ghost use Rattle.format.specs.Answers.{numberAnswer, writtenAnswer, partsAnswer, judgedAnswer, wayUpAnswer, editedAnswer};
+ghost use Rattle.format.specs.Program.{reportTo};
+ghost use Rattle.c_interface.specs.Interface.{numberOf, cornerOf, countsOf, lengthOf, wayOf, Wrote, wroteOf, editedOf};
+use format::Edited;
+use format::Judged;
+use format::Number;
+use format::Parts;
+use format::WayUp;
+use format::Written;
+
+#[repr(C)]
+pub struct ZvNumber {
+    pub refusal: u64,
+    pub at: usize,
+    pub value: i64,
+}
+
+#[repr(C)]
+pub struct ZvCorner {
+    pub refusal: u64,
+    pub at: usize,
+    pub whole: i64,
+    pub fraction: i64,
+}
+
+#[repr(C)]
+pub struct ZvCounts {
+    pub refusal: u64,
+    pub at: usize,
+    pub records: usize,
+    pub items: usize,
+}
+
+#[repr(C)]
+pub struct ZvLength {
+    pub refusal: u64,
+    pub at: usize,
+    pub length: usize,
+}
+
+// `header` is 0 where no header stands above.
+#[repr(C)]
+pub struct ZvWay {
+    pub refusal: u64,
+    pub at: usize,
+    pub header: usize,
+    pub passed: usize,
+}
+
+fn number(answer: Number) -> ZvNumber
+    ensures { λ r. ⌜ r ≡ numberOf (numberAnswer answer) ⌝ }
+{
+    match answer {
+        Number::Is(value) => ZvNumber {
+            refusal: 0,
+            at: 0,
+            value,
+        },
+        Number::Refused(refusal, at) => ZvNumber {
+            refusal: refusal as u64,
+            at,
+            value: 0,
+        },
+    }
+}
+
+fn corner(answer: Parts) -> ZvCorner
+    ensures { λ r. ⌜ r ≡ cornerOf (partsAnswer answer) ⌝ }
+{
+    match answer {
+        Parts::Corner(whole, fraction) => ZvCorner {
+            refusal: 0,
+            at: 0,
+            whole,
+            fraction,
+        },
+        Parts::Refused(refusal, at) => ZvCorner {
+            refusal: refusal as u64,
+            at,
+            whole: 0,
+            fraction: 0,
+        },
+    }
+}
+
+fn length(answer: Written) -> ZvLength
+    ensures { λ r. ⌜ r ≡ lengthOf (writtenAnswer answer) ⌝ }
+{
+    match answer {
+        Written::Bytes(length) => ZvLength {
+            refusal: 0,
+            at: 0,
+            length,
+        },
+        Written::Refused(refusal, at) => ZvLength {
+            refusal: refusal as u64,
+            at,
+            length: 0,
+        },
+    }
+}
+
+// A column read alone.
+#[no_mangle]
+pub extern "C" fn zv_read(column: &[u8]) -> ZvNumber
+    ensures { λ r. ⌜ r ≡ numberOf (readAlone (now (column .entry))) ⌝ }
+{
+    number(columns::read(column))
+}
+
+// A column written alone: the answer's length is the column's.
+#[no_mangle]
+pub extern "C" fn zv_write(column: &mut [u8], value: i64) -> ZvLength
+    ensures { λ r. ⌜ record { result = r; bytes = now (column .exit) } ≡ wroteOf (writeAlone (now (column .entry)) value) ⌝ }
+{
+    length(columns::write(column, value))
+}
+
+// A corner joined to millimetres.
+#[no_mangle]
+pub extern "C" fn zv_join(unit: u64, whole: i64, fraction: i64) -> ZvNumber
+    ensures { λ r. ⌜ r ≡ numberOf (join unit whole fraction) ⌝ }
+{
+    number(corners::join(unit, whole, fraction))
+}
+
+// Millimetres split into a corner.
+#[no_mangle]
+pub extern "C" fn zv_split(unit: u64, millimetres: i64) -> ZvCorner
+    ensures { λ r. ⌜ r ≡ cornerOf (split unit millimetres) ⌝ }
+{
+    corner(corners::split(unit, millimetres))
+}
+
+// A judgement as numbers.
+fn counts(judged: Judged) -> ZvCounts
+    ensures { λ r. ⌜ r ≡ countsOf (judgedAnswer judged) ⌝ }
+{
+    match judged {
+        Judged::Accepted(records, items) => ZvCounts {
+            refusal: 0,
+            at: 0,
+            records,
+            items,
+        },
+        Judged::Refused(number, at) => ZvCounts {
+            refusal: number as u64,
+            at,
+            records: 0,
+            items: 0,
+        },
+    }
+}
+
+// A sheet judged, and an index.
+#[no_mangle]
+pub extern "C" fn zv_judge_sheet(buffer: &[u8], used: usize) -> ZvCounts
+    ensures { λ r. ⌜ r ≡ countsOf (judgeSheet used (now (buffer .entry))) ⌝ }
+{
+    counts(judge::judge_sheet(buffer, used))
+}
+
+#[no_mangle]
+pub extern "C" fn zv_judge_index(buffer: &[u8], used: usize) -> ZvCounts
+    ensures { λ r. ⌜ r ≡ countsOf (judgeIndex used (now (buffer .entry))) ⌝ }
+{
+    counts(judge::judge_index(buffer, used))
+}
+
+fn way(answer: WayUp) -> ZvWay
+    ensures { λ r. ⌜ r ≡ wayOf (wayUpAnswer answer) ⌝ }
+{
+    match answer {
+        WayUp::Header(header, passed) => ZvWay {
+            refusal: 0,
+            at: 0,
+            header,
+            passed: passed as usize,
+        },
+        WayUp::LayerHeader => ZvWay {
+            refusal: 0,
+            at: 0,
+            header: 0,
+            passed: 0,
+        },
+        WayUp::Refused(refusal, at) => ZvWay {
+            refusal: refusal as u64,
+            at,
+            header: 0,
+            passed: 0,
+        },
+    }
+}
+
+// The header above a record of a sheet, and the headers passed up to its layer.
+#[no_mangle]
+pub extern "C" fn zv_way_up(buffer: &[u8], used: usize, number: usize) -> ZvWay
+    ensures { λ r. ⌜ r ≡ wayOf (up used (now (buffer .entry)) number) ⌝ }
+{
+    way(way_up::way_up(buffer, used, number))
+}
+
+// The normal form of a sheet, and of an index, written to a second buffer: the answer's length is the file's.
+#[no_mangle]
+pub extern "C" fn zv_normal_sheet(buffer: &[u8], used: usize, second: &mut [u8]) -> ZvLength
+    ensures { λ r. ⌜ record { result = r; bytes = now (second .exit) } ≡ wroteOf (normalSheet used (now (buffer .entry)) (now (second .entry))) ⌝ }
+{
+    length(normal::normal_sheet(buffer, used, second))
+}
+
+#[no_mangle]
+pub extern "C" fn zv_normal_index(buffer: &[u8], used: usize, second: &mut [u8]) -> ZvLength
+    ensures { λ r. ⌜ record { result = r; bytes = now (second .exit) } ≡ wroteOf (normalIndex used (now (buffer .entry)) (now (second .entry))) ⌝ }
+{
+    length(normal::normal_index(buffer, used, second))
+}
+
+fn edited(answer: Edited) -> ZvLength
+    ensures { λ r. ⌜ r ≡ lengthOf (editedAnswer answer) ⌝ }
+{
+    match answer {
+        Edited::Used(length) => ZvLength {
+            refusal: 0,
+            at: 0,
+            length,
+        },
+        Edited::Refused(refusal, at) => ZvLength {
+            refusal: refusal as u64,
+            at,
+            length: 0,
+        },
+    }
+}
+
+// A block inserted into a sheet before a record, or at its end; and the item at a record removed. The answer's length is the new used length.
+#[no_mangle]
+pub extern "C" fn zv_insert(buffer: &mut [u8], used: usize, place: usize, block: &[u8]) -> ZvLength
+    ensures { λ r. ⌜ record { result = r; bytes = now (buffer .exit) } ≡ editedOf (call (insert place (now (block .entry))) (record { bytes = now (buffer .entry); used = used })) ⌝ }
+{
+    edited(edit::insert(buffer, used, place, block))
+}
+
+#[no_mangle]
+pub extern "C" fn zv_remove(buffer: &mut [u8], used: usize, place: usize) -> ZvLength
+    ensures { λ r. ⌜ record { result = r; bytes = now (buffer .exit) } ≡ editedOf (call (remove place) (record { bytes = now (buffer .entry); used = used })) ⌝ }
+{
+    edited(edit::remove(buffer, used, place))
+}
+
+// The line that the program prints on an input, put at the start of a buffer: the answer's length is the line's, its end included. 65 bytes always hold it.
+#[no_mangle]
+pub extern "C" fn zv_report(input: &[u8], out: &mut [u8]) -> ZvLength
+    ensures { λ r. ⌜ record { result = r; bytes = now (out .exit) } ≡ wroteOf (reportTo (now (input .entry)) (now (out .entry))) ⌝ }
+{
+    length(report::report(input, out))
+}
