@@ -19,7 +19,7 @@ use Rattle.format.proofs.ColumnFits.{fits-plus, fits-minus}
 use Rattle.format.proofs.ColumnRoundTrip.{reads-back}
 use Rattle.columns.specs.declared.State.{State}
 use Rattle.columns.specs.declared.State.the-variants.{Blank, Signed, Digits, Bad}
-use Rattle.columns.specs.ReadSteps.{finishOf, numberIn, run}
+use Rattle.columns.specs.ReadSteps.{finishOf, numberKept, run}
 use Rattle.columns.specs.InRecord.{columnAt, Rewritten, writeAt}
 use Rattle.columns.proofs.Reading.{run-small, signed-run, means}
 
@@ -30,7 +30,7 @@ size-minus zero = refl
 size-minus (suc n) = refl
 
 -- the number that the pass keeps is the size of the value
-size-kept : (s : State) (z : ℤ) → finishOf s ≡ Value z → natAbs z ≡ numberIn s
+size-kept : (s : State) (z : ℤ) → finishOf s ≡ Value z → natAbs z ≡ numberKept s
 size-kept Blank z e = let x : _≡_ {A = ℕ} 0 1 = cc in absurd (omega arith)
 size-kept Signed z e = let x : _≡_ {A = ℕ} 0 1 = cc in absurd (omega arith)
 size-kept (Digits false n) z e = let x : pos n ≡ z = cc in ap natAbs (sym x)
@@ -41,7 +41,7 @@ size-kept (Digits true n) z e = at-test (eqb n 0) e
     at-test false e = let x : negℤ (pos n) ≡ z = cc in ap natAbs (sym x) ∙ size-minus n
 size-kept Bad z e = let x : _≡_ {A = ℕ} 0 1 = cc in absurd (omega arith)
 
-pass-below : (s : State) (l : List ℕ) (z : ℤ) → numberIn s < 10 ^ 0 → finishOf (run s l) ≡ Value z → natAbs z < 10 ^ length l
+pass-below : (s : State) (l : List ℕ) (z : ℤ) → numberKept s < 10 ^ 0 → finishOf (run s l) ≡ Value z → natAbs z < 10 ^ length l
 pass-below s l z h e =
     let k : 0 + length l ≡ length l = omega arith in
     rw (size-kept (run s l) z e) (rw k at (run-small l s 0 h))

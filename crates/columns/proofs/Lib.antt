@@ -6,3 +6,4 @@ pub mod Choosing
 pub mod Laws
 pub mod Alone
 pub mod InRecord
+pub mod NumberIn

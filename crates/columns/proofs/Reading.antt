@@ -20,7 +20,7 @@ use Rattle.columns.specs.declared.Kind.{Kind}
 use Rattle.columns.specs.declared.Kind.the-variants.{Space, Minus, Digit, Other}
 use Rattle.columns.specs.declared.State.{State}
 use Rattle.columns.specs.declared.State.the-variants.{Blank, Signed, Digits, Bad}
-use Rattle.columns.specs.ReadSteps.{kindOf, stepKind, stepOf, finishNumber, finishOf, numberIn, run}
+use Rattle.columns.specs.ReadSteps.{kindOf, stepKind, stepOf, finishNumber, finishOf, numberKept, run}
 
 -- ---- after digits, after a minus, after spaces
 
@@ -90,7 +90,7 @@ digit-small b (v-minus e) = rw e (omega arith)
 digit-small b (v-digit p q r) = simp (p, q, r) (omega (arith, leb-true b 57 (and-true (leb 48 b) (leb b 57) r .1)))
 digit-small b (v-other p q r) = simp (p, q, r) (omega arith)
 
-step-small : (s : State) (k : Kind) → numberIn (stepKind s k) ≤ numberIn s * 10 + digitIn k
+step-small : (s : State) (k : Kind) → numberKept (stepKind s k) ≤ numberKept s * 10 + digitIn k
 unfolding digitIn
 step-small Blank Space = omega arith
 step-small Blank Minus = omega arith
@@ -106,12 +106,12 @@ step-small (Digits m n) (Digit d) = omega arith
 step-small (Digits m n) Other = omega arith
 step-small Bad k = omega arith
 
-grows : (s : State) (b i : ℕ) → numberIn s < 10 ^ i → numberIn (stepOf s b) < 10 ^ (i + 1)
+grows : (s : State) (b i : ℕ) → numberKept s < 10 ^ i → numberKept (stepOf s b) < 10 ^ (i + 1)
 grows s b i h =
     rw (add-one, pow-suc) (omega (arith, step-small s (kindOf b), digit-small b (byte b)))
 
 -- all the bytes of a list
-pub run-small : (l : List ℕ) (s : State) (i : ℕ) → numberIn s < 10 ^ i → numberIn (run s l) < 10 ^ (i + length l)
+pub run-small : (l : List ℕ) (s : State) (i : ℕ) → numberKept s < 10 ^ i → numberKept (run s l) < 10 ^ (i + length l)
 unfolding run
 run-small [] s i h = rw add-zero h
 run-small (b ∷ bs) s i h = let e : i + suc (length bs) ≡ i + 1 + length bs = omega arith in rw e (run-small bs (stepOf s b) (i + 1) (grows s b i h))
@@ -124,10 +124,10 @@ again s s′ l i e h r =
     let more : run s (drop i l) ≡ run (stepOf s (getD l i 0)) (drop (i + 1) l) = rw (add-one, drop-cons l i 0) in
     rw e (sym more ∙ r)
 
-pub grown : (s s′ : State) (b i : ℕ) → s′ ≡ stepOf s b → numberIn s < 10 ^ i → numberIn s′ < 10 ^ (i + 1)
+pub grown : (s s′ : State) (b i : ℕ) → s′ ≡ stepOf s b → numberKept s < 10 ^ i → numberKept s′ < 10 ^ (i + 1)
 grown s s′ b i e h = rw e (grows s b i h)
 
-pub small : (s : State) (l : List ℕ) (i : ℕ) → numberIn s < 10 ^ i → i ≤ length l → length l ≤ 18 → numberIn s < 10 ^ 18
+pub small : (s : State) (l : List ℕ) (i : ℕ) → numberKept s < 10 ^ i → i ≤ length l → length l ≤ 18 → numberKept s < 10 ^ 18
 small s l i h k m = omega (arith, pow-le-pow-right {n = 10} (lit< tt) {i = i} {j = 18} (omega arith))
 
 pub read-all : (s : State) (l : List ℕ) (i : ℕ) (r : Column) → r ≡ finishOf s → length l ≤ i → run s (drop i l) ≡ run Blank l → r ≡ columnOf l

@@ -15,7 +15,7 @@ use Rattle.format.specs.declared.Column.the-variants.{Value}
 use Rattle.columns.specs.declared.Kind.{Kind}
 use Rattle.columns.specs.declared.State.{State}
 use Rattle.columns.specs.declared.State.the-variants.{Digits}
-use Rattle.columns.specs.ReadSteps.{stepKind, finishOf, numberIn}
+use Rattle.columns.specs.ReadSteps.{stepKind, finishOf, numberKept}
 use Rattle.columns.specs.declared.Rest.{Rest}
 use Rattle.columns.specs.declared.Rest.the-variants.{Minus, Spaces}
 use Rattle.columns.specs.declared.Rest.the-variants as Rest
@@ -28,7 +28,7 @@ use Rattle.columns.proofs.Numbers.{minus-fits, minus-back}
 pub stepped : {s s′ r : State} {k k′ k″ : Kind} → s ≡ s′ → k ≡ k″ → k ≡ k′ → stepKind s′ k′ ≡ r → r ≡ stepKind s k″
 stepped e f g h = sym h ∙ ap₂ stepKind (sym e) (sym g ∙ f)
 
-module _ {s : State} {m : Bool} {n : ℕ} (e : s ≡ Digits m n) (h : numberIn s < 10 ^ 18) where
+module _ {s : State} {m : Bool} {n : ℕ} (e : s ≡ Digits m n) (h : numberKept s < 10 ^ 18) where
   kept : n < 10 ^ 18
   kept = rw e at h
 

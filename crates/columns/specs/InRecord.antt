@@ -7,7 +7,7 @@ use lib.IntN.{ℤ}
 use lib.ListN.{length}
 use Rattle.format.specs.declared.Column.{Column}
 use Rattle.format.specs.declared.Column.the-variants.{Malformed}
-use Rattle.format.specs.Column.{columnOf, fits, written, widthOk}
+use Rattle.format.specs.Column.{columnOf, numberOf, fits, written, widthOk}
 use Rattle.format.specs.Layout.{column, splice}
 
 -- what the column of `width` bytes from `start` of a record r says. No column is wider than 18; one wider, or not whole inside the
@@ -15,6 +15,10 @@ use Rattle.format.specs.Layout.{column, splice}
 unfoldable pub columnAt : List ℕ → ℕ → ℕ → Column
 columnAt r start width =
     cond (leb width 18 && leb (start + width) (length r)) (columnOf (column start width r)) Malformed
+
+-- its number, if it is one of at least 0; else 0
+unfoldable pub numberIn : List ℕ → (start width : ℕ) → ℕ
+numberIn r start width = numberOf (columnAt r start width)
 
 -- whether the number was written, and all bytes of the record afterwards
 pub record Rewritten : Type 0 where

@@ -51,8 +51,8 @@ finishOf (Digits m n) = finishNumber m n
 finishOf Bad = Malformed
 
 -- the number that is kept
-abbrev pub numberIn : State → ℕ
-numberIn Blank = 0
-numberIn Signed = 0
-numberIn (Digits m n) = n
-numberIn Bad = 0
+abbrev pub numberKept : State → ℕ
+numberKept Blank = 0
+numberKept Signed = 0
+numberKept (Digits m n) = n
+numberKept Bad = 0

@@ -4,10 +4,10 @@ ghost use mathlib.Core.Path.{_≡_};
 ghost use Prim.Native.Nat.{_≤_, _<_, _^_};
 ghost use lib.ListN.{length};
 ghost use lib.IntN.{natAbs};
-ghost use Rattle.format.specs.Column.{columnOf, readAlone, writeAlone};
+ghost use Rattle.format.specs.Column.{columnOf, integer, readAlone, writeAlone};
 ghost use Rattle.format.specs.Answers.{numberAnswer, writtenAnswer};
-ghost use Rattle.columns.specs.InRecord.{columnAt, writeAt};
-ghost use Rattle.columns.specs.ReadSteps.{kindOf, stepOf, finishOf, numberIn};
+ghost use Rattle.columns.specs.InRecord.{columnAt, numberIn, writeAt};
+ghost use Rattle.columns.specs.ReadSteps.{kindOf, stepOf, finishOf, numberKept};
 ghost use Rattle.columns.specs.WriteSteps.{byteOf, beforeOf, filled, choiceOf};
 use format::Column;
 use format::Number;
@@ -56,7 +56,7 @@ fn kind_of(b: u8) -> Kind
 
 // One byte more.
 fn step(s: State, b: u8) -> State
-    requires { ⌜ numberIn s < 10 ^ 18 ⌝ }
+    requires { ⌜ numberKept s < 10 ^ 18 ⌝ }
     ensures { λ r. ⌜ r ≡ stepOf s b ⌝ }
 {
     let k = kind_of(b);
@@ -85,7 +85,7 @@ fn step(s: State, b: u8) -> State
 
 // What the column says after its last byte.
 fn finish(s: State) -> Column
-    requires { ⌜ numberIn s < 10 ^ 18 ⌝ }
+    requires { ⌜ numberKept s < 10 ^ 18 ⌝ }
     ensures { λ r. ⌜ r ≡ finishOf s ⌝ }
 {
     match s {
@@ -154,6 +154,27 @@ pub fn column_at(record: &[u8], start: usize, width: usize) -> Column
         return Column::Malformed;
     }
     scan(&record[start..start + width])
+}
+
+// Its number; 0 where it has none.
+pub fn integer_at(record: &[u8], start: usize, width: usize) -> i64
+    ensures { λ r. ⌜ r ≡ integer (columnAt (now («record» .entry)) start width) ⌝ }
+{
+    let Column::Value(z) = column_at(record, start, width) else {
+        return 0;
+    };
+    z
+}
+
+// The same of at least 0; 0 for a negative one.
+pub fn number_at(record: &[u8], start: usize, width: usize) -> usize
+    ensures { λ r. ⌜ r ≡ numberIn (now («record» .entry)) start width ⌝ }
+{
+    let z = integer_at(record, start, width);
+    if z < 0 {
+        return 0;
+    }
+    z as usize
 }
 
 // ---- writing

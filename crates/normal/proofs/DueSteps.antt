@@ -12,7 +12,7 @@ use Rattle.format.specs.Normal.{normalRecord}
 use Rattle.records.specs.declared.Held.{Held}
 use Rattle.records.specs.declared.items.Entry as Declared
 use Rattle.records.specs.Entry.{toData, entryOf}
-use Rattle.records.specs.Steps.{numberIn}
+use Rattle.columns.specs.InRecord.{numberIn}
 use Rattle.records.proofs.Numbers.{stated}
 use Rattle.layouts.specs.Tables.{integers}
 use Rattle.normal.specs.declared.due.Due.{Due}

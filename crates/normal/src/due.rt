@@ -1,9 +1,7 @@
 // Which record is due: the records of a file follow each other from the front, and each is read by its own layout.
 ghost use mathlib.Core.Path.{_≡_};
 ghost use lib.ListN.{length};
-ghost use Rattle.records.specs.Steps.{numberIn};
 ghost use Rattle.normal.specs.Due.{dueSets, dueFs, dueData, dueBs, dueCs, behindEntry, dueAfter};
-use super::rewriting;
 use layouts::IndexA;
 use layouts::SheetA;
 use layouts::SheetD;
@@ -25,17 +23,6 @@ pub(crate) enum Due {
     IndexB(usize, usize),
     IndexC(usize),
     Nothing,
-}
-
-// The number of a column, 0 where it has none of at least 0.
-fn number(record: &[u8], start: usize, width: usize) -> usize
-    ensures { λ r. ⌜ r ≡ numberIn (now («record» .entry)) start width ⌝ }
-{
-    let z = rewriting::integer(record, start, width);
-    if z < 0 {
-        return 0;
-    }
-    z as usize
 }
 
 // `sets` more sets of d, e and f records.
@@ -106,7 +93,7 @@ pub(crate) fn due_after(due: Due, record: &[u8]) -> Due
     ensures { λ r. ⌜ r ≡ dueAfter due (now («record» .entry)) ⌝ }
 {
     match due {
-        Due::SheetA => Due::SheetB(number(
+        Due::SheetA => Due::SheetB(columns::number_at(
             record,
             SheetA::REVISIONS_START,
             SheetA::REVISIONS_WIDTH,
@@ -114,7 +101,7 @@ pub(crate) fn due_after(due: Due, record: &[u8]) -> Due
         Due::SheetB(sets) => Due::SheetC(sets),
         Due::SheetC(sets) => Due::SheetD(sets),
         Due::SheetD(sets) => Due::SheetE(
-            number(record, SheetD::F_RECORDS_START, SheetD::F_RECORDS_WIDTH),
+            columns::number_at(record, SheetD::F_RECORDS_START, SheetD::F_RECORDS_WIDTH),
             sets,
         ),
         Due::SheetE(f_records, sets) => due_f(f_records, sets),
@@ -122,8 +109,8 @@ pub(crate) fn due_after(due: Due, record: &[u8]) -> Due
         Due::Entry => behind_entry(record),
         Due::Data(held, behind) => due_data(held, behind),
         Due::IndexA => due_b(
-            number(record, IndexA::B_RECORDS_START, IndexA::B_RECORDS_WIDTH),
-            number(record, IndexA::C_RECORDS_START, IndexA::C_RECORDS_WIDTH),
+            columns::number_at(record, IndexA::B_RECORDS_START, IndexA::B_RECORDS_WIDTH),
+            columns::number_at(record, IndexA::C_RECORDS_START, IndexA::C_RECORDS_WIDTH),
         ),
         Due::IndexB(b_records, c_records) => due_b(b_records, c_records),
         Due::IndexC(c_records) => due_c(c_records),

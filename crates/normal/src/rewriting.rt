@@ -1,28 +1,15 @@
 // Integer columns of a record, read and written again in written form.
 ghost use mathlib.Core.Path.{_≡_};
 ghost use lib.ListN.{length};
-ghost use Rattle.format.specs.Column.{integer};
 ghost use Rattle.format.specs.Layout.{spaces};
-ghost use Rattle.columns.specs.InRecord.{columnAt};
 ghost use Rattle.normal.specs.Rewriting.{rewrittenAt, rewrittenAll, valueRewritten};
-use format::Column;
 use layouts::Element;
-
-// The integer of a column, 0 where it has none.
-pub(crate) fn integer(record: &[u8], start: usize, width: usize) -> i64
-    ensures { λ r. ⌜ r ≡ integer (columnAt (now («record» .entry)) start width) ⌝ }
-{
-    let Column::Value(z) = columns::column_at(record, start, width) else {
-        return 0;
-    };
-    z
-}
 
 // One column, in written form.
 pub(crate) fn rewrite(record: &mut [u8], start: usize, width: usize)
     ensures { λ r. ⌜ now («record» .exit) ≡ rewrittenAt (now («record» .entry)) start width ⌝ }
 {
-    let z = integer(record, start, width);
+    let z = columns::integer_at(record, start, width);
     columns::write_at(record, start, width, z);
 }
 

@@ -14,9 +14,10 @@ use mir.Val.{Fits}
 use Rattle.format.specs.Layout.{natural, I, find, numberAt, header}
 use Rattle.format.specs.Record.{countName, countIn}
 use Rattle.format.specs.Judge.{sum, all}
+use Rattle.columns.specs.InRecord.{numberIn}
 use Rattle.records.specs.Entry.{statesCount, statesCounts}
-use Rattle.records.specs.Steps.{numberIn}
-use Rattle.records.proofs.Numbers.{stated, number-in-below}
+use Rattle.columns.proofs.NumberIn.{number-in-below}
+use Rattle.records.proofs.Numbers.{stated}
 
 -- ---- `stated_count`
 

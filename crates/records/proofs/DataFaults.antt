@@ -16,7 +16,7 @@ use Rattle.format.specs.Basics.{first, unless}
 use Rattle.format.specs.Column.{integer}
 use Rattle.format.specs.Layout.{find, numberAt, integerAt, allFormed, allInside, columnFault, dataNote, dataAttribute}
 use Rattle.format.specs.Record.{nothing, notes, dataColumns, directionOk, dataFault}
-use Rattle.columns.specs.InRecord.{columnAt}
+use Rattle.columns.specs.InRecord.{columnAt, numberIn}
 use Rattle.columns.proofs.Numbers.{back}
 use Rattle.form_columns.specs.Columns.{eachFormed, columnsFormed}
 use Rattle.form_columns.proofs.Records.{alone, columnFault-3D, columnFault-2D, columnFault-net, columnFault-grid}
@@ -25,7 +25,7 @@ use Rattle.layout_faults.proofs.Laws.{fault-in-record, integer-is}
 use Rattle.records.specs.declared.Held.{Held}
 use Rattle.records.specs.declared.Held.the-variants.{Nothing, Points3D, Points2D, Triangles, Heights, Notes, Attributes}
 use Rattle.records.specs.Entry.{toData, dataFaultOf}
-use Rattle.records.specs.Steps.{numberIn, columnsUsed, directionIn}
+use Rattle.records.specs.Steps.{columnsUsed, directionIn}
 use Rattle.records.proofs.Held.{the-type}
 use Rattle.records.proofs.Numbers.{stated}
 

@@ -16,14 +16,16 @@ use Rattle.format.specs.Record.{RecordType, H, E1, E2, E3, E4, E5, E6, E7, E8, 
 use Rattle.format.proofs.Basics.{and-true}
 use Rattle.layout_faults.specs.Faults.{faultIn}
 use Rattle.layout_faults.proofs.Laws.{fault-in-record, number-inside}
+use Rattle.columns.specs.InRecord.{numberIn}
 use Rattle.records.specs.declared.items.Entry.{Entry}
 use Rattle.records.specs.declared.Held.{Held}
 use Rattle.records.specs.declared.Held.the-variants.{Nothing, Triangles, Heights}
 use Rattle.records.specs.declared.TypeCode.{TypeCode}
 use Rattle.records.specs.declared.TypeCode.the-variants.{Header, Element, Grid, Net, Other}
 use Rattle.records.specs.Entry.{toHeld, viewFault, refusedEntry, entryIn, entryOf}
-use Rattle.records.specs.Steps.{numberIn, codeOf, elementType}
-use Rattle.records.proofs.Numbers.{stated, number-in-below}
+use Rattle.records.specs.Steps.{codeOf, elementType}
+use Rattle.columns.proofs.NumberIn.{number-in-below}
+use Rattle.records.proofs.Numbers.{stated}
 
 -- ---- the entry of a view, refused and not
 

@@ -16,11 +16,11 @@ use Rattle.format.specs.Column.{strip, isDigit, allDigits, valueOf, isNumber, n
 use Rattle.format.specs.Layout.{column, find, header, element, gridHeader, netHeader, dataNote}
 use Rattle.format.proofs.Basics.{and-true}
 use Rattle.format.proofs.Columns.{Byte, v-space, v-minus, v-digit, v-other, byte}
-use Rattle.columns.specs.InRecord.{columnAt}
+use Rattle.columns.specs.InRecord.{columnAt, numberIn}
 use Rattle.columns.proofs.Laws.{column-at-inside}
 use Rattle.layout_faults.specs.Faults.{faultIn}
 use Rattle.layout_faults.proofs.Laws.{number-at}
-use Rattle.records.specs.Steps.{numberIn, Natural}
+use Rattle.records.specs.Steps.{Natural}
 
 -- ---- the lower halves of bytes, after n
 

@@ -8,11 +8,12 @@ use lib.Dec.{eqb}
 use lib.ListN.{length}
 use Rattle.format.specs.Layout.{find, header, element, gridHeader, netHeader}
 use Rattle.format.specs.Record.{RecordType, H, E1, E2, E3, E4, E5, E6, E7, E8, G, T, other, typeOf, isHead, countIndex, gridStates, View, headerView, elementView, gridView, netView, otherView, viewAs, view}
+use Rattle.columns.specs.InRecord.{numberIn}
 use Rattle.records.specs.declared.outlines.Outline.{Outline}
 use Rattle.records.specs.declared.TypeCode.{TypeCode}
 use Rattle.records.specs.declared.TypeCode.the-variants.{Header, Element, Grid, Net, Other}
 use Rattle.records.specs.Outline.{outlineIn, noOutline, outlineOf}
-use Rattle.records.specs.Steps.{numberIn, codeOf, elementType}
+use Rattle.records.specs.Steps.{codeOf, elementType}
 use Rattle.records.proofs.Numbers.{stated}
 use Rattle.records.proofs.Entries.{element-facts}
 use Rattle.records.proofs.Laws.{head-index, view-data-records-most}

@@ -19,9 +19,8 @@ use Rattle.format.specs.Column.{strip, isDigit, allDigits, valueOf, isNumber, p
 use Rattle.format.specs.Layout.{column}
 use Rattle.format.proofs.Basics.{and-true}
 use Rattle.format.proofs.Columns.{Byte, v-space, v-minus, v-digit, v-other, byte, length-column}
-use Rattle.columns.specs.InRecord.{columnAt}
+use Rattle.columns.specs.InRecord.{columnAt, numberIn}
 use Rattle.columns.proofs.Laws.{column-at-inside}
-use Rattle.records.specs.Steps.{numberIn}
 
 -- what a column says of whose bytes so far all were spaces, or spaces and digits of the number n, by the bytes that are left
 abbrev saysAfter : (blank : Bool) → (n : ℕ) → List ℕ → Column

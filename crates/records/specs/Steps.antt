@@ -10,17 +10,12 @@ use lib.Signed.{leZ}
 use lib.ListN.{getD}
 use Rattle.format.specs.declared.Column.the-variants.{Value}
 use Rattle.format.specs.Basics.{minus}
-use Rattle.format.specs.Column.{numberOf}
 use Rattle.format.specs.Record.{RecordType, H, E1, E2, E3, E4, E5, E6, E7, E8, G, T, other, usedIn}
-use Rattle.columns.specs.InRecord.{columnAt}
+use Rattle.columns.specs.InRecord.{columnAt, numberIn}
 use Rattle.records.specs.declared.Held.{Held}
 use Rattle.records.specs.declared.Held.the-variants.{Nothing, Points3D, Points2D, Triangles, Heights, Notes, Attributes}
 use Rattle.records.specs.declared.TypeCode.{TypeCode}
 use Rattle.records.specs.declared.TypeCode.the-variants.{Header, Element, Grid, Net, Other}
-
--- the number of a column of a record, 0 where it has none of at least 0
-unfoldable pub numberIn : List ℕ → (start width : ℕ) → ℕ
-numberIn l start width = numberOf (columnAt l start width)
 
 -- a column that has a number of at least 0
 abbrev pub Natural : List ℕ → (start width : ℕ) → Type 0

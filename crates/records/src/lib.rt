@@ -153,7 +153,11 @@ fn note_fault(record: &[u8]) -> u8
         DataNote::WRITING_DIRECTION_START,
         DataNote::WRITING_DIRECTION_WIDTH,
     );
-    let direction = reading::integer(record, DataNote::DIRECTION_START, DataNote::DIRECTION_WIDTH);
+    let direction = columns::integer_at(
+        record,
+        DataNote::DIRECTION_START,
+        DataNote::DIRECTION_WIDTH,
+    );
     if data::is_direction(writing, direction) {
         0
     } else {

@@ -2,31 +2,8 @@
 ghost use mathlib.Core.Path.{_≡_};
 ghost use Prim.Native.Nat.{_+_, _≤_};
 ghost use lib.ListN.{length};
-ghost use Rattle.format.specs.Column.{integer};
-ghost use Rattle.columns.specs.InRecord.{columnAt};
-ghost use Rattle.records.specs.Steps.{numberIn, Natural};
-use format::Column;
-
-// The integer of a column, 0 where it has none.
-pub(crate) fn integer(record: &[u8], start: usize, width: usize) -> i64
-    ensures { λ r. ⌜ r ≡ integer (columnAt (now («record» .entry)) start width) ⌝ }
-{
-    let Column::Value(z) = columns::column_at(record, start, width) else {
-        return 0;
-    };
-    z
-}
-
-// The same of at least 0; a negative one counts as 0.
-pub(crate) fn number(record: &[u8], start: usize, width: usize) -> usize
-    ensures { λ r. ⌜ r ≡ numberIn (now («record» .entry)) start width ⌝ }
-{
-    let z = integer(record, start, width);
-    if z < 0 {
-        return 0;
-    }
-    z as usize
-}
+ghost use Rattle.columns.specs.InRecord.{numberIn};
+ghost use Rattle.records.specs.Steps.{Natural};
 
 // The number of a column that is known to have one of at least 0, as those of a record without fault: a byte's lower half is the number of a digit,
 // and 0 for a space.
@@ -44,7 +21,7 @@ pub(crate) fn natural(record: &[u8], start: usize, width: usize) -> usize
 }
 
 // The number of a column: of spaces, then digits, in one pass with no branch, in which a byte's lower half is a digit's number, and 0 for a
-// space; of other bytes by `number`.
+// space; of other bytes by `columns::number_at`.
 pub(crate) fn plain_number(record: &[u8], start: usize, width: usize) -> usize
     requires { ⌜ (length (now «record») ≡ 84) × (start + width ≤ 84) × (width ≤ 7) ⌝ }
     ensures { λ r. ⌜ r ≡ numberIn (now («record» .entry)) start width ⌝ }
@@ -65,5 +42,5 @@ pub(crate) fn plain_number(record: &[u8], start: usize, width: usize) -> usize
     if plain & !blank {
         return n;
     }
-    number(record, start, width)
+    columns::number_at(record, start, width)
 }

@@ -5,13 +5,13 @@ use Prim.Native.Nat.{_-_, _^_, _≤_, _<_}
 use borrow.Author.Needs.{needs}
 use lib.ListN.{length, drop}
 use Rattle.columns.specs.declared.State.the-variants.{Blank}
-use Rattle.columns.specs.ReadSteps.{numberIn, run}
+use Rattle.columns.specs.ReadSteps.{numberKept, run}
 use Rattle.columns.proofs.Reading.{again, grown, small, read-all}
 use Rattle.columns.proofs.scan.Statement.{statement}
 use Rattle.columns.proofs.scan.Tie as tie
 
 abbrev Inv-loop : tie.InvT-loop
-Inv-loop part s₀ i₀ s i = (i ≤ length part) × (numberIn s < 10 ^ i) × (run s (drop i part) ≡ run Blank part)
+Inv-loop part s₀ i₀ s i = (i ≤ length part) × (numberKept s < 10 ^ i) × (run s (drop i part) ≡ run Blank part)
 
 abbrev μ-loop : tie.MeasureT-loop
 μ-loop part s₀ i₀ s i = length part - i

@@ -14,8 +14,8 @@ returns c = search note-refused
 natural-requires : tie.Need-natural-requires
 natural-requires c κs = search (needs, note-writing)
 
-integer-requires : tie.Need-integer-requires
-integer-requires c κs = search needs
+integer-at-requires : tie.Need-integer-at-requires
+integer-at-requires c κs = search needs
 
 is-direction-requires : tie.Need-is-direction-requires
 is-direction-requires c κs = search needs
@@ -33,7 +33,7 @@ note-fault-spec =
     data-note-fault-requires
     returns
     natural-requires
-    integer-requires
+    integer-at-requires
     is-direction-requires
     returns-2
     returns-3)

@@ -7,8 +7,8 @@ use Rattle.normal.proofs.due.due_after.Tie as tie
 enum-told : tie.Need-enum-told
 enum-told c = search needs
 
-number-requires : tie.Need-number-requires
-number-requires c κs = search needs
+number-at-requires : tie.Need-number-at-requires
+number-at-requires c κs = search needs
 
 enum-known-due : tie.Need-enum-known-due
 enum-known-due c = search needs
@@ -19,8 +19,8 @@ enum-known-due-2 c = search needs
 enum-known-due-3 : tie.Need-enum-known-due-3
 enum-known-due-3 c = search needs
 
-number-requires-2 : tie.Need-number-requires-2
-number-requires-2 c κs = search needs
+number-at-requires-2 : tie.Need-number-at-requires-2
+number-at-requires-2 c κs = search needs
 
 enum-known-due-4 : tie.Need-enum-known-due-4
 enum-known-due-4 c = search needs
@@ -49,11 +49,11 @@ due-data-requires c κs = search needs
 enum-told-3 : tie.Need-enum-told-3
 enum-told-3 c = search needs
 
-number-requires-3 : tie.Need-number-requires-3
-number-requires-3 c κs = search needs
+number-at-requires-3 : tie.Need-number-at-requires-3
+number-at-requires-3 c κs = search needs
 
-number-requires-4 : tie.Need-number-requires-4
-number-requires-4 c κs = search needs
+number-at-requires-4 : tie.Need-number-at-requires-4
+number-at-requires-4 c κs = search needs
 
 due-b-requires : tie.Need-due-b-requires
 due-b-requires c κs = search needs
@@ -114,11 +114,11 @@ due-after-spec =
     tie.close
     (tie.spec
     enum-told
-    number-requires
+    number-at-requires
     enum-known-due
     enum-known-due-2
     enum-known-due-3
-    number-requires-2
+    number-at-requires-2
     enum-known-due-4
     due-f-requires
     enum-known-due-5
@@ -128,8 +128,8 @@ due-after-spec =
     enum-known-due-6
     due-data-requires
     enum-told-3
-    number-requires-3
-    number-requires-4
+    number-at-requires-3
+    number-at-requires-4
     due-b-requires
     enum-known-due-7
     due-b-requires-2

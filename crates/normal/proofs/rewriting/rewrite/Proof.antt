@@ -4,8 +4,8 @@ use borrow.Author.Needs.{needs}
 use Rattle.normal.proofs.rewriting.rewrite.Statement.{statement}
 use Rattle.normal.proofs.rewriting.rewrite.Tie as tie
 
-integer-requires : tie.Need-integer-requires
-integer-requires c κs = search needs
+integer-at-requires : tie.Need-integer-at-requires
+integer-at-requires c κs = search needs
 
 write-at-requires : tie.Need-write-at-requires
 write-at-requires c κs = search needs
@@ -17,4 +17,4 @@ returns : tie.Need-returns
 returns c = search rewritten-once
 
 pub rewrite-spec : {M : Type 1} → statement M
-rewrite-spec = tie.close (tie.spec integer-requires write-at-requires same-length returns)
+rewrite-spec = tie.close (tie.spec integer-at-requires write-at-requires same-length returns)

@@ -41,8 +41,8 @@ loop-again c = search kept-more
 returns : tie.Need-returns Inv-loop μ-loop
 returns c = search plainly
 
-number-requires : tie.Need-number-requires Inv-loop μ-loop
-number-requires c κs = search needs
+number-at-requires : tie.Need-number-at-requires Inv-loop μ-loop
+number-at-requires c κs = search needs
 
 returns-2 : tie.Need-returns-2 Inv-loop μ-loop
 returns-2 c = search needs
@@ -63,5 +63,5 @@ plain-number-spec =
     loop-less
     loop-again
     returns
-    number-requires
+    number-at-requires
     returns-2)

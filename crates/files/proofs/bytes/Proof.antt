@@ -1,0 +1,20 @@
+-- `bytes` is the stride. Assumes nothing.
+use Rattle.files.proofs.Records.{stride-plain, stride-lines}
+use borrow.Author.Needs.{needs}
+use Rattle.files.proofs.bytes.Statement.{statement}
+use Rattle.files.proofs.bytes.Tie as tie
+
+enum-told : tie.Need-enum-told
+enum-told c = search needs
+
+enum-told-2 : tie.Need-enum-told-2
+enum-told-2 c = search needs
+
+returns : tie.Need-returns
+returns c = search stride-plain
+
+returns-2 : tie.Need-returns-2
+returns-2 c = search stride-lines
+
+pub bytes-spec : {M : Type 1} → statement M
+bytes-spec = tie.close (tie.spec enum-told enum-told-2 returns returns-2)
