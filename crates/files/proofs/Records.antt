@@ -1,11 +1,11 @@
 -- The records of a file: how many, how wide, where each stands, and that a file in the front of a buffer has the buffer's. Assumes nothing.
 use mathlib.Core.Path.{_≡_, refl, ap, sym, _∙_}
-use mathlib.Core.List.{List, [], _∷_}
+use mathlib.Core.List.{List, [], _∷_, _++_}
 use Prim.Native.Nat.{ℕ, zero, suc, _+_, _-_, _*_, _/_, _≤_, _<_}
 use native.Mathlib.Nat.{add-sub-cancel-left, mul-suc, mul-zero, add-comm}
 use native.Mathlib.Omega.{arith}
-use lib.ListN.{length, take, drop, getD, length-drop, List·getD-eq-default}
-use lib.Seq.{drop-drop, length-take-le}
+use lib.ListN.{length, take, drop, getD, length-drop, take-append-drop, List·getD-eq-default}
+use lib.Seq.{drop-drop, length-take-le, take-append-le, drop-append-le}
 use Rattle.format.specs.Basics.{chunks}
 use Rattle.format.proofs.Lists.{Wide}
 use Rattle.files.specs.declared.Stride.{Stride}
@@ -88,3 +88,16 @@ wide-each (r ∷ rs) each = (each 0 (omega arith), wide-each rs (λ k h. each (s
 
 pub wide-records : (stride : Stride) (file : List ℕ) → Wide (recordsOf stride file)
 wide-records stride file = wide-each (recordsOf stride file) (λ k h. record-wide stride file k h)
+
+-- ---- the file in the front of a buffer
+chunks-front : (n : ℕ) (front rest : List ℕ) → 84 * n ≤ length front → chunks n front ≡ chunks n (front ++ rest)
+chunks-front zero front rest h = refl
+chunks-front (suc n) front rest h =
+    let long : 84 ≤ length front = omega arith in
+    rw (take-append-le 84 front rest long, drop-append-le 84 front rest long) (ap (λ (rs : List (List ℕ)). take 84 front ∷ rs) (chunks-front n (drop 84 front) rest (rw (length-drop 84 front) (omega arith))))
+
+pub front-records : (used : ℕ) (buffer : List ℕ) → used ≤ length buffer → recordsOf Plain (take used buffer) ≡ chunks (used / 84) buffer
+front-records used buffer h = plain-records (take used buffer) ∙ ap (λ (n : ℕ). chunks (n / 84) (take used buffer)) long ∙ chunks-front (used / 84) (take used buffer) (drop used buffer) (rw long (omega arith)) ∙ ap (chunks (used / 84)) (take-append-drop used buffer)
+  where
+    long : length (take used buffer) ≡ used
+    long = length-take-le used buffer h
