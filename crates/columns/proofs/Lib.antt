@@ -7,3 +7,4 @@ pub mod Laws
 pub mod Alone
 pub mod InRecord
 pub mod NumberIn
+pub mod Spaces

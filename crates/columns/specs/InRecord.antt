@@ -1,4 +1,4 @@
--- A column inside a record: what it says, and the record with a number written into it. Assumes nothing.
+-- A column inside a record: what it says, whether it is blank, and the record with a number written into it. Assumes nothing.
 use mathlib.Core.Bool.{Bool, true, false, cond, _&&_}
 use mathlib.Core.List.{List}
 use Prim.Native.Nat.{ℕ, _+_}
@@ -8,7 +8,7 @@ use lib.ListN.{length}
 use Rattle.format.specs.declared.Column.{Column}
 use Rattle.format.specs.declared.Column.the-variants.{Malformed}
 use Rattle.format.specs.Column.{columnOf, numberOf, fits, written, widthOk}
-use Rattle.format.specs.Layout.{column, splice}
+use Rattle.format.specs.Layout.{column, splice, spaces}
 
 -- what the column of `width` bytes from `start` of a record r says. No column is wider than 18; one wider, or not whole inside the
 -- record, is malformed
@@ -19,6 +19,10 @@ columnAt r start width =
 -- its number, if it is one of at least 0; else 0
 unfoldable pub numberIn : List ℕ → (start width : ℕ) → ℕ
 numberIn r start width = numberOf (columnAt r start width)
+
+-- that column is of spaces alone, of any width; not so where it is not whole inside the record
+unfoldable pub spacesAt : List ℕ → ℕ → ℕ → Bool
+spacesAt r start width = leb (start + width) (length r) && spaces (column start width r)
 
 -- whether the number was written, and all bytes of the record afterwards
 pub record Rewritten : Type 0 where

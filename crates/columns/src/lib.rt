@@ -5,8 +5,9 @@ ghost use Prim.Native.Nat.{_≤_, _<_, _^_};
 ghost use lib.ListN.{length};
 ghost use lib.IntN.{natAbs};
 ghost use Rattle.format.specs.Column.{columnOf, integer, readAlone, writeAlone};
+ghost use Rattle.format.specs.Layout.{spaces};
 ghost use Rattle.format.specs.Answers.{numberAnswer, writtenAnswer};
-ghost use Rattle.columns.specs.InRecord.{columnAt, numberIn, writeAt};
+ghost use Rattle.columns.specs.InRecord.{columnAt, numberIn, spacesAt, writeAt};
 ghost use Rattle.columns.specs.ReadSteps.{kindOf, stepOf, finishOf, numberKept};
 ghost use Rattle.columns.specs.WriteSteps.{byteOf, beforeOf, filled, choiceOf};
 use format::Column;
@@ -175,6 +176,32 @@ pub fn number_at(record: &[u8], start: usize, width: usize) -> usize
         return 0;
     }
     z as usize
+}
+
+// Spaces alone.
+pub fn all_spaces(bytes: &[u8]) -> bool
+    ensures { λ r. ⌜ r ≡ spaces (now (bytes .entry)) ⌝ }
+{
+    let mut blank = true;
+    let mut i = 0;
+    while i < bytes.len() {
+        blank = blank & (bytes[i] == b' ');
+        i += 1;
+    }
+    blank
+}
+
+// The `width` bytes from `start` are spaces alone: not so of bytes that are not whole inside the record.
+pub fn spaces_at(record: &[u8], start: usize, width: usize) -> bool
+    ensures { λ r. ⌜ r ≡ spacesAt (now («record» .entry)) start width ⌝ }
+{
+    if record.len() < start {
+        return false;
+    }
+    if record.len() - start < width {
+        return false;
+    }
+    all_spaces(&record[start..start + width])
 }
 
 // ---- writing
