@@ -23,8 +23,9 @@ use Rattle.format.specs.Index as Index
 use Rattle.format.specs.Judge.{openAfter, dueAfter, heldAfter, ownerAfter, faultAt, missing, walk, headersAndItems, headerCountFault, countFault, items, File, fileOf, sheetCountFault, bodyFault, Counts, verdict, judge, afterPart, judgeRecords, judgeIndexRecords, afterStageOne, judgeSheet, judgeIndex}
 use Rattle.format.specs.Above.{Way, noHeader, toHeader, aboveAt, headersMet, up}
 use Rattle.format.specs.Above as Above
-use Rattle.format.specs.Edit.{Edit, insert, remove, PlainStep, conclude, plain, RecordList, blockOf, insertFault, inserted, remove11, removed}
-use Rattle.format.specs.Run.{Buffer, Step, listOf, call}
+use Rattle.format.specs.Edit.{RecordList, blockOf, insertFault, inserted, remove11, removed}
+use Rattle.format.specs.Calls.{Edit, insert, remove, PlainStep, conclude, plain}
+use Rattle.format.specs.Run.{Buffer, listOf, call}
 use Rattle.format.specs.Run as Run
 use Rattle.format.specs.Normal.{normalTo, normalSheetRecords, normalIndexRecords, normalSheet, normalIndex}
 use Rattle.format.specs.Program.{printed, lineTo, reportTo}
@@ -178,8 +179,8 @@ concluded (suc n) old new = refuses
 
 plain-numbered : (edit : Edit) (list : RecordList) → Numbered ((plain edit list) .reply)
 unfolding plain
-plain-numbered (insert place block) list = concluded (insertFault (fileOf (list .records)) (list .tail) place (map view (blockOf block))) list (inserted list place (blockOf block))
-plain-numbered (remove place) list = concluded (remove11 (fileOf (list .records)) (list .tail) place) list (removed list place)
+plain-numbered (insert place block) list = concluded (insertFault (fileOf (list .records)) place (list .tail) (map view (blockOf block)) 200000) list (inserted list place (blockOf block))
+plain-numbered (remove place) list = concluded (remove11 (fileOf (list .records)) place) list (removed list place)
 
 call-judged : {a : Answer Counts} (s : PlainStep) (b : Buffer) → Numbered a → Numbered (s .reply) → Numbered ((Run.afterJudging a s b) .reply)
 call-judged s b answers q = q

@@ -7,7 +7,7 @@ ghost use Rattle.format.specs.Column.{readAlone, writeAlone};
 ghost use Rattle.format.specs.Corner.{join, split};
 ghost use Rattle.format.specs.Judge.{judgeSheet, judgeIndex};
 ghost use Rattle.format.specs.Above.{up};
-ghost use Rattle.format.specs.Edit.{insert, remove};
+ghost use Rattle.format.specs.Calls.{insert, remove};
 ghost use Rattle.format.specs.Run.{call};
 ghost use Rattle.format.specs.Normal.{normalSheet, normalIndex};
 ghost use Rattle.format.specs.Answers.{numberAnswer, writtenAnswer, partsAnswer, judgedAnswer, wayUpAnswer, editedAnswer};

@@ -12,7 +12,8 @@ use Rattle.format.specs.Basics.{refused, none, fault, chunks, flat}
 use Rattle.format.specs.Record.{Kind, head, item, neither, nothing, View, view}
 use Rattle.format.specs.Sheet.{partLength, sheetFault, statedElements, statedRecords}
 use Rattle.format.specs.Judge.{fileOf, items, headersAndItems, dueAfter, one-if-item, judgeSheet}
-use Rattle.format.specs.Edit.{Edit, insert, remove, RecordList, plain, conclude, insertFault, inserted, remove11, removed, blockOf, dueBehind, openBehind, before, after, bodyPlace}
+use Rattle.format.specs.Edit.{RecordList, insertFault, inserted, remove11, removed, blockOf, dueBehind, openBehind, before, after, bodyPlace}
+use Rattle.format.specs.Calls.{Edit, insert, remove, plain, conclude}
 use Rattle.format.specs.Run.{Buffer, bufferOf, listOf, call}
 use Rattle.format.proofs.Run.{Opened, accepted-opened, call-plain}
 use Rattle.format.proofs.EditInsert.{fine-none}
@@ -76,11 +77,11 @@ module _ (l : List ℕ) (used : ℕ) (a : Accepts l used) where
   concluded : (n : ℕ) (new : RecordList) → record { reply = (conclude (suc n) (listOf (record { bytes = l; used = used })) new) .reply; buffer = bufferOf ((conclude (suc n) (listOf (record { bytes = l; used = used })) new) .list) } ≡ refusedStep l used (suc n) 0
   concluded n new = ap (λ (b : Buffer). record { reply = refused (suc n) 0; buffer = b }) (opened .same)
 
-  pub insert-refused : (place n : ℕ) (block : List ℕ) → insertFault (fileOf (chunks (used / 84) l)) (drop used l) place (map view (blockOf block)) ≡ suc n → call (insert place block) (record { bytes = l; used = used }) ≡ refusedStep l used (suc n) 0
+  pub insert-refused : (place n : ℕ) (block : List ℕ) → insertFault (fileOf (chunks (used / 84) l)) place (drop used l) (map view (blockOf block)) 200000 ≡ suc n → call (insert place block) (record { bytes = l; used = used }) ≡ refusedStep l used (suc n) 0
   unfolding plain
   insert-refused place n block e = call-is (insert place block) ∙ rw e (concluded n (inserted (listOf (record { bytes = l; used = used })) place (blockOf block)))
 
-  pub remove-refused : (place n : ℕ) → remove11 (fileOf (chunks (used / 84) l)) (drop used l) place ≡ suc n → call (remove place) (record { bytes = l; used = used }) ≡ refusedStep l used (suc n) 0
+  pub remove-refused : (place n : ℕ) → remove11 (fileOf (chunks (used / 84) l)) place ≡ suc n → call (remove place) (record { bytes = l; used = used }) ≡ refusedStep l used (suc n) 0
   unfolding plain
   remove-refused place n e = call-is (remove place) ∙ rw e (concluded n (removed (listOf (record { bytes = l; used = used })) place))
 
@@ -140,8 +141,8 @@ module _ (l : List ℕ) (used : ℕ) (a : Accepts l used) where
 
   -- ---- a place
   module _ (place : ℕ) where
-    pub passed : Passes 0 0 nothing (before (fileOf (chunks (used / 84) l)) (drop used l) place)
-    passed = (passes-split 0 0 nothing (before (fileOf (chunks (used / 84) l)) (drop used l) place) (after (fileOf (chunks (used / 84) l)) (drop used l) place) (rw (take-append-drop (bodyPlace (fileOf (chunks (used / 84) l)) place) ((fileOf (chunks (used / 84) l)) .body)) (held .ok .walks .0))) .0
+    pub passed : Passes 0 0 nothing (before (fileOf (chunks (used / 84) l)) place)
+    passed = (passes-split 0 0 nothing (before (fileOf (chunks (used / 84) l)) place) (after (fileOf (chunks (used / 84) l)) place) (rw (take-append-drop (bodyPlace (fileOf (chunks (used / 84) l)) place) ((fileOf (chunks (used / 84) l)) .body)) (held .ok .walks .0))) .0
 
-    pub behind : Passes (openBehind 0 0 (before (fileOf (chunks (used / 84) l)) (drop used l) place)) (dueBehind 0 (before (fileOf (chunks (used / 84) l)) (drop used l) place)) (sort 0 nothing (before (fileOf (chunks (used / 84) l)) (drop used l) place)) (after (fileOf (chunks (used / 84) l)) (drop used l) place)
-    behind = (passes-split 0 0 nothing (before (fileOf (chunks (used / 84) l)) (drop used l) place) (after (fileOf (chunks (used / 84) l)) (drop used l) place) (rw (take-append-drop (bodyPlace (fileOf (chunks (used / 84) l)) place) ((fileOf (chunks (used / 84) l)) .body)) (held .ok .walks .0))) .1
+    pub behind : Passes (openBehind 0 0 (before (fileOf (chunks (used / 84) l)) place)) (dueBehind 0 (before (fileOf (chunks (used / 84) l)) place)) (sort 0 nothing (before (fileOf (chunks (used / 84) l)) place)) (after (fileOf (chunks (used / 84) l)) place)
+    behind = (passes-split 0 0 nothing (before (fileOf (chunks (used / 84) l)) place) (after (fileOf (chunks (used / 84) l)) place) (rw (take-append-drop (bodyPlace (fileOf (chunks (used / 84) l)) place) ((fileOf (chunks (used / 84) l)) .body)) (held .ok .walks .0))) .1

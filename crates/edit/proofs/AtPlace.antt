@@ -34,7 +34,7 @@ module _ (l : List ℕ) (used place : ℕ) (a : Accepts l used) where
   file = fileOf (chunks (used / 84) l)
 
   abbrev pre : List View
-  pre = before (fileOf (chunks (used / 84) l)) (drop used l) place
+  pre = before (fileOf (chunks (used / 84) l)) place
 
   abbrev q : ℕ
   q = bodyPlace (fileOf (chunks (used / 84) l)) place
@@ -74,7 +74,7 @@ module _ (l : List ℕ) (used place : ℕ) (a : Accepts l used) where
         g = good _ (sort 0 nothing pre) _ (p .0)
 
     -- 13: "below the level of the record now there"
-    pub not-below : (level : ℕ) → notBelow level (after file (drop used l) place) ≡ leb ((entryOf here-record) .level) level
+    pub not-below : (level : ℕ) → notBelow level (after file place) ≡ leb ((entryOf here-record) .level) level
     unfolding entryOf
     not-below level = go (ltb q (length (file .body))) refl
       where

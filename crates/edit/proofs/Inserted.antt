@@ -10,9 +10,9 @@ use Rattle.format.specs.Layout.{numberAt, header}
 use Rattle.format.specs.Record.{countIndex, countName, View, view, countIn, rewrite, raise}
 use Rattle.format.specs.Sheet.{partLength, statedElements, statedRecords, writeCounts}
 use Rattle.format.specs.Judge.{File, fileOf}
-use Rattle.format.specs.Edit.{insert, plain, insertFault, insert11, aboveBlock, inserted, blockOf, alterAt, absent, aboveIn, openBehind, before, bodyPlace}
+use Rattle.format.specs.Edit.{insertFault, aboveBlock, inserted, blockOf, alterAt, absent, aboveIn, openBehind, before, bodyPlace}
+use Rattle.format.specs.Calls.{insert, plain}
 use Rattle.format.specs.Run.{listOf, call}
-use Rattle.format.proofs.Basics.{first-zero}
 use Rattle.format.proofs.EditInsert.{fits, sp, above-is, above-counts, empty-refused}
 use Rattle.format.proofs.Lists.{Wide, block-wide, wide-append, wide-take, wide-drop, length-alterAt}
 use Rattle.format.proofs.EditMoves.{as-records}
@@ -34,17 +34,17 @@ module _ (l : List ℕ) (used place : ℕ) (a : Accepts l used) where
   tail = drop used l
 
   abbrev pre : List View
-  pre = before (fileOf (chunks (used / 84) l)) (drop used l) place
+  pre = before (fileOf (chunks (used / 84) l)) place
 
   abbrev q : ℕ
   q = bodyPlace (fileOf (chunks (used / 84) l)) place
 
   -- the header's own count is at most its total
-  pub count-of-total : (views : List View) → insertFault file tail place views ≡ 0 → (aboveBlock file tail place views) .count (countIndex ((getD views 0 absent) .kind)) ≤ (aboveBlock file tail place views) .total
+  pub count-of-total : (views : List View) → insertFault file place tail views 200000 ≡ 0 → (aboveBlock file place views) .count (countIndex ((getD views 0 absent) .kind)) ≤ (aboveBlock file place views) .total
   count-of-total [] e = absurd (empty-refused file tail place e)
-  count-of-total (b ∷ ds) e = rw (above-is (b .level) pre (sp file tail place b ds (held l used a .ok) (fits file tail place b ds e))) (above-counts file tail place b ds (held l used a .ok) (fits file tail place b ds e))
+  count-of-total (b ∷ ds) e = rw (above-is (b .level) pre (sp file place b ds (held l used a .ok) (fits file tail place b ds e))) (above-counts file place b ds (held l used a .ok) (fits file tail place b ds e))
 
-  module _ (block : List ℕ) (bytes-block : flat (blockOf block) ≡ block) (c : Change) (fault : insertFault file tail place (map view (blockOf block)) ≡ 0) (k : q ≤ length (file .body)) where
+  module _ (block : List ℕ) (bytes-block : flat (blockOf block) ≡ block) (c : Change) (fault : insertFault file place tail (map view (blockOf block)) 200000 ≡ 0) (k : q ≤ length (file .body)) where
     abbrev item : View
     item = getD (map view (blockOf block)) 0 absent
 

@@ -83,9 +83,9 @@ module _ (l : List ℕ) (used place : ℕ) (block : List ℕ) (a : Accepts l use
   views = map view (blockOf block)
 
   abbrev pre : List View
-  pre = before (fileOf (chunks (used / 84) l)) (drop used l) place
+  pre = before (fileOf (chunks (used / 84) l)) place
 
-  refusal : (n : ℕ) → insertFault file tail place views ≡ suc n → InsertionPlanned l used place block (Refuse (suc n) 0)
+  refusal : (n : ℕ) → insertFault file place tail views 200000 ≡ suc n → InsertionPlanned l used place block (Refuse (suc n) 0)
   unfolding InsertionPlanned
   refusal n e = insert-refused l used a place n block e
 
@@ -113,7 +113,7 @@ module _ (l : List ℕ) (used place : ℕ) (block : List ℕ) (a : Accepts l use
         closed : dueBehind 0 pre ≡ 0
         closed = sym (due-is l used place a part part-is h here here-is) ∙ d
 
-        eleven : insert11 file tail place ≡ 0
+        eleven : insert11 file place ≡ 0
         eleven = rw (behind-part, le-leb (bodyPlace file place) (length (file .body)) at-inside, eq-eqb (dueBehind 0 pre) 0 closed)
 
         module _ (answer : Block) (answer-is : blockAnswer answer ≡ blockItem block) where
@@ -140,14 +140,14 @@ module _ (l : List ℕ) (used place : ℕ) (block : List ℕ) (a : Accepts l use
               near : leb level (suc (openBehind 0 0 pre)) ≡ true
               near = le-leb level (suc (openBehind 0 0 pre)) (omega (arith, o, opened-is l used place a part part-is h here here-is))
 
-              below-is : notBelow level (after file tail place) ≡ leb next level
+              below-is : notBelow level (after file place) ≡ leb next level
               below-is = not-below l used place a closed level ∙ rw (next-is, record-is l used place a part part-is h here here-is)
 
               pub too-high : level < next → InsertionPlanned l used place block (Refuse 13 0)
               too-high n = refusal 12 (rw (eleven, one .no-fault, level-is, near, below-is, lt-leb next level n))
 
               module _ (n : next ≤ level) where
-                thirteen : fault13 (openBehind 0 0 pre) (getD views 0 absent) (after file tail place) ≡ 0
+                thirteen : fault13 (openBehind 0 0 pre) (getD views 0 absent) (after file place) ≡ 0
                 thirteen = rw (level-is, near, below-is, le-leb next level n)
 
                 up-to : pred level ≤ openBehind 0 0 pre
@@ -189,10 +189,10 @@ module _ (l : List ℕ) (used place : ℕ) (block : List ℕ) (a : Accepts l use
                   above-record : above ≡ getD rs (partLength rs + pred (aboveIn level pre)) []
                   above-record = rw (file-records l used (inside l used a), index-header)
 
-                  total-seen : (aboveBlock file tail place views) .total ≡ numberAt header "total" above
+                  total-seen : (aboveBlock file place views) .total ≡ numberAt header "total" above
                   total-seen = rw (level-is, above-record) (above-total l used place a level at-inside (one .low) up-to)
 
-                  count-seen : (aboveBlock file tail place views) .count (countIndex ((getD views 0 absent) .kind)) ≡ countIn above kind
+                  count-seen : (aboveBlock file place views) .count (countIndex ((getD views 0 absent) .kind)) ≡ countIn above kind
                   count-seen = rw (level-is, ← (one .kind-is), above-record) (above-count l used place a level at-inside (one .low) up-to kind)
 
                   long : 84 * length (blockOf block) ≡ length block
@@ -207,14 +207,14 @@ module _ (l : List ℕ) (used place : ℕ) (block : List ℕ) (a : Accepts l use
                   abbrev room : Bool
                   room = hasRoom (numberAt header "total" above) kind (countIn above kind) (used / 84 + length block / 84)
 
-                  fourteen : fault14 (aboveBlock file tail place views) (countIndex ((getD views 0 absent) .kind)) (partLength rs + length (file .body) + length views) ≡ unless room 14
+                  fourteen : fault14 (aboveBlock file place views) (countIndex ((getD views 0 absent) .kind)) (partLength rs + length (file .body) + length views) 200000 ≡ unless room 14
                   unfolding hasRoom
                   fourteen = rw (total-seen, count-seen, ← (one .kind-is), records-then)
 
-                  fifteen : insert15 file tail place views ≡ unless (leb (length block) (length l - used)) 15
+                  fifteen : insert15 tail views ≡ unless (leb (length block) (length l - used)) 15
                   fifteen = rw (length-map (blockOf block) view, long, length-drop used l)
 
-                  fault-is : insertFault file tail place views ≡ first (unless room 14) (unless (leb (length block) (length l - used)) 15)
+                  fault-is : insertFault file place tail views 200000 ≡ first (unless room 14) (unless (leb (length block) (length l - used)) 15)
                   fault-is = rw (eleven, one .no-fault, thirteen, fourteen, fifteen)
 
                   abbrev change : Change
@@ -251,7 +251,7 @@ module _ (l : List ℕ) (used place : ℕ) (block : List ℕ) (a : Accepts l use
                       total-most : numberAt header "total" above + 1 ≤ 99999
                       total-most = leb-true _ _ (y .0)
 
-                      fault : insertFault file tail place views ≡ 0
+                      fault : insertFault file place tail views 200000 ≡ 0
                       fault = fault-is ∙ rw (r, s)
 
                   counted : (p : Plan) → p ≡ raisedPlan l used target → InsertionPlanned l used place block p

@@ -14,7 +14,7 @@ use Rattle.format.specs.declared.Judged.the-variants as Judged
 use Rattle.format.specs.declared.Edited.the-variants as Edited
 use Rattle.format.specs.Answers.{judgedAnswer, editedAnswer}
 use Rattle.format.specs.Judge.{judgeSheet}
-use Rattle.format.specs.Edit.{insert, remove}
+use Rattle.format.specs.Calls.{insert, remove}
 use Rattle.format.specs.Run.{call}
 use Rattle.edit.specs.declared.counts.Change.{Change}
 use Rattle.edit.specs.declared.plans.Plan.{Plan}

@@ -55,7 +55,7 @@ module _ (l : List ℕ) (used place : ℕ) (a : Accepts l used) (part : SheetPar
   tail = drop used l
 
   abbrev pre : List View
-  pre = before (fileOf (chunks (used / 84) l)) (drop used l) place
+  pre = before (fileOf (chunks (used / 84) l)) place
 
   abbrev q : ℕ
   q = bodyPlace (fileOf (chunks (used / 84) l)) place
@@ -63,7 +63,7 @@ module _ (l : List ℕ) (used place : ℕ) (a : Accepts l used) (part : SheetPar
   abbrev gone : View
   gone = getD ((fileOf (chunks (used / 84) l)) .body) q absent
 
-  refusal : remove11 file tail place ≡ 11 → RemovalPlanned l used place (Refuse 11 0)
+  refusal : remove11 file place ≡ 11 → RemovalPlanned l used place (Refuse 11 0)
   unfolding RemovalPlanned
   refusal e = remove-refused l used a place 10 e
 
@@ -107,7 +107,7 @@ module _ (l : List ℕ) (used place : ℕ) (a : Accepts l used) (part : SheetPar
           is-item : isHead (gone .kind) ≡ false
           is-item = head-is ∙ ne-eqb (item .kind) 0 some
 
-          eleven : remove11 file tail place ≡ 0
+          eleven : remove11 file place ≡ 0
           eleven = rw (behind-part, lt-ltb q (length (file .body)) at-inside, eq-eqb (dueBehind 0 pre) 0 closed, is-item)
 
           kind-is : item .kind ≡ countIndex (gone .kind)
@@ -129,7 +129,7 @@ module _ (l : List ℕ) (used place : ℕ) (a : Accepts l used) (part : SheetPar
           near = omega (arith, start .good-here .near)
 
           data-there : q + suc (gone .dataRecords) ≤ length (file .body)
-          data-there = omega (arith, enough file tail place (held l used a .ok) (cuts file tail place eleven), length-drop q (file .body), at-inside)
+          data-there = omega (arith, enough file place (held l used a .ok) (cuts file place eleven), length-drop q (file .body), at-inside)
 
           pub level-low : 1 ≤ item .level
           level-low = omega (arith, level-is, low)

@@ -10,7 +10,8 @@ use Rattle.format.specs.Layout.{numberAt, header}
 use Rattle.format.specs.Record.{countIndex, countName, View, countIn, rewrite, lower}
 use Rattle.format.specs.Sheet.{partLength, statedElements, statedRecords, writeCounts}
 use Rattle.format.specs.Judge.{File, fileOf}
-use Rattle.format.specs.Edit.{remove, plain, remove11, removed, alterAt, absent, aboveIn, openBehind, before, bodyPlace}
+use Rattle.format.specs.Edit.{remove11, removed, alterAt, absent, aboveIn, openBehind, before, bodyPlace}
+use Rattle.format.specs.Calls.{remove, plain}
 use Rattle.format.specs.Run.{listOf, call}
 use Rattle.format.proofs.Lists.{Wide, wide-append, wide-take, wide-drop, length-alterAt}
 use Rattle.format.proofs.EditMoves.{as-records}
@@ -32,7 +33,7 @@ module _ (l : List ℕ) (used place : ℕ) (a : Accepts l used) (c : Change) whe
   tail = drop used l
 
   abbrev pre : List View
-  pre = before (fileOf (chunks (used / 84) l)) (drop used l) place
+  pre = before (fileOf (chunks (used / 84) l)) place
 
   abbrev q : ℕ
   q = bodyPlace (fileOf (chunks (used / 84) l)) place
@@ -49,7 +50,7 @@ module _ (l : List ℕ) (used place : ℕ) (a : Accepts l used) (c : Change) whe
   abbrev left : List (List ℕ)
   left = take (partLength rs + q) rs ++ ([] ++ drop gone (drop (partLength rs + q) rs))
 
-  module _ (fault : remove11 file tail place ≡ 0) (enough : q + gone ≤ length (file .body)) (low : 2 ≤ item .level) (near : pred (item .level) ≤ openBehind 0 0 pre) (kind-most : countIndex (item .kind) ≤ 9) (header-is : c .header ≡ index) (kind-is : c .kind ≡ countIndex (item .kind)) (total-is : c .total ≡ numberAt header "total" (getD rs index []) - 1) (count-is : c .count ≡ countIn (getD rs index []) (countIndex (item .kind)) - 1) (elements-is : c .elements ≡ statedElements (getD rs 1 []) - 1) (records-is : c .records ≡ statedRecords (getD rs 1 []) - gone) (start-is : c .start ≡ 84 * (partLength rs + q)) (length-is : c .length ≡ 84 * gone) where
+  module _ (fault : remove11 file place ≡ 0) (enough : q + gone ≤ length (file .body)) (low : 2 ≤ item .level) (near : pred (item .level) ≤ openBehind 0 0 pre) (kind-most : countIndex (item .kind) ≤ 9) (header-is : c .header ≡ index) (kind-is : c .kind ≡ countIndex (item .kind)) (total-is : c .total ≡ numberAt header "total" (getD rs index []) - 1) (count-is : c .count ≡ countIn (getD rs index []) (countIndex (item .kind)) - 1) (elements-is : c .elements ≡ statedElements (getD rs 1 []) - 1) (records-is : c .records ≡ statedRecords (getD rs 1 []) - gone) (start-is : c .start ≡ 84 * (partLength rs + q)) (length-is : c .length ≡ 84 * gone) where
     place-inside : partLength rs + q + gone ≤ length rs
     place-inside = omega (arith, enough, length-body l used a, length-records l used a, sheet-inside l used a)
 

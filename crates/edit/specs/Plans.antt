@@ -10,7 +10,7 @@ use Rattle.format.specs.Basics.{given, refused}
 use Rattle.format.specs.Layout.{numberAt, header}
 use Rattle.format.specs.Record.{countIn}
 use Rattle.format.specs.Judge.{accepted, judgeSheet}
-use Rattle.format.specs.Edit.{insert, remove}
+use Rattle.format.specs.Calls.{insert, remove}
 use Rattle.format.specs.Run.{Step, call}
 use Rattle.part_and_index.specs.declared.SheetPart.{SheetPart}
 use Rattle.places.specs.Place.{recordsOf}

@@ -1,6 +1,6 @@
 // Inserting and removing items in a sheet: refuse first, store later. An edit costs one judging pass, one pass over headers and items, and one move.
 ghost use mathlib.Core.Path.{_≡_};
-ghost use Rattle.format.specs.Edit.{insert, remove};
+ghost use Rattle.format.specs.Calls.{insert, remove};
 ghost use Rattle.format.specs.Run.{call};
 ghost use Rattle.edit.specs.Counts.{withCounts};
 ghost use Rattle.edit.specs.Plans.{putIn, takenOut, CanPut, CanTake};

@@ -12,7 +12,8 @@ use borrow.Author.Tests.{leb-true, leb-false, le-leb, ltb-true, ltb-false, lt-lt
 use Rattle.format.specs.Basics.{fine, flat, unless, chunks, given, refused}
 use Rattle.format.specs.Record.{RecordType, H, E1, E2, E3, E4, E5, E6, E7, E8, G, T, other, typeOf, kindOf, isHead, countIndex, Data, nothing, View, view, viewAs, headerView, elementView, gridView, netView, otherView}
 use Rattle.format.specs.Judge.{File, headersAndItems, openOf, openAfter, dueAfter, faultAt, walk, accepted, judgeSheet}
-use Rattle.format.specs.Edit.{blockItem, itemIn, Edit, insert, remove, RecordList, absent, dueBehind, openBehind, aboveIn, bodyPlace, blockOf, conclude, plain, fault12, notBelow, isBlock, insertFault, remove11, before, aboveBlock}
+use Rattle.format.specs.Edit.{blockItem, itemIn, RecordList, absent, dueBehind, openBehind, aboveIn, bodyPlace, blockOf, fault12, notBelow, isBlock, insertFault, remove11, before, aboveBlock}
+use Rattle.format.specs.Calls.{Edit, insert, remove, conclude, plain}
 use Rattle.format.specs.Above.{HeaderAbove}
 use Rattle.format.specs.Run.{Buffer, call, listOf, sheetOf}
 use Rattle.format.specs.Checks.{Check, FirstOf, AnswersFirst, StartsAt, OneItem, OpenLevel, beforeFirst, behindHeader, behindItem, inOrder, headerOrItemFaults, dataFaults, editChecks, beforePlace, LevelWrong, TooMany, TooShort}
@@ -377,16 +378,16 @@ module _ (b : Buffer) (n m : ℕ) (judged : judgeSheet (b .used) (b .bytes) ≡ 
       above : start .level ≤ suc (openBehind 0 0 (beforePlace b place block)) → HeaderAbove (start .level) (beforePlace b place block)
       above near = split-above (start .level) (beforePlace b place block) (omega (arith, block-low i)) (find-in (pred (start .level)) nothing (beforePlace b place block) ((passes-split 0 0 nothing (beforePlace b place block) (drop (bodyPlace (sheetOf b) place) ((sheetOf b) .body)) (rw (take-append-drop (bodyPlace (sheetOf b) place) ((sheetOf b) .body)) (o .held .ok .walks .0))) .0) (omega (arith, block-low i)) (omega (arith, block-low i)))
 
-      says14 : start .level ≤ suc (openBehind 0 0 (beforePlace b place block)) → Says (leb ((aboveBlock (sheetOf b) ((listOf b) .tail) place views) .total + 1) 99999 && (not (eqb (countIndex ((getD views 0 absent) .kind)) 9) || leb ((aboveBlock (sheetOf b) ((listOf b) .tail) place views) .count (countIndex ((getD views 0 absent) .kind)) + 1) 9) && leb ((sheetOf b) .partLength + length ((sheetOf b) .body) + length views) 200000) (TooMany b place block)
+      says14 : start .level ≤ suc (openBehind 0 0 (beforePlace b place block)) → Says (leb ((aboveBlock (sheetOf b) place views) .total + 1) 99999 && (not (eqb (countIndex ((getD views 0 absent) .kind)) 9) || leb ((aboveBlock (sheetOf b) place views) .count (countIndex ((getD views 0 absent) .kind)) + 1) 9) && leb ((sheetOf b) .partLength + length ((sheetOf b) .body) + length views) 200000) (TooMany b place block)
       says14 near = rw (block-view i, whole, block-count i) (says-and (header-says (start .level) (beforePlace b place block) (take 84 block) (above near)) (says-leb (b .used / 84 + length block / 84) 200000))
 
       says15 : Says (leb (84 * length views) (length ((listOf b) .tail))) (TooShort b place block)
       says15 = record { yes = λ e. omega (arith, leb-false (84 * length views) (length ((listOf b) .tail)) e, tail-length, block-count i, i .size); no = λ e l. omega (arith, leb-true (84 * length views) (length ((listOf b) .tail)) e, tail-length, block-count i, i .size) }
 
-    insertion-first : FirstOf (editChecks (insert place block) b) (insertFault (sheetOf b) ((listOf b) .tail) place views)
+    insertion-first : FirstOf (editChecks (insert place block) b) (insertFault (sheetOf b) place ((listOf b) .tail) views 200000)
     insertion-first = check-first 10 (placeTest (sheetOf b) place) _ _ _ (place-says (sheetOf b) place (b .used / 84) whole closed) (λ e11. rw (fault12-is views) (check-first 11 (isOneItem views) _ _ _ (decides-says (one-item-decides block)) (λ e12. let i = (one-item-decides block) .yes e12 in check-first 12 _ _ _ _ (says13 i e11) (λ e13. check-first 13 _ _ _ _ (says14 i e11 (near13 i e13)) (λ e14. check-end 14 _ _ (says15 i e11))))))
 
-  removal-first : (place : ℕ) → FirstOf (editChecks (remove place) b) (remove11 (sheetOf b) ((listOf b) .tail) place)
+  removal-first : (place : ℕ) → FirstOf (editChecks (remove place) b) (remove11 (sheetOf b) place)
   removal-first place = check-end 10 _ _ (removal-says (sheetOf b) place)
 
   concluded : (checks : List Check) (v : ℕ) → FirstOf checks v → (old new : RecordList) → AnswersFirst checks ((conclude v old new) .reply)

@@ -14,7 +14,8 @@ use Rattle.format.specs.Program.{lineOf, line, printed, lineTo, reportTo
 use Rattle.format.specs.Column.{readAlone, writeAlone}
 use Rattle.format.specs.Corner.{Corner, join, split}
 use Rattle.format.specs.Judge.{File, fileOf, headersAndItems, countUnder, walk, accepted, judge, judgeSheet, judgeIndex}
-use Rattle.format.specs.Edit.{Edit, dueBehind}
+use Rattle.format.specs.Edit.{dueBehind}
+use Rattle.format.specs.Calls.{Edit}
 use Rattle.format.specs.Run.{Buffer, Runs, Sound}
 use Rattle.format.specs.Above.{countWithAbove}
 use Rattle.format.specs.Checks.{Starts}

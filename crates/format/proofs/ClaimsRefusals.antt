@@ -13,7 +13,8 @@ use Rattle.format.specs.Record.{H, view, typeOf, countIndex, dataColumns
 use Rattle.format.specs.Layout.{numberAt, header}
 use Rattle.format.specs.Corner.{join}
 use Rattle.format.specs.Judge.{fileOf, headersAndItems, items, accepted, judgeSheet, judgeIndex}
-use Rattle.format.specs.Edit.{Edit, blockItem}
+use Rattle.format.specs.Edit.{blockItem}
+use Rattle.format.specs.Calls.{Edit}
 use Rattle.format.specs.Above.{up}
 use Rattle.format.specs.Run.{Buffer, call}
 use Rattle.format.specs.Checks.{AnswersFirst, OneItem, editChecks, wayUpChecks, StageOneFails, StageTwo, IndexStageTwo, Ten, LeftOver, AllPass, Missing, dueBehindAll, DueMeans, StageMeans, OpenLevel, headerOrItem, FirstOf, inOrder, headerOrItemFaults, stated, joinChecks, TypeMeans, countOf, JudgedBehind, sheetWalk, indexWalk, ofPart, SheetRefusal, IndexRefusal, stageOne, stageTwo, stageThree}

@@ -57,11 +57,11 @@ more-one v j h = record { kinds = refl; levels = refl; totals = refl; counts = �
 
 -- nothing stands before 12 to 15, of a block that no 11 refuses
 abbrev from13 : (f : File) (tail : List ℕ) (p : ℕ) → List View → ℕ
-from13 f tail p block = first (insert13 f tail p block) (first (insert14 f tail p block) (insert15 f tail p block))
+from13 f tail p block = first (insert13 f p block) (first (insert14 f p block 200000) (insert15 tail block))
 
 -- an empty block is refused
-pub empty-refused : (f : File) (tail : List ℕ) (p : ℕ) → insertFault f tail p [] ≡ 0 → ⊥
-empty-refused f tail p e = omega (arith, (first-zero 12 (from13 f tail p []) ((first-zero (insert11 f tail p) (first 12 (from13 f tail p [])) e) .1)) .0)
+pub empty-refused : (f : File) (tail : List ℕ) (p : ℕ) → insertFault f p tail [] 200000 ≡ 0 → ⊥
+empty-refused f tail p e = omega (arith, (first-zero 12 (from13 f tail p []) ((first-zero (insert11 f p) (first 12 (from13 f tail p [])) e) .1)) .0)
 
 -- what an insertion that is not refused has
 pub record Fits (pre suf : List View) (b : View) (ds : List View) (n : ℕ) : Type 0 where
@@ -75,13 +75,13 @@ pub record Fits (pre suf : List View) (b : View) (ds : List View) (n : ℕ) : Ty
   pub nine-fits : countIndex (b .kind) ≡ 9 → (getD pre (pred (aboveIn (b .level) pre)) absent) .count (countIndex (b .kind)) + 1 ≤ 9
   pub file-fits : n ≤ 200000
 
-pub fits : (f : File) (tail : List ℕ) (p : ℕ) (b : View) (ds : List View) → insertFault f tail p (b ∷ ds) ≡ 0 → Fits (before f tail p) (after f tail p) b ds (f .partLength + length (f .body) + length (b ∷ ds))
+pub fits : (f : File) (tail : List ℕ) (p : ℕ) (b : View) (ds : List View) → insertFault f p tail (b ∷ ds) 200000 ≡ 0 → Fits (before f p) (after f p) b ds (f .partLength + length (f .body) + length (b ∷ ds))
 fits f tail p b ds e = record { closed = eqb-true _ _ (a .1); is-item = not-true _ (i .0); passes = (walk-passes 8 0 nothing 0 0 (b ∷ ds) (fine-none _ (j .0))) .0; whole = eqb-true _ _ (j .1); near = leb-true _ _ (n .0); below = n .1; total-fits = leb-true _ _ (u .0); nine-fits = λ e₉. nine-of e₉ (u .1); file-fits = leb-true _ _ (v .1) }
   where
-    x : (insert11 f tail p ≡ 0) × (first (fault12 (b ∷ ds)) (from13 f tail p (b ∷ ds)) ≡ 0)
-    x = first-zero (insert11 f tail p) _ e
+    x : (insert11 f p ≡ 0) × (first (fault12 (b ∷ ds)) (from13 f tail p (b ∷ ds)) ≡ 0)
+    x = first-zero (insert11 f p) _ e
 
-    a : (ltb (f .partLength) p && leb (bodyPlace f p) (length (f .body)) ≡ true) × (eqb (dueBehind 0 (before f tail p)) 0 ≡ true)
+    a : (ltb (f .partLength) p && leb (bodyPlace f p) (length (f .body)) ≡ true) × (eqb (dueBehind 0 (before f p)) 0 ≡ true)
     a = and-true _ _ (unless-zero _ _ (x .0))
 
     y : (unless (isBlock b ds) 12 ≡ 0) × (from13 f tail p (b ∷ ds) ≡ 0)
@@ -93,17 +93,17 @@ fits f tail p b ds e = record { closed = eqb-true _ _ (a .1); is-item = not-true
     j : (fine (walk 8 0 nothing 0 0 (b ∷ ds)) ≡ true) × (eqb (length ds) (b .dataRecords) ≡ true)
     j = and-true _ _ (i .1)
 
-    z : (fault13 (openBehind 0 0 (before f tail p)) b (after f tail p) ≡ 0) × (first (insert14 f tail p (b ∷ ds)) (insert15 f tail p (b ∷ ds)) ≡ 0)
-    z = first-zero (fault13 (openBehind 0 0 (before f tail p)) b (after f tail p)) _ (y .1)
+    z : (fault13 (openBehind 0 0 (before f p)) b (after f p) ≡ 0) × (first (insert14 f p (b ∷ ds) 200000) (insert15 tail (b ∷ ds)) ≡ 0)
+    z = first-zero (fault13 (openBehind 0 0 (before f p)) b (after f p)) _ (y .1)
 
-    n : (leb (b .level) (suc (openBehind 0 0 (before f tail p))) ≡ true) × (notBelow (b .level) (after f tail p) ≡ true)
+    n : (leb (b .level) (suc (openBehind 0 0 (before f p))) ≡ true) × (notBelow (b .level) (after f p) ≡ true)
     n = and-true _ _ (unless-zero _ _ (z .0))
 
     h : View
-    h = getD (before f tail p) (pred (aboveIn (b .level) (before f tail p))) absent
+    h = getD (before f p) (pred (aboveIn (b .level) (before f p))) absent
 
-    w : (fault14 h (countIndex (b .kind)) (f .partLength + length (f .body) + length (b ∷ ds)) ≡ 0) × (insert15 f tail p (b ∷ ds) ≡ 0)
-    w = first-zero (fault14 h (countIndex (b .kind)) (f .partLength + length (f .body) + length (b ∷ ds))) _ (z .1)
+    w : (fault14 h (countIndex (b .kind)) (f .partLength + length (f .body) + length (b ∷ ds)) 200000 ≡ 0) × (insert15 tail (b ∷ ds) ≡ 0)
+    w = first-zero (fault14 h (countIndex (b .kind)) (f .partLength + length (f .body) + length (b ∷ ds)) 200000) _ (z .1)
 
     v : (leb (h .total + 1) 99999 && (not (eqb (countIndex (b .kind)) 9) || leb (h .count (countIndex (b .kind)) + 1) 9) ≡ true) × (leb (f .partLength + length (f .body) + length (b ∷ ds)) 200000 ≡ true)
     v = and-true _ _ (unless-zero _ _ (w .0))
@@ -114,30 +114,30 @@ fits f tail p b ds e = record { closed = eqb-true _ _ (a .1); is-item = not-true
     nine-of : countIndex (b .kind) ≡ 9 → not (eqb (countIndex (b .kind)) 9) || leb (h .count (countIndex (b .kind)) + 1) 9 ≡ true → h .count (countIndex (b .kind)) + 1 ≤ 9
     nine-of e₉ o = leb-true _ _ (rw (eq-eqb (countIndex (b .kind)) 9 e₉) at o)
 
-module _ (f : File) (tail : List ℕ) (p : ℕ) (b : View) (ds : List View) (k : Ok f) (t : Fits (before f tail p) (after f tail p) b ds (f .partLength + length (f .body) + length (b ∷ ds))) where
+module _ (f : File) (p : ℕ) (b : View) (ds : List View) (k : Ok f) (t : Fits (before f p) (after f p) b ds (f .partLength + length (f .body) + length (b ∷ ds))) where
   pre : List View
-  pre = before f tail p
+  pre = before f p
 
   suf : List View
-  suf = after f tail p
+  suf = after f p
 
-  pub passed : Passes 0 0 nothing (before f tail p)
-  passed = (passes-split 0 0 nothing (before f tail p) (after f tail p) (rw (take-append-drop (bodyPlace f p) (f .body)) (k .walks .0))) .0
+  pub passed : Passes 0 0 nothing (before f p)
+  passed = (passes-split 0 0 nothing (before f p) (after f p) (rw (take-append-drop (bodyPlace f p) (f .body)) (k .walks .0))) .0
 
-  pub sp : Split (pred (b .level)) 0 (before f tail p)
-  sp = find-in (pred (b .level)) nothing (before f tail p) passed (omega (arith, low-block b ds (t .is-item) (t .whole) 8 nothing ds (t .passes))) (omega (arith, t .near))
+  pub sp : Split (pred (b .level)) 0 (before f p)
+  sp = find-in (pred (b .level)) nothing (before f p) passed (omega (arith, low-block b ds (t .is-item) (t .whole) 8 nothing ds (t .passes))) (omega (arith, t .near))
 
   -- the header's own column has room where its total has
   pub above-counts : sp .it .count (countIndex (b .kind)) ≤ sp .it .total
   above-counts = omega (arith, agree .whole, sum-ge 10 (sp .it .count) (countIndex (b .kind)) (omega (arith, (good 8 nothing b (t .passes .0)) .known)))
     where
-      is-old : f .body ≡ sp .front ++ sp .it ∷ sp .back ++ after f tail p
-      is-old = sym (take-append-drop (bodyPlace f p) (f .body)) ∙ ap (λ (x : List View). x ++ after f tail p) (sp .whole)
+      is-old : f .body ≡ sp .front ++ sp .it ∷ sp .back ++ after f p
+      is-old = sym (take-append-drop (bodyPlace f p) (f .body)) ∙ ap (λ (x : List View). x ++ after f p) (sp .whole)
 
-      agree : Agree (sp .it) (headersAndItems 0 (sp .back) ++ headersAndItems 0 (after f tail p))
-      agree = counted-at (headersAndItems 0 (sp .front)) (sp .it) _ (sp .is-head) (rw (is-old, headersAndItems-pre (sp .front) (sp .back) (sp .closed) (back-closed _ _ sp (t .closed)) (sp .it) (sp .is-head) (after f tail p)) at (k .counted))
+      agree : Agree (sp .it) (headersAndItems 0 (sp .back) ++ headersAndItems 0 (after f p))
+      agree = counted-at (headersAndItems 0 (sp .front)) (sp .it) _ (sp .is-head) (rw (is-old, headersAndItems-pre (sp .front) (sp .back) (sp .closed) (back-closed _ _ sp (t .closed)) (sp .it) (sp .is-head) (after f p)) at (k .counted))
 
-  pub put-ok : (v : Data → ℕ → ℕ) → Ok ((put f tail p v (b ∷ ds)) .file)
+  pub put-ok : (v : Data → ℕ → ℕ) → Ok (put f p v (b ∷ ds))
   put-ok v = record {
     walks = (rw is-new (grow-passes F h h′ B b ds S al m clF clB hh cl bi bl bn small (rw is-old at (k .walks .0)) (t .passes) (rw (sp .whole) at (t .near)) (t .below)), rw is-new (grow-dueBehind F h h′ B b ds S al m clF clB hh cl bi bl bn small ∙ (rw is-old at (k .walks .1))));
     statedElements = rw is-new (omega (arith, rw is-old at (k .statedElements), grow-items F h h′ B b ds S al m clF clB hh cl bi bl bn small));
@@ -155,7 +155,7 @@ module _ (f : File) (tail : List ℕ) (p : ℕ) (b : View) (ds : List View) (k :
       B = sp .back
 
       S : List View
-      S = after f tail p
+      S = after f p
 
       h′ : View
       h′ = more v (countIndex (b .kind)) h
@@ -196,5 +196,5 @@ module _ (f : File) (tail : List ℕ) (p : ℕ) (b : View) (ds : List View) (k :
       is-old : f .body ≡ F ++ h ∷ B ++ S
       is-old = sym (take-append-drop (bodyPlace f p) (f .body)) ∙ ap (λ (x : List View). x ++ S) (sp .whole)
 
-      is-new : change (more v) b (before f tail p) ++ (b ∷ ds ++ S) ≡ F ++ h′ ∷ B ++ (b ∷ ds ++ S)
-      is-new = ap (λ (x : List View). x ++ (b ∷ ds ++ S)) (change-split (more v) b (before f tail p) sp)
+      is-new : change (more v) b (before f p) ++ (b ∷ ds ++ S) ≡ F ++ h′ ∷ B ++ (b ∷ ds ++ S)
+      is-new = ap (λ (x : List View). x ++ (b ∷ ds ++ S)) (change-split (more v) b (before f p) sp)

@@ -51,11 +51,11 @@ length-alter m i [] = refl
 length-alter m zero (r ∷ l) = refl
 length-alter m (suc i) (r ∷ l) = ap suc (length-alter m i l)
 
-put-length : (f : File) (tail : List ℕ) (p : ℕ) (v : Data → ℕ → ℕ) (b : View) (ds : List View) → length ((put f tail p v (b ∷ ds)) .file .body) ≡ length (f .body) + suc (length ds)
-put-length f tail p v b ds = simp (length-append, length-alter) (omega (arith, simp length-append at (ap length (take-append-drop (bodyPlace f p) (f .body)))))
+put-length : (f : File) (p : ℕ) (v : Data → ℕ → ℕ) (b : View) (ds : List View) → length ((put f p v (b ∷ ds)) .body) ≡ length (f .body) + suc (length ds)
+put-length f p v b ds = simp (length-append, length-alter) (omega (arith, simp length-append at (ap length (take-append-drop (bodyPlace f p) (f .body)))))
 
-cut-length : (f : File) (tail : List ℕ) (p : ℕ) (v : Data → ℕ → ℕ) → suc ((gone f tail p) .dataRecords) ≤ length (after f tail p) → length ((cut f tail p v) .file .body) ≡ length (f .body) - suc ((gone f tail p) .dataRecords)
-cut-length f tail p v h = rw (length-append (change (less v) (gone f tail p) (before f tail p)) (drop (suc ((gone f tail p) .dataRecords)) (after f tail p)), length-alter (less v (countIndex ((gone f tail p) .kind))) (pred (aboveIn ((gone f tail p) .level) (before f tail p))) (before f tail p), length-drop (suc ((gone f tail p) .dataRecords)) (after f tail p)) (omega (arith, simp length-append at (ap length (take-append-drop (bodyPlace f p) (f .body)))))
+cut-length : (f : File) (p : ℕ) (v : Data → ℕ → ℕ) → suc ((gone f p) .dataRecords) ≤ length (after f p) → length ((cut f p v) .body) ≡ length (f .body) - suc ((gone f p) .dataRecords)
+cut-length f p v h = rw (length-append (change (less v) (gone f p) (before f p)) (drop (suc ((gone f p) .dataRecords)) (after f p)), length-alter (less v (countIndex ((gone f p) .kind))) (pred (aboveIn ((gone f p) .level) (before f p))) (before f p), length-drop (suc ((gone f p) .dataRecords)) (after f p)) (omega (arith, simp length-append at (ap length (take-append-drop (bodyPlace f p) (f .body)))))
 
 -- no more items than records
 items-few : (n : ℕ) (rs : List View) → items (headersAndItems n rs) ≤ length rs
@@ -87,23 +87,23 @@ module _ (L : Lawful) where
     file-written = file-path _ _ (L .partLength-kept (g .records) X e s (k .wide) (k .sheet) e-fits s-fits) (rw second (L .statedElements-written e s _ second-wide e-fits)) (rw second (L .statedRecords-written e s _ second-wide s-fits)) (rw (L .partLength-kept (g .records) X e s (k .wide) (k .sheet) e-fits s-fits, drop-at front X (partLength (g .records)) front-length))
 
   -- insertion
-  module _ (g : RecordList) (p : ℕ) (x : List ℕ) (xs : List (List ℕ)) (k : Held g) (t : Fits (before (fileOf (g .records)) (g .tail) p) (after (fileOf (g .records)) (g .tail) p) (view x) (map view xs) ((fileOf (g .records)) .partLength + length ((fileOf (g .records)) .body) + length (view x ∷ map view xs))) where
+  module _ (g : RecordList) (p : ℕ) (x : List ℕ) (xs : List (List ℕ)) (k : Held g) (t : Fits (before (fileOf (g .records)) p) (after (fileOf (g .records)) p) (view x) (map view xs) ((fileOf (g .records)) .partLength + length ((fileOf (g .records)) .body) + length (view x ∷ map view xs))) where
     -- the header that is written anew, as a data record
     abbrev says-more : Data → ℕ → ℕ
-    says-more = asData (raise (countIndex ((view x) .kind)) (getD (take (bodyPlace (fileOf (g .records)) p) (bodyRecords g p)) (pred (aboveIn ((view x) .level) (before (fileOf (g .records)) (g .tail) p))) []))
+    says-more = asData (raise (countIndex ((view x) .kind)) (getD (take (bodyPlace (fileOf (g .records)) p) (bodyRecords g p)) (pred (aboveIn ((view x) .level) (before (fileOf (g .records)) p))) []))
 
-    above : Split (pred ((view x) .level)) 0 (before (fileOf (g .records)) (g .tail) p)
-    above = sp (fileOf (g .records)) (g .tail) p (view x) (map view xs) (k .ok) t
+    above : Split (pred ((view x) .level)) 0 (before (fileOf (g .records)) p)
+    above = sp (fileOf (g .records)) p (view x) (map view xs) (k .ok) t
 
-    pub changed-view : map view (changed g p raise (view x)) ≡ change (more says-more) (view x) (before (fileOf (g .records)) (g .tail) p)
+    pub changed-view : map view (changed g p raise (view x)) ≡ change (more says-more) (view x) (before (fileOf (g .records)) p)
     unfolding above
-    changed-view = map-alter view (raise (countIndex ((view x) .kind))) (more says-more (countIndex ((view x) .kind))) _ (take (bodyPlace (fileOf (g .records)) p) (bodyRecords g p)) seen ∙ ap (λ (l : List View). alter (more says-more (countIndex ((view x) .kind))) (pred (aboveIn ((view x) .level) (before (fileOf (g .records)) (g .tail) p))) l) (map-take view (bodyPlace (fileOf (g .records)) p) (bodyRecords g p))
+    changed-view = map-alter view (raise (countIndex ((view x) .kind))) (more says-more (countIndex ((view x) .kind))) _ (take (bodyPlace (fileOf (g .records)) p) (bodyRecords g p)) seen ∙ ap (λ (l : List View). alter (more says-more (countIndex ((view x) .kind))) (pred (aboveIn ((view x) .level) (before (fileOf (g .records)) p))) l) (map-take view (bodyPlace (fileOf (g .records)) p) (bodyRecords g p))
       where
         pre : List View
-        pre = before (fileOf (g .records)) (g .tail) p
+        pre = before (fileOf (g .records)) p
 
         idx : ℕ
-        idx = pred (aboveIn ((view x) .level) (before (fileOf (g .records)) (g .tail) p))
+        idx = pred (aboveIn ((view x) .level) (before (fileOf (g .records)) p))
 
         seen : (y : List ℕ) → y ≡ getD (take (bodyPlace (fileOf (g .records)) p) (bodyRecords g p)) idx [] → view y ≡ getD (map view (take (bodyPlace (fileOf (g .records)) p) (bodyRecords g p))) idx absent → idx < length (take (bodyPlace (fileOf (g .records)) p) (bodyRecords g p)) → view (raise (countIndex ((view x) .kind)) y) ≡ more says-more (countIndex ((view x) .kind)) (view y)
         seen y y-is e l = lawful ∙ ap (λ (z : List ℕ). more (asData (raise (countIndex ((view x) .kind)) z)) (countIndex ((view x) .kind)) (view y)) y-is
@@ -115,15 +115,15 @@ module _ (L : Lawful) where
             is-it = is-pre ∙ above-is ((view x) .level) pre above
 
             lawful : view (raise (countIndex ((view x) .kind)) y) ≡ more (asData (raise (countIndex ((view x) .kind)) y)) (countIndex ((view x) .kind)) (view y)
-            lawful = L .raised (countIndex ((view x) .kind)) y (ap length y-is ∙ wide-get idx (take (bodyPlace (fileOf (g .records)) p) (bodyRecords g p)) (search (wide-take, wide-drop, k .wide)) l) ((good 8 nothing (view x) (t .passes .0)) .known) (rw is-it (above .is-head)) (rw is-it (above-good _ pre above (passed (fileOf (g .records)) (g .tail) p (view x) (map view xs) (k .ok) t))) (rw is-pre (t .total-fits)) (λ e₉. rw is-pre (t .nine-fits e₉)) (rw is-it (above-counts (fileOf (g .records)) (g .tail) p (view x) (map view xs) (k .ok) t))
+            lawful = L .raised (countIndex ((view x) .kind)) y (ap length y-is ∙ wide-get idx (take (bodyPlace (fileOf (g .records)) p) (bodyRecords g p)) (search (wide-take, wide-drop, k .wide)) l) ((good 8 nothing (view x) (t .passes .0)) .known) (rw is-it (above .is-head)) (rw is-it (above-good _ pre above (passed (fileOf (g .records)) p (view x) (map view xs) (k .ok) t))) (rw is-pre (t .total-fits)) (λ e₉. rw is-pre (t .nine-fits e₉)) (rw is-it (above-counts (fileOf (g .records)) p (view x) (map view xs) (k .ok) t))
 
     statedElements-few : (fileOf (g .records)) .statedElements ≤ length ((fileOf (g .records)) .body)
     statedElements-few = rw (k .ok .statedElements) (items-few 0 ((fileOf (g .records)) .body))
 
-    pub put-file : fileOf ((inserted g p (x ∷ xs)) .records) ≡ (put (fileOf (g .records)) (g .tail) p says-more (view x ∷ map view xs)) .file
-    put-file = file-written g k _ _ (omega (arith, statedElements-few, t .file-fits)) (omega (arith, k .ok .statedRecords, t .file-fits, length-map xs view)) _ ∙ file-path _ _ refl refl (omega (arith, k .ok .statedRecords, length-map xs view, put-length (fileOf (g .records)) (g .tail) p says-more (view x) (map view xs))) bodies
+    pub put-file : fileOf ((inserted g p (x ∷ xs)) .records) ≡ put (fileOf (g .records)) p says-more (view x ∷ map view xs)
+    put-file = file-written g k _ _ (omega (arith, statedElements-few, t .file-fits)) (omega (arith, k .ok .statedRecords, t .file-fits, length-map xs view)) _ ∙ file-path _ _ refl refl (omega (arith, k .ok .statedRecords, length-map xs view, put-length (fileOf (g .records)) p says-more (view x) (map view xs))) bodies
       where
-        bodies : map view (changed g p raise (view x) ++ (x ∷ xs ++ drop (bodyPlace (fileOf (g .records)) p) (bodyRecords g p))) ≡ change (more says-more) (view x) (before (fileOf (g .records)) (g .tail) p) ++ (view x ∷ map view xs ++ after (fileOf (g .records)) (g .tail) p)
+        bodies : map view (changed g p raise (view x) ++ (x ∷ xs ++ drop (bodyPlace (fileOf (g .records)) p) (bodyRecords g p))) ≡ change (more says-more) (view x) (before (fileOf (g .records)) p) ++ (view x ∷ map view xs ++ after (fileOf (g .records)) p)
         bodies = rw (map-append view (changed g p raise (view x)) (x ∷ xs ++ drop (bodyPlace (fileOf (g .records)) p) (bodyRecords g p)), changed-view, map-append view xs (drop (bodyPlace (fileOf (g .records)) p) (bodyRecords g p)), map-drop view (bodyPlace (fileOf (g .records)) p) (bodyRecords g p))
 
     pub put-held : Wide (x ∷ xs) → Held (inserted g p (x ∷ xs))
@@ -131,26 +131,26 @@ module _ (L : Lawful) where
       wide = let small : countIndex ((view x) .kind) ≤ 9 = (good 8 nothing (view x) (t .passes .0)) .known in search (wide-append, wide-alter, wide-take, wide-drop, L .write-wide, L .raise-wide, k .wide) depth 8;
       few = simp (length-append, length-alterAt) (omega (arith, t .file-fits, length-map xs view, length-map (bodyRecords g p) view, length-take-le (partLength (g .records)) (g .records) (L .inside (g .records) (k .sheet)), simp length-append at (ap length (take-append-drop (bodyPlace (fileOf (g .records)) p) (bodyRecords g p)))));
       sheet = L .sheet-kept (g .records) _ _ _ (k .wide) (k .sheet) (omega (arith, statedElements-few, t .file-fits)) (omega (arith, k .ok .statedRecords, t .file-fits, length-map xs view));
-      ok = rw put-file (put-ok (fileOf (g .records)) (g .tail) p (view x) (map view xs) (k .ok) t says-more);
+      ok = rw put-file (put-ok (fileOf (g .records)) p (view x) (map view xs) (k .ok) t says-more);
     }
 
   -- removal
   module _ (g : RecordList) (p : ℕ) (k : Held g) (t : Cuts ((fileOf (g .records)) .body) (bodyPlace (fileOf (g .records)) p)) where
     -- the header that is written anew, as a data record
     abbrev says-less : Data → ℕ → ℕ
-    says-less = asData (lower (countIndex ((removedItem g p) .kind)) (getD (take (bodyPlace (fileOf (g .records)) p) (bodyRecords g p)) (pred (aboveIn ((removedItem g p) .level) (before (fileOf (g .records)) (g .tail) p))) []))
+    says-less = asData (lower (countIndex ((removedItem g p) .kind)) (getD (take (bodyPlace (fileOf (g .records)) p) (bodyRecords g p)) (pred (aboveIn ((removedItem g p) .level) (before (fileOf (g .records)) p))) []))
 
-    cut-above : Split (pred ((removedItem g p) .level)) 0 (before (fileOf (g .records)) (g .tail) p)
-    cut-above = cut-sp (fileOf (g .records)) (g .tail) p (k .ok) t
+    cut-above : Split (pred ((removedItem g p) .level)) 0 (before (fileOf (g .records)) p)
+    cut-above = cut-sp (fileOf (g .records)) p (k .ok) t
 
-    pub changed-view′ : map view (changed g p lower (removedItem g p)) ≡ change (less says-less) (removedItem g p) (before (fileOf (g .records)) (g .tail) p)
-    changed-view′ = map-alter view (lower (countIndex ((removedItem g p) .kind))) (less says-less (countIndex ((removedItem g p) .kind))) _ (take (bodyPlace (fileOf (g .records)) p) (bodyRecords g p)) seen ∙ ap (λ (l : List View). alter (less says-less (countIndex ((removedItem g p) .kind))) (pred (aboveIn ((removedItem g p) .level) (before (fileOf (g .records)) (g .tail) p))) l) (map-take view (bodyPlace (fileOf (g .records)) p) (bodyRecords g p))
+    pub changed-view′ : map view (changed g p lower (removedItem g p)) ≡ change (less says-less) (removedItem g p) (before (fileOf (g .records)) p)
+    changed-view′ = map-alter view (lower (countIndex ((removedItem g p) .kind))) (less says-less (countIndex ((removedItem g p) .kind))) _ (take (bodyPlace (fileOf (g .records)) p) (bodyRecords g p)) seen ∙ ap (λ (l : List View). alter (less says-less (countIndex ((removedItem g p) .kind))) (pred (aboveIn ((removedItem g p) .level) (before (fileOf (g .records)) p))) l) (map-take view (bodyPlace (fileOf (g .records)) p) (bodyRecords g p))
       where
         pre : List View
-        pre = before (fileOf (g .records)) (g .tail) p
+        pre = before (fileOf (g .records)) p
 
         idx : ℕ
-        idx = pred (aboveIn ((removedItem g p) .level) (before (fileOf (g .records)) (g .tail) p))
+        idx = pred (aboveIn ((removedItem g p) .level) (before (fileOf (g .records)) p))
 
         seen : (y : List ℕ) → y ≡ getD (take (bodyPlace (fileOf (g .records)) p) (bodyRecords g p)) idx [] → view y ≡ getD (map view (take (bodyPlace (fileOf (g .records)) p) (bodyRecords g p))) idx absent → idx < length (take (bodyPlace (fileOf (g .records)) p) (bodyRecords g p)) → view (lower (countIndex ((removedItem g p) .kind)) y) ≡ less says-less (countIndex ((removedItem g p) .kind)) (view y)
         seen y y-is e l = lawful ∙ ap (λ (z : List ℕ). less (asData (lower (countIndex ((removedItem g p) .kind)) z)) (countIndex ((removedItem g p) .kind)) (view y)) y-is
@@ -159,7 +159,7 @@ module _ (L : Lawful) where
             is-it = e ∙ ap (λ (z : List View). getD z idx absent) (map-take view (bodyPlace (fileOf (g .records)) p) (bodyRecords g p)) ∙ above-is ((removedItem g p) .level) pre cut-above
 
             lawful : view (lower (countIndex ((removedItem g p) .kind)) y) ≡ less (asData (lower (countIndex ((removedItem g p) .kind)) y)) (countIndex ((removedItem g p) .kind)) (view y)
-            lawful = L .lowered (countIndex ((removedItem g p) .kind)) y (ap length y-is ∙ wide-get idx (take (bodyPlace (fileOf (g .records)) p) (bodyRecords g p)) (search (wide-take, wide-drop, k .wide)) l) ((b-good (fileOf (g .records)) (g .tail) p (k .ok) t) .known) (rw is-it (cut-above .is-head)) (rw is-it (above-good _ pre cut-above ((parts (fileOf (g .records)) (g .tail) p (k .ok) t) .0)))
+            lawful = L .lowered (countIndex ((removedItem g p) .kind)) y (ap length y-is ∙ wide-get idx (take (bodyPlace (fileOf (g .records)) p) (bodyRecords g p)) (search (wide-take, wide-drop, k .wide)) l) ((b-good (fileOf (g .records)) p (k .ok) t) .known) (rw is-it (cut-above .is-head)) (rw is-it (above-good _ pre cut-above ((parts (fileOf (g .records)) p (k .ok) t) .0)))
 
     body-few : length ((fileOf (g .records)) .body) ≤ 200000
     body-few = rw (length-map (bodyRecords g p) view, length-drop (partLength (g .records)) (g .records)) (omega (arith, k .few))
@@ -167,16 +167,16 @@ module _ (L : Lawful) where
     statedElements-few′ : (fileOf (g .records)) .statedElements ≤ length ((fileOf (g .records)) .body)
     statedElements-few′ = rw (k .ok .statedElements) (items-few 0 ((fileOf (g .records)) .body))
 
-    pub cut-file : fileOf ((removed g p) .records) ≡ (cut (fileOf (g .records)) (g .tail) p says-less) .file
-    cut-file = file-written g k _ _ (omega (arith, statedElements-few′, body-few)) (omega (arith, k .ok .statedRecords, body-few)) _ ∙ file-path _ _ refl refl (omega (arith, k .ok .statedRecords, cut-length (fileOf (g .records)) (g .tail) p says-less (enough (fileOf (g .records)) (g .tail) p (k .ok) t))) bodies
+    pub cut-file : fileOf ((removed g p) .records) ≡ cut (fileOf (g .records)) p says-less
+    cut-file = file-written g k _ _ (omega (arith, statedElements-few′, body-few)) (omega (arith, k .ok .statedRecords, body-few)) _ ∙ file-path _ _ refl refl (omega (arith, k .ok .statedRecords, cut-length (fileOf (g .records)) p says-less (enough (fileOf (g .records)) p (k .ok) t))) bodies
       where
-        bodies : map view (changed g p lower (removedItem g p) ++ drop (suc ((removedItem g p) .dataRecords)) (drop (bodyPlace (fileOf (g .records)) p) (bodyRecords g p))) ≡ change (less says-less) (removedItem g p) (before (fileOf (g .records)) (g .tail) p) ++ drop (suc ((removedItem g p) .dataRecords)) (after (fileOf (g .records)) (g .tail) p)
+        bodies : map view (changed g p lower (removedItem g p) ++ drop (suc ((removedItem g p) .dataRecords)) (drop (bodyPlace (fileOf (g .records)) p) (bodyRecords g p))) ≡ change (less says-less) (removedItem g p) (before (fileOf (g .records)) p) ++ drop (suc ((removedItem g p) .dataRecords)) (after (fileOf (g .records)) p)
         bodies = rw (map-append view (changed g p lower (removedItem g p)) (drop (suc ((removedItem g p) .dataRecords)) (drop (bodyPlace (fileOf (g .records)) p) (bodyRecords g p))), changed-view′, map-drop view (suc ((removedItem g p) .dataRecords)) (drop (bodyPlace (fileOf (g .records)) p) (bodyRecords g p)), map-drop view (bodyPlace (fileOf (g .records)) p) (bodyRecords g p))
 
     pub cut-held : Held (removed g p)
     cut-held = record {
-      wide = let small : countIndex ((removedItem g p) .kind) ≤ 9 = (b-good (fileOf (g .records)) (g .tail) p (k .ok) t) .known in search (wide-append, wide-alter, wide-take, wide-drop, L .write-wide, L .lower-wide, k .wide) depth 8;
+      wide = let small : countIndex ((removedItem g p) .kind) ≤ 9 = (b-good (fileOf (g .records)) p (k .ok) t) .known in search (wide-append, wide-alter, wide-take, wide-drop, L .write-wide, L .lower-wide, k .wide) depth 8;
       few = simp (length-append, length-alterAt, length-drop) (omega (arith, k .few, L .inside (g .records) (k .sheet), length-take-le (partLength (g .records)) (g .records) (L .inside (g .records) (k .sheet)), simp (length-append, length-drop) at (ap length (take-append-drop (bodyPlace (fileOf (g .records)) p) (bodyRecords g p)))));
       sheet = L .sheet-kept (g .records) _ _ _ (k .wide) (k .sheet) (omega (arith, statedElements-few′, body-few)) (omega (arith, k .ok .statedRecords, body-few));
-      ok = rw cut-file ((cut-ok (fileOf (g .records)) (g .tail) p (k .ok) t says-less) .0);
+      ok = rw cut-file ((cut-ok (fileOf (g .records)) p (k .ok) t says-less) .0);
     }

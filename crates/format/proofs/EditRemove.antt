@@ -8,7 +8,7 @@ use lib.Dec.{ltb, eqb}
 use lib.ListN.{length, take, drop, getD, take-append-drop}
 use lib.Seq.{drop-cons, length-take-le}
 use borrow.Author.Tests.{eqb-true, eqb-false, eq-eqb, ne-eqb, ltb-true, not-true}
-use Rattle.format.specs.Record.{Data, View, isHead, item, nothing, countIndex}
+use Rattle.format.specs.Record.{Data, View, isHead, nothing, countIndex}
 use Rattle.format.specs.Above.{NoHeaderOf}
 use Rattle.format.specs.Judge.{File, headersAndItems, countsFor, dueAfter, countUnder}
 use Rattle.format.specs.Edit.{after, before, absent, remove11, dueBehind, openBehind, bodyPlace}
@@ -45,69 +45,69 @@ pub record Cuts (body : List View) (q : ℕ) : Type 0 where
   pub closed : dueBehind 0 (take q body) ≡ 0
   pub is-item : isHead ((getD body q absent) .kind) ≡ false
 
-pub cuts : (f : File) (tail : List ℕ) (p : ℕ) → remove11 f tail p ≡ 0 → Cuts (f .body) (bodyPlace f p)
-cuts f tail p e = record { inside = ltb-true _ _ (z .1); closed = eqb-true _ _ (y .1); is-item = not-true _ (x .1) }
+pub cuts : (f : File) (p : ℕ) → remove11 f p ≡ 0 → Cuts (f .body) (bodyPlace f p)
+cuts f p e = record { inside = ltb-true _ _ (z .1); closed = eqb-true _ _ (y .1); is-item = not-true _ (x .1) }
   where
-    x : (ltb (f .partLength) p && ltb (bodyPlace f p) (length (f .body)) && eqb (dueBehind 0 (before f tail p)) 0 ≡ true) × (not (isHead ((getD (f .body) (bodyPlace f p) absent) .kind)) ≡ true)
+    x : (ltb (f .partLength) p && ltb (bodyPlace f p) (length (f .body)) && eqb (dueBehind 0 (before f p)) 0 ≡ true) × (not (isHead ((getD (f .body) (bodyPlace f p) absent) .kind)) ≡ true)
     x = and-true _ _ (unless-zero _ _ e)
 
-    y : (ltb (f .partLength) p && ltb (bodyPlace f p) (length (f .body)) ≡ true) × (eqb (dueBehind 0 (before f tail p)) 0 ≡ true)
+    y : (ltb (f .partLength) p && ltb (bodyPlace f p) (length (f .body)) ≡ true) × (eqb (dueBehind 0 (before f p)) 0 ≡ true)
     y = and-true _ _ (x .0)
 
     z : (ltb (f .partLength) p ≡ true) × (ltb (bodyPlace f p) (length (f .body)) ≡ true)
     z = and-true _ _ (y .0)
 
-module _ (f : File) (tail : List ℕ) (p : ℕ) (k : Ok f) (t : Cuts (f .body) (bodyPlace f p)) where
+module _ (f : File) (p : ℕ) (k : Ok f) (t : Cuts (f .body) (bodyPlace f p)) where
   b : View
-  b = gone f tail p
+  b = gone f p
 
   abbrev X : List View
   X = drop (suc (bodyPlace f p)) (f .body)
 
   abbrev ds : List View
-  ds = take ((gone f tail p) .dataRecords) X
+  ds = take ((gone f p) .dataRecords) X
 
   abbrev S : List View
-  S = drop ((gone f tail p) .dataRecords) X
+  S = drop ((gone f p) .dataRecords) X
 
-  after-is : after f tail p ≡ gone f tail p ∷ X
+  after-is : after f p ≡ gone f p ∷ X
   after-is = drop-cons (f .body) (bodyPlace f p) absent (t .inside)
 
-  pub parts : Passes 0 0 nothing (before f tail p) × Passes (openBehind 0 0 (before f tail p)) (dueBehind 0 (before f tail p)) (sort 0 nothing (before f tail p)) (after f tail p)
-  parts = passes-split 0 0 nothing (before f tail p) (after f tail p) (rw (take-append-drop (bodyPlace f p) (f .body)) (k .walks .0))
+  pub parts : Passes 0 0 nothing (before f p) × Passes (openBehind 0 0 (before f p)) (dueBehind 0 (before f p)) (sort 0 nothing (before f p)) (after f p)
+  parts = passes-split 0 0 nothing (before f p) (after f p) (rw (take-append-drop (bodyPlace f p) (f .body)) (k .walks .0))
 
-  b-passes : Passes (openBehind 0 0 (before f tail p)) 0 (sort 0 nothing (before f tail p)) (gone f tail p ∷ X)
+  b-passes : Passes (openBehind 0 0 (before f p)) 0 (sort 0 nothing (before f p)) (gone f p ∷ X)
   b-passes = rw (t .closed, after-is) at (parts .1)
 
-  pub b-good : Good (openBehind 0 0 (before f tail p)) (gone f tail p)
-  b-good = good _ (sort 0 nothing (before f tail p)) _ (b-passes .0)
+  pub b-good : Good (openBehind 0 0 (before f p)) (gone f p)
+  b-good = good _ (sort 0 nothing (before f p)) _ (b-passes .0)
 
-  dueBehind-x : dueBehind ((gone f tail p) .dataRecords) X ≡ 0
-  dueBehind-x = rw (item-dataRecords (gone f tail p) (t .is-item)) at whole
+  dueBehind-x : dueBehind ((gone f p) .dataRecords) X ≡ 0
+  dueBehind-x = rw (item-dataRecords (gone f p) (t .is-item)) at whole
     where
-      whole : dueBehind (dueAfter 0 (gone f tail p)) X ≡ 0
-      whole = rw (← (take-append-drop (bodyPlace f p) (f .body)), dueBehind-append 0 (before f tail p) (after f tail p), t .closed, after-is) at (k .walks .1)
+      whole : dueBehind (dueAfter 0 (gone f p)) X ≡ 0
+      whole = rw (← (take-append-drop (bodyPlace f p) (f .body)), dueBehind-append 0 (before f p) (after f p), t .closed, after-is) at (k .walks .1)
 
-  pub x-long : (gone f tail p) .dataRecords ≤ length X
-  x-long = data-there _ _ _ X (rw (item-dataRecords (gone f tail p) (t .is-item)) at (b-passes .1)) dueBehind-x
+  pub x-long : (gone f p) .dataRecords ≤ length X
+  x-long = data-there _ _ _ X (rw (item-dataRecords (gone f p) (t .is-item)) at (b-passes .1)) dueBehind-x
 
-  ds-length : length ds ≡ (gone f tail p) .dataRecords
-  ds-length = length-take-le ((gone f tail p) .dataRecords) X x-long
+  ds-length : length ds ≡ (gone f p) .dataRecords
+  ds-length = length-take-le ((gone f p) .dataRecords) X x-long
 
-  pub enough : suc ((gone f tail p) .dataRecords) ≤ length (after f tail p)
+  pub enough : suc ((gone f p) .dataRecords) ≤ length (after f p)
   enough = omega (arith, x-long, ap length after-is)
 
-  body-is : f .body ≡ before f tail p ++ (gone f tail p ∷ ds ++ S)
-  body-is = sym (take-append-drop (bodyPlace f p) (f .body)) ∙ ap (λ (x : List View). before f tail p ++ x) (after-is ∙ ap (λ (y : List View). gone f tail p ∷ y) (sym (take-append-drop ((gone f tail p) .dataRecords) X)))
+  body-is : f .body ≡ before f p ++ (gone f p ∷ ds ++ S)
+  body-is = sym (take-append-drop (bodyPlace f p) (f .body)) ∙ ap (λ (x : List View). before f p ++ x) (after-is ∙ ap (λ (y : List View). gone f p ∷ y) (sym (take-append-drop ((gone f p) .dataRecords) X)))
 
-  b-low : 2 ≤ (gone f tail p) .level
-  b-low = low-block (gone f tail p) ds (t .is-item) ds-length _ (sort 0 nothing (before f tail p)) X b-passes
+  b-low : 2 ≤ (gone f p) .level
+  b-low = low-block (gone f p) ds (t .is-item) ds-length _ (sort 0 nothing (before f p)) X b-passes
 
-  pub sp : Split (pred ((gone f tail p) .level)) 0 (before f tail p)
-  sp = find-in (pred ((gone f tail p) .level)) nothing (before f tail p) (parts .0) (omega (arith, b-low)) (omega (arith, b-good .near))
+  pub sp : Split (pred ((gone f p) .level)) 0 (before f p)
+  sp = find-in (pred ((gone f p) .level)) nothing (before f p) (parts .0) (omega (arith, b-low)) (omega (arith, b-good .near))
 
   -- and there was one to take out
-  pub cut-ok : (v : Data → ℕ → ℕ) → Ok ((cut f tail p v) .file) × (0 < f .statedElements)
+  pub cut-ok : (v : Data → ℕ → ℕ) → Ok (cut f p v) × (0 < f .statedElements)
   cut-ok v = (
     record {
       walks = (rw is-new (shrink-passes F h h′ B c ds S al m clF clB hh cl bi bl bn small la (rw is-old at (k .walks .0))), rw is-new (sym (grow-dueBehind F h h′ B c ds S al m clF clB hh cl bi bl bn small) ∙ (rw is-old at (k .walks .1))));
@@ -119,7 +119,7 @@ module _ (f : File) (tail : List ℕ) (p : ℕ) (k : Ok f) (t : Cuts (f .body) (
   )
     where
       c : View
-      c = gone f tail p
+      c = gone f p
 
       F : List View
       F = sp .front
@@ -181,5 +181,5 @@ module _ (f : File) (tail : List ℕ) (p : ℕ) (k : Ok f) (t : Cuts (f .body) (
       m : OneMore (countIndex (c .kind)) h h′
       m = less-one v _ h′ (omega (arith, agree .whole, some, sum-ge 10 (h′ .count) (countIndex (c .kind)) small)) some
 
-      is-new : change (less v) c (before f tail p) ++ drop (suc (c .dataRecords)) (after f tail p) ≡ F ++ h ∷ B ++ S
-      is-new = ap (λ (x : List View). x ++ drop (suc (c .dataRecords)) (after f tail p)) (change-split (less v) c (before f tail p) sp) ∙ ap (λ (y : List View). F ++ h ∷ B ++ drop (suc (c .dataRecords)) y) after-is
+      is-new : change (less v) c (before f p) ++ drop (suc (c .dataRecords)) (after f p) ≡ F ++ h ∷ B ++ S
+      is-new = ap (λ (x : List View). x ++ drop (suc (c .dataRecords)) (after f p)) (change-split (less v) c (before f p) sp) ∙ ap (λ (y : List View). F ++ h ∷ B ++ drop (suc (c .dataRecords)) y) after-is

@@ -1,9 +1,9 @@
 -- Edits of the views of records, which the proofs follow. Assumes nothing.
 use mathlib.Core.Bool.{cond}
 use mathlib.Core.List.{List, [], _∷_, _++_}
-use Prim.Native.Nat.{ℕ, zero, suc, pred, _+_, _-_, _*_}
+use Prim.Native.Nat.{ℕ, zero, suc, pred, _+_, _-_}
 use lib.Dec.{eqb}
-use lib.ListN.{length, drop, getD, replicate}
+use lib.ListN.{length, drop, getD}
 use Rattle.format.specs.Record.{View, Data, countIndex}
 use Rattle.format.specs.Judge.{File}
 use Rattle.format.specs.Edit.{aboveIn, absent, before, after, bodyPlace}
@@ -23,19 +23,15 @@ less w j r = record { kind = r .kind; level = r .level; dataRecords = r .dataRec
 abbrev pub change : (ℕ → View → View) → View → List View → List View
 change g b pre = alter (g (countIndex (b .kind))) (pred (aboveIn (b .level) pre)) pre
 
-pub record Book : Type 0 where
-  pub file : File
-  pub tail : List ℕ
-
 abbrev pub withBody : File → ℕ → List View → File
 withBody f e b = record { partLength = f .partLength; statedElements = e; statedRecords = length b; body = b }
 
-module _ (f : File) (tail : List ℕ) (p : ℕ) where
-  abbrev pub put : (Data → ℕ → ℕ) → List View → Book
-  put w blk = record { file = withBody f (f .statedElements + 1) (change (more w) (getD blk 0 absent) (before f tail p) ++ (blk ++ after f tail p)); tail = drop (84 * length blk) tail }
+module _ (f : File) (p : ℕ) where
+  abbrev pub put : (Data → ℕ → ℕ) → List View → File
+  put w blk = withBody f (f .statedElements + 1) (change (more w) (getD blk 0 absent) (before f p) ++ (blk ++ after f p))
 
   abbrev pub gone : View
   gone = getD (f .body) (bodyPlace f p) absent
 
-  abbrev pub cut : (Data → ℕ → ℕ) → Book
-  cut w = record { file = withBody f (f .statedElements - 1) (change (less w) gone (before f tail p) ++ drop (suc (gone .dataRecords)) (after f tail p)); tail = replicate (84 * suc (gone .dataRecords)) 32 ++ tail }
+  abbrev pub cut : (Data → ℕ → ℕ) → File
+  cut w = withBody f (f .statedElements - 1) (change (less w) gone (before f p) ++ drop (suc (gone .dataRecords)) (after f p))

@@ -1,6 +1,6 @@
 -- DEMAND 3 over bytes. Assumes nothing.
 use mathlib.Core.Path.{_≡_, refl, ap, ap₂, sym, _∙_}
-use mathlib.Core.Bool.{Bool, true, false, cond, _&&_}
+use mathlib.Core.Bool.{Bool, true, false, _&&_}
 use mathlib.Core.List.{List, [], _∷_, _++_, map}
 use Prim.Native.Nat.{ℕ, zero, suc, _+_, _*_, _/_, _%_, _≤_, _<_}
 use native.Mathlib.Omega.{arith}
@@ -12,10 +12,11 @@ use Rattle.format.specs.Basics.{Fault, none, fault, Answer, given, refus
 use Rattle.format.specs.Run.{Buffer, Step, call, bufferOf, listOf, insertions, repliesBuffer, repliesPlain, runBuffer, runPlain, sum-of, removals, Runs, Sound, Keeps, KeepsBytes, EachKeeps, elementCount, sheetOf, inFourColumns, moved}
 use Rattle.format.specs.Above.{up, WayAnswered}
 use Rattle.format.specs.Judge.{File, accepted, fileOf, judge, judgeRecords, judgeSheet, afterPart, afterStageOne}
-use Rattle.format.specs.Record.{nothing, view}
-use Rattle.format.specs.Edit.{Edit, RecordList, blockOf, conclude, remove11, removed, insert, plain, insert11, inserted, insertFault, remove}
+use Rattle.format.specs.Record.{view}
+use Rattle.format.specs.Edit.{RecordList, blockOf, remove11, removed, inserted, insertFault}
+use Rattle.format.specs.Calls.{Edit, conclude, insert, plain, remove}
 use Rattle.format.specs.Sheet.{statedElements, partLength, sheetFault}
-use Rattle.format.proofs.Basics.{first-zero, and-true, true-and}
+use Rattle.format.proofs.Basics.{and-true, true-and}
 use Rattle.format.proofs.JudgeAccepted.{accepted-ok, ok-accepted}
 use Rattle.format.proofs.EditInsert.{fits, fine-none, empty-refused}
 use Rattle.format.proofs.EditRemove.{cuts, cut-ok}
@@ -38,13 +39,13 @@ open-bufferOf g w = list-path _ _ (rw count (chunks-flat (g .records) (g .tail) 
     count = omega arith
 
 module _ (L : Lawful) where
-  step-put : (g : RecordList) (p : ℕ) (blk : List (List ℕ)) → Held g → Wide blk → (n : ℕ) → insertFault (fileOf (g .records)) (g .tail) p (map view blk) ≡ n → Held ((conclude n g (inserted g p blk)) .list)
+  step-put : (g : RecordList) (p : ℕ) (blk : List (List ℕ)) → Held g → Wide blk → (n : ℕ) → insertFault (fileOf (g .records)) p (g .tail) (map view blk) 200000 ≡ n → Held ((conclude n g (inserted g p blk)) .list)
   step-put g p [] k w zero e = absurd (empty-refused (fileOf (g .records)) (g .tail) p e)
   step-put g p (x ∷ xs) k w zero e = put-held L g p x xs k (fits (fileOf (g .records)) (g .tail) p (view x) (map view xs) e) w
   step-put g p blk k w (suc n) e = k
 
-  step-cut : (g : RecordList) (p : ℕ) → Held g → (n : ℕ) → remove11 (fileOf (g .records)) (g .tail) p ≡ n → Held ((conclude n g (removed g p)) .list)
-  step-cut g p k zero e = cut-held L g p k (cuts (fileOf (g .records)) (g .tail) p e)
+  step-cut : (g : RecordList) (p : ℕ) → Held g → (n : ℕ) → remove11 (fileOf (g .records)) p ≡ n → Held ((conclude n g (removed g p)) .list)
+  step-cut g p k zero e = cut-held L g p k (cuts (fileOf (g .records)) p e)
   step-cut g p k (suc n) e = k
 
   pub plain-held : (c : Edit) (g : RecordList) → Held g → Held ((plain c g) .list)
@@ -103,13 +104,13 @@ module _ (L : Lawful) where
           whole = omega (arith, even)
 
   -- the count of elements
-  count-put : (g : RecordList) (p : ℕ) (bs : List ℕ) (blk : List (List ℕ)) → Held g → (n : ℕ) → insertFault (fileOf (g .records)) (g .tail) p (map view blk) ≡ n → (fileOf ((conclude n g (inserted g p blk)) .list .records)) .statedElements + removals (insert p bs) ((conclude n g (inserted g p blk)) .reply) ≡ (fileOf (g .records)) .statedElements + insertions (insert p bs) ((conclude n g (inserted g p blk)) .reply)
+  count-put : (g : RecordList) (p : ℕ) (bs : List ℕ) (blk : List (List ℕ)) → Held g → (n : ℕ) → insertFault (fileOf (g .records)) p (g .tail) (map view blk) 200000 ≡ n → (fileOf ((conclude n g (inserted g p blk)) .list .records)) .statedElements + removals (insert p bs) ((conclude n g (inserted g p blk)) .reply) ≡ (fileOf (g .records)) .statedElements + insertions (insert p bs) ((conclude n g (inserted g p blk)) .reply)
   count-put g p bs [] k zero e = absurd (empty-refused (fileOf (g .records)) (g .tail) p e)
   count-put g p bs (x ∷ xs) k zero e = omega (arith, ap (λ (f : File). f .statedElements) (put-file L g p x xs k (fits (fileOf (g .records)) (g .tail) p (view x) (map view xs) e)))
   count-put g p bs blk k (suc n) e = refl
 
-  count-cut : (g : RecordList) (p : ℕ) → Held g → (n : ℕ) → remove11 (fileOf (g .records)) (g .tail) p ≡ n → (fileOf ((conclude n g (removed g p)) .list .records)) .statedElements + removals (remove p) ((conclude n g (removed g p)) .reply) ≡ (fileOf (g .records)) .statedElements + insertions (remove p) ((conclude n g (removed g p)) .reply)
-  count-cut g p k zero e = omega (arith, ap (λ (f : File). f .statedElements) (cut-file L g p k (cuts (fileOf (g .records)) (g .tail) p e)), (cut-ok (fileOf (g .records)) (g .tail) p (k .ok) (cuts (fileOf (g .records)) (g .tail) p e) (λ d i. 0)) .1)
+  count-cut : (g : RecordList) (p : ℕ) → Held g → (n : ℕ) → remove11 (fileOf (g .records)) p ≡ n → (fileOf ((conclude n g (removed g p)) .list .records)) .statedElements + removals (remove p) ((conclude n g (removed g p)) .reply) ≡ (fileOf (g .records)) .statedElements + insertions (remove p) ((conclude n g (removed g p)) .reply)
+  count-cut g p k zero e = omega (arith, ap (λ (f : File). f .statedElements) (cut-file L g p k (cuts (fileOf (g .records)) p e)), (cut-ok (fileOf (g .records)) p (k .ok) (cuts (fileOf (g .records)) p e) (λ d i. 0)) .1)
   count-cut g p k (suc n) e = refl
 
   plain-count : (c : Edit) (g : RecordList) → Held g → (fileOf ((plain c g) .list .records)) .statedElements + removals c ((plain c g) .reply) ≡ (fileOf (g .records)) .statedElements + insertions c ((plain c g) .reply)

@@ -10,13 +10,14 @@ use lib.IntN.{pos}
 use lib.ListN.{length, length-append, length-drop, length-map, length-replicate, take, drop, take-append-drop, getD, replicate, List·getD-append}
 use lib.Seq.{getD-append-add, getD-take, getD-drop, length-take-le}
 use borrow.Author.Tests.{leb-true, leb-false, ltb-true, ltb-false}
-use Rattle.format.specs.Basics.{Answer, given, refused, flat, chunks}
+use Rattle.format.specs.Basics.{Answer, given, refused, flat}
 use Rattle.format.specs.Column.{written}
-use Rattle.format.specs.Layout.{Col, column, splice, find, numberAt, header, sheetB}
+use Rattle.format.specs.Layout.{Col, column, find, numberAt, header, sheetB}
 use Rattle.format.specs.Record.{View, view, nothing, countIn, countIndex, countName, rewrite, raise, lower}
 use Rattle.format.specs.Sheet.{partLength, writeCounts}
 use Rattle.format.specs.Judge.{File, fileOf}
-use Rattle.format.specs.Edit.{RecordList, file, alterAt, aboveIn, before, after, fault12, insert11, insert13, insert14, insert15, dueBehind, insertFault, remove11, inserted, removed, removedItem, firstView, partRecords, bodyRecords, blockOf, conclude, Edit, insert, remove, plain, bodyPlace}
+use Rattle.format.specs.Edit.{RecordList, file, alterAt, aboveIn, before, after, fault12, insert11, insert13, insert14, insert15, dueBehind, insertFault, remove11, inserted, removed, removedItem, firstView, partRecords, bodyRecords, blockOf, bodyPlace}
+use Rattle.format.specs.Calls.{conclude, Edit, insert, remove, plain}
 use Rattle.format.specs.Run.{bufferOf, placeOf, itemOf, inColumn, inFour, headerAbove, withBlock, withoutItem, moved}
 use Rattle.format.proofs.Basics.{and-true, first-zero, unless-zero}
 use Rattle.format.proofs.Columns.{Apart, left, right, column-other, length-splice, length-written}
@@ -143,16 +144,16 @@ lower-is : (j : ℕ) (r : List ℕ) → (x : ℕ) × (y : ℕ) × (lower j r ≡
 unfolding lower
 lower-is j r = (numberAt header "total" r - 1, countIn r j - 1, refl)
 
-insert-place : (f : File) (tail : List ℕ) (p : ℕ) (block : List View) → insertFault f tail p block ≡ 0 → (f .partLength < p) × (bodyPlace f p ≤ length (f .body))
+insert-place : (f : File) (tail : List ℕ) (p : ℕ) (block : List View) → insertFault f p tail block 200000 ≡ 0 → (f .partLength < p) × (bodyPlace f p ≤ length (f .body))
 insert-place f tail p block e =
-    let a = first-zero (insert11 f tail p) _ e in
+    let a = first-zero (insert11 f p) _ e in
     let b = and-true (ltb (f .partLength) p && leb (bodyPlace f p) (length (f .body))) _ (unless-zero _ _ (a .0)) in
     let c = and-true (ltb (f .partLength) p) (leb (bodyPlace f p) (length (f .body))) (b .0) in
     (ltb-true _ _ (c .0), leb-true _ _ (c .1))
 
-remove-place : (f : File) (tail : List ℕ) (p : ℕ) → remove11 f tail p ≡ 0 → f .partLength < p
-remove-place f tail p e =
-    let a = and-true (ltb (f .partLength) p && ltb (bodyPlace f p) (length (f .body)) && eqb (dueBehind 0 (before f tail p)) 0) _ (unless-zero _ _ e) in
+remove-place : (f : File) (p : ℕ) → remove11 f p ≡ 0 → f .partLength < p
+remove-place f p e =
+    let a = and-true (ltb (f .partLength) p && ltb (bodyPlace f p) (length (f .body)) && eqb (dueBehind 0 (before f p)) 0) _ (unless-zero _ _ e) in
     let b = and-true (ltb (f .partLength) p && ltb (bodyPlace f p) (length (f .body))) _ (a .0) in
     ltb-true _ _ ((and-true (ltb (f .partLength) p) (ltb (bodyPlace f p) (length (f .body))) (b .0)) .0)
 
@@ -161,7 +162,7 @@ module _ (L : Lawful) (g : RecordList) (p : ℕ) (k : Held g) (behind : partLeng
   q = bodyPlace (fileOf (g .records)) p
 
   abbrev pre : List View
-  pre = before (fileOf (g .records)) (g .tail) p
+  pre = before (fileOf (g .records)) p
 
   inside : partLength (g .records) + q ≤ length (g .records)
   inside = omega (arith, L .inside (g .records) (k .sheet), rw (length-map (bodyRecords g p) view, length-drop (partLength (g .records)) (g .records)) at room)
@@ -190,22 +191,22 @@ KeepsList (given u) four old between new = (i : ℕ) → four i ≡ false → ge
 KeepsList (refused n r) four old between new = new ≡ old
 
 module _ (L : Lawful) where
-  keeps-put : (g : RecordList) (p : ℕ) (blk : List (List ℕ)) → Held g → Wide blk → (n : ℕ) → insertFault (fileOf (g .records)) (g .tail) p (map view blk) ≡ n → KeepsList ((conclude n g (inserted g p blk)) .reply) (inFour (headerAbove g p (firstView g p blk)) (firstView g p blk)) g (withBlock g p blk) ((conclude n g (inserted g p blk)) .list)
+  keeps-put : (g : RecordList) (p : ℕ) (blk : List (List ℕ)) → Held g → Wide blk → (n : ℕ) → insertFault (fileOf (g .records)) p (g .tail) (map view blk) 200000 ≡ n → KeepsList ((conclude n g (inserted g p blk)) .reply) (inFour (headerAbove g p (firstView g p blk)) (firstView g p blk)) g (withBlock g p blk) ((conclude n g (inserted g p blk)) .list)
   keeps-put g p [] k w zero e = absurd (empty-refused (fileOf (g .records)) (g .tail) p e)
-  keeps-put g p (x ∷ xs) k w zero e = λ i out. edit-keeps L g p k (there .0) (there .1) (view x) (sp (fileOf (g .records)) (g .tail) p (view x) (map view xs) (k .ok) t) raise raise-is ((good 8 nothing (view x) (t .passes .0)) .known) (x ∷ xs) 0 _ _ i (drop (84 * length (x ∷ xs)) (g .tail)) w out
+  keeps-put g p (x ∷ xs) k w zero e = λ i out. edit-keeps L g p k (there .0) (there .1) (view x) (sp (fileOf (g .records)) p (view x) (map view xs) (k .ok) t) raise raise-is ((good 8 nothing (view x) (t .passes .0)) .known) (x ∷ xs) 0 _ _ i (drop (84 * length (x ∷ xs)) (g .tail)) w out
     where
       there : (partLength (g .records) < p) × (bodyPlace (fileOf (g .records)) p ≤ length ((fileOf (g .records)) .body))
       there = insert-place (fileOf (g .records)) (g .tail) p (map view (x ∷ xs)) e
 
-      t : Fits (before (fileOf (g .records)) (g .tail) p) (after (fileOf (g .records)) (g .tail) p) (view x) (map view xs) ((fileOf (g .records)) .partLength + length ((fileOf (g .records)) .body) + length (view x ∷ map view xs))
+      t : Fits (before (fileOf (g .records)) p) (after (fileOf (g .records)) p) (view x) (map view xs) ((fileOf (g .records)) .partLength + length ((fileOf (g .records)) .body) + length (view x ∷ map view xs))
       t = fits (fileOf (g .records)) (g .tail) p (view x) (map view xs) e
   keeps-put g p blk k w (suc n) e = refl
 
-  keeps-cut : (g : RecordList) (p : ℕ) → Held g → (n : ℕ) → remove11 (fileOf (g .records)) (g .tail) p ≡ n → KeepsList ((conclude n g (removed g p)) .reply) (inFour (headerAbove g p (removedItem g p)) (removedItem g p)) g (withoutItem g p) ((conclude n g (removed g p)) .list)
-  keeps-cut g p k zero e = λ i out. edit-keeps L g p k (remove-place (fileOf (g .records)) (g .tail) p e) (omega (arith, t .inside)) (removedItem g p) (cut-sp (fileOf (g .records)) (g .tail) p (k .ok) t) lower lower-is ((b-good (fileOf (g .records)) (g .tail) p (k .ok) t) .known) [] (suc ((removedItem g p) .dataRecords)) _ _ i (replicate (84 * suc ((removedItem g p) .dataRecords)) 32 ++ g .tail) wide-nil out
+  keeps-cut : (g : RecordList) (p : ℕ) → Held g → (n : ℕ) → remove11 (fileOf (g .records)) p ≡ n → KeepsList ((conclude n g (removed g p)) .reply) (inFour (headerAbove g p (removedItem g p)) (removedItem g p)) g (withoutItem g p) ((conclude n g (removed g p)) .list)
+  keeps-cut g p k zero e = λ i out. edit-keeps L g p k (remove-place (fileOf (g .records)) p e) (omega (arith, t .inside)) (removedItem g p) (cut-sp (fileOf (g .records)) p (k .ok) t) lower lower-is ((b-good (fileOf (g .records)) p (k .ok) t) .known) [] (suc ((removedItem g p) .dataRecords)) _ _ i (replicate (84 * suc ((removedItem g p) .dataRecords)) 32 ++ g .tail) wide-nil out
     where
       t : Cuts ((fileOf (g .records)) .body) (bodyPlace (fileOf (g .records)) p)
-      t = cuts (fileOf (g .records)) (g .tail) p e
+      t = cuts (fileOf (g .records)) p e
   keeps-cut g p k (suc n) e = refl
 
   pub plain-keeps : (c : Edit) (g : RecordList) → Held g → KeepsList ((plain c g) .reply) (inFour (headerAbove g (placeOf c) (itemOf c g)) (itemOf c g)) g (moved c g) ((plain c g) .list)
@@ -214,12 +215,12 @@ module _ (L : Lawful) where
   plain-keeps (remove p) g k = keeps-cut g p k _ refl
 
 -- an edit makes the buffer neither longer nor shorter
-insert-room : (f : File) (tail : List ℕ) (p : ℕ) (block : List View) → insertFault f tail p block ≡ 0 → 84 * length block ≤ length tail
+insert-room : (f : File) (tail : List ℕ) (p : ℕ) (block : List View) → insertFault f p tail block 200000 ≡ 0 → 84 * length block ≤ length tail
 insert-room f tail p block e =
-    let a = first-zero (insert11 f tail p) _ e in
+    let a = first-zero (insert11 f p) _ e in
     let b = first-zero (fault12 block) _ (a .1) in
-    let c = first-zero (insert13 f tail p block) _ (b .1) in
-    let d = first-zero (insert14 f tail p block) (insert15 f tail p block) (c .1) in
+    let c = first-zero (insert13 f p block) _ (b .1) in
+    let d = first-zero (insert14 f p block 200000) (insert15 tail block) (c .1) in
     leb-true _ _ (unless-zero _ _ (d .1))
 
 module _ (L : Lawful) where
@@ -230,7 +231,7 @@ module _ (L : Lawful) where
   halves : (g : RecordList) (p : ℕ) → (length (partRecords g p) + length (bodyRecords g p) ≡ length (g .records)) × (length (take (bodyPlace (file g p) p) (bodyRecords g p)) + length (drop (bodyPlace (file g p) p) (bodyRecords g p)) ≡ length (bodyRecords g p))
   halves g p = (simp length-append at (ap length (take-append-drop (partLength (g .records)) (g .records))), simp length-append at (ap length (take-append-drop (bodyPlace (file g p) p) (bodyRecords g p))))
 
-  size-put : (g : RecordList) (p : ℕ) (blk : List (List ℕ)) → Held g → Wide blk → (n : ℕ) → insertFault (fileOf (g .records)) (g .tail) p (map view blk) ≡ n → length ((bufferOf ((conclude n g (inserted g p blk)) .list)) .bytes) ≡ length ((bufferOf g) .bytes)
+  size-put : (g : RecordList) (p : ℕ) (blk : List (List ℕ)) → Held g → Wide blk → (n : ℕ) → insertFault (fileOf (g .records)) p (g .tail) (map view blk) 200000 ≡ n → length ((bufferOf ((conclude n g (inserted g p blk)) .list)) .bytes) ≡ length ((bufferOf g) .bytes)
   size-put g p [] k w zero e = absurd (empty-refused (fileOf (g .records)) (g .tail) p e)
   size-put g p (x ∷ xs) k w zero e = bytes-length _ (put-held L g p x xs k (fits (fileOf (g .records)) (g .tail) p (view x) (map view xs) e) w) ∙ simp (length-append, length-alterAt) (omega (arith, length-flat (g .records) (k .wide), room, length-map xs view, length-drop (84 * length (x ∷ xs)) (g .tail), halves g p .0, halves g p .1))
     where
@@ -238,14 +239,14 @@ module _ (L : Lawful) where
       room = insert-room (fileOf (g .records)) (g .tail) p (map view (x ∷ xs)) e
   size-put g p blk k w (suc n) e = refl
 
-  size-cut : (g : RecordList) (p : ℕ) → Held g → (n : ℕ) → remove11 (fileOf (g .records)) (g .tail) p ≡ n → length ((bufferOf ((conclude n g (removed g p)) .list)) .bytes) ≡ length ((bufferOf g) .bytes)
+  size-cut : (g : RecordList) (p : ℕ) → Held g → (n : ℕ) → remove11 (fileOf (g .records)) p ≡ n → length ((bufferOf ((conclude n g (removed g p)) .list)) .bytes) ≡ length ((bufferOf g) .bytes)
   size-cut g p k zero e = bytes-length _ (cut-held L g p k t) ∙ simp (length-append, length-alterAt, length-replicate) (omega (arith, length-flat (g .records) (k .wide), room, length-drop (suc ((removedItem g p) .dataRecords)) (drop (bodyPlace (file g p) p) (bodyRecords g p)), halves g p .0, halves g p .1))
     where
       t : Cuts ((fileOf (g .records)) .body) (bodyPlace (fileOf (g .records)) p)
-      t = cuts (fileOf (g .records)) (g .tail) p e
+      t = cuts (fileOf (g .records)) p e
 
       room : suc ((removedItem g p) .dataRecords) ≤ length (drop (bodyPlace (file g p) p) (bodyRecords g p))
-      room = rw (← length-map (drop (bodyPlace (file g p) p) (bodyRecords g p)) view, map-drop view (bodyPlace (fileOf (g .records)) p) (bodyRecords g p)) (enough (fileOf (g .records)) (g .tail) p (k .ok) t)
+      room = rw (← length-map (drop (bodyPlace (file g p) p) (bodyRecords g p)) view, map-drop view (bodyPlace (fileOf (g .records)) p) (bodyRecords g p)) (enough (fileOf (g .records)) p (k .ok) t)
   size-cut g p k (suc n) e = refl
 
   pub plain-size : (c : Edit) (g : RecordList) → Held g → length ((bufferOf ((plain c g) .list)) .bytes) ≡ length ((bufferOf g) .bytes)

@@ -21,7 +21,8 @@ use Rattle.format.specs.Sheet.{Phase, due-a, due-b, due-c, due-d, due-e,
 use Rattle.format.specs.Index as Index
 use Rattle.format.specs.Index.{Stage}
 use Rattle.format.specs.Judge.{dueOf, openOf, headersAndItems, items, sum, File, fileOf}
-use Rattle.format.specs.Edit.{Edit, insert, remove, dueBehind, bodyPlace}
+use Rattle.format.specs.Edit.{dueBehind, bodyPlace}
+use Rattle.format.specs.Calls.{Edit, insert, remove}
 use Rattle.format.specs.Above.{HeaderAbove, countWithAbove}
 use Rattle.format.specs.Run.{Buffer, sheetOf}
 

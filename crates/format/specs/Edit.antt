@@ -1,11 +1,11 @@
--- Inserting and removing items: the plain record list, which never judges. Assumes nothing.
+-- What one insertion or one removal does to a plain record list, and why it is refused. Assumes nothing.
 use mathlib.Core.Bool.{Bool, true, cond, not, _&&_, _||_}
 use mathlib.Core.List.{List, [], _∷_, _++_, map}
 use Prim.Native.Nat.{ℕ, zero, suc, pred, _+_, _-_, _*_, _/_, _%_}
 use lib.Dec.{leb, ltb, eqb}
 use lib.ListN.{length, take, drop, getD, replicate}
 use Rattle.format.specs.Basics.{Answer, given, refused, first, unless, fine, chunks}
-use Rattle.format.specs.Record.{head, item, isHead, countIndex, nothing, View, view, raise, lower}
+use Rattle.format.specs.Record.{head, isHead, countIndex, nothing, View, view, raise, lower}
 use Rattle.format.specs.Sheet.{writeCounts}
 use Rattle.format.specs.Judge.{openAfter, dueAfter, walk, isHeaderAt, File, fileOf}
 
@@ -51,17 +51,20 @@ abbrev pub fault13 : (opened : ℕ) → View → (after : List View) → ℕ
 fault13 opened itemView after = unless (leb (itemView .level) (suc opened) && notBelow (itemView .level) after) 13
 
 -- 14: "header total would pass 99,999, its grid and net count 9, or the file 200,000 records": by the header above the block, the count
--- that the block belongs to, and the records there would be
-abbrev pub fault14 : (above : View) → (kind records : ℕ) → ℕ
-fault14 above kind records =
-    unless (leb (above .total + 1) 99999 && (not (eqb kind 9) || leb (above .count kind + 1) 9) && leb records 200000) 14
+-- that the block belongs to, the records there would be, and the limit of these
+abbrev pub fault14 : (above : View) → (kind records limit : ℕ) → ℕ
+fault14 above kind records limit =
+    unless (leb (above .total + 1) 99999 && (not (eqb kind 9) || leb (above .count kind + 1) 9) && leb records limit) 14
+
+-- 15: "a buffer is too short for the result"; behind the records stand the bytes of `tail`
+abbrev pub insert15 : (tail : List ℕ) → List View → ℕ
+insert15 tail block = unless (leb (84 * length block) (length tail)) 15
 
 -- ---- A place of a sheet is a record number, "Records number from 1": so many records of the body stand before it
 abbrev pub bodyPlace : File → (place : ℕ) → ℕ
 bodyPlace f place = place - suc (f .partLength)
 
--- behind the records stand the bytes of `tail`
-module _ (f : File) (tail : List ℕ) (place : ℕ) where
+module _ (f : File) (place : ℕ) where
   abbrev pub before : List View
   before = take (bodyPlace f place) (f .body)
 
@@ -84,16 +87,12 @@ module _ (f : File) (tail : List ℕ) (place : ℕ) where
   abbrev pub aboveBlock : List View → View
   aboveBlock block = getD before (pred (aboveIn ((getD block 0 absent) .level) before)) absent
 
-  abbrev pub insert14 : List View → ℕ
-  insert14 block = fault14 (aboveBlock block) (countIndex ((getD block 0 absent) .kind)) (f .partLength + length (f .body) + length block)
+  abbrev pub insert14 : List View → (limit : ℕ) → ℕ
+  insert14 block limit = fault14 (aboveBlock block) (countIndex ((getD block 0 absent) .kind)) (f .partLength + length (f .body) + length block) limit
 
-  -- 15: "a buffer is too short for the result"
-  abbrev pub insert15 : List View → ℕ
-  insert15 block = unless (leb (84 * length block) (length tail)) 15
-
-  -- "then 11 to 15 in order"; 0 where nothing refuses the block
-  abbrev pub insertFault : List View → ℕ
-  insertFault block = first insert11 (first (fault12 block) (first (insert13 block) (first (insert14 block) (insert15 block))))
+  -- "then 11 to 15 in order", with a limit of the records; 0 where nothing refuses the block
+  abbrev pub insertFault : (tail : List ℕ) → List View → (limit : ℕ) → ℕ
+  insertFault tail block limit = first insert11 (first (fault12 block) (first (insert13 block) (first (insert14 block limit) (insert15 tail block))))
 
 -- ---- "The plain record list keeps records and behind them a tail"
 pub record RecordList : Type 0 where
@@ -119,7 +118,7 @@ module _ (list : RecordList) (place : ℕ) where
 
   -- the body's records before the place, with the header above an item there changed in the item's count
   abbrev pub changed : ((kind : ℕ) → List ℕ → List ℕ) → View → List (List ℕ)
-  changed change itemView = alterAt (change (countIndex (itemView .kind))) (pred (aboveIn (itemView .level) (before file (list .tail) place))) (take (bodyPlace file place) bodyRecords)
+  changed change itemView = alterAt (change (countIndex (itemView .kind))) (pred (aboveIn (itemView .level) (before file place))) (take (bodyPlace file place) bodyRecords)
 
   abbrev pub firstView : List (List ℕ) → View
   firstView block = getD (map view block) 0 absent
@@ -142,29 +141,9 @@ module _ (list : RecordList) (place : ℕ) where
     tail = replicate (84 * suc (removedItem .dataRecords)) 32 ++ list .tail;
   }
 
--- "It is fed each call's place and, for an insertion, its block, but never an answer"
-pub data Edit : Type 0 where
-  insert : (place : ℕ) → (block : List ℕ) → Edit
-  remove : (place : ℕ) → Edit
-
 -- the records of a block; one that is no whole number of records is no item, like the empty one: 12
 abbrev pub blockOf : List ℕ → List (List ℕ)
 blockOf block = cond (eqb (length block % 84) 0) (chunks (length block / 84) block) []
-
-pub record PlainStep : Type 0 where
-  pub reply : Answer ℕ
-  pub list : RecordList
-
--- "Where a refusal after judging applies .., it answers the first in order and changes nothing", at record 0;
--- else "It answers its records' length in bytes"
-abbrev pub conclude : (fault : ℕ) → (old new : RecordList) → PlainStep
-conclude zero old new = record { reply = given (84 * length (new .records)); list = new }
-conclude (suc n) old new = record { reply = refused (suc n) 0; list = old }
-
-unfoldable pub plain : Edit → RecordList → PlainStep
-plain (insert place block) list =
-    conclude (insertFault (fileOf (list .records)) (list .tail) place (map view (blockOf block))) list (inserted list place (blockOf block))
-plain (remove place) list = conclude (remove11 (fileOf (list .records)) (list .tail) place) list (removed list place)
 
 -- ---- A block alone: the item that it is, by the count of a header that it belongs to and its level; else 12, "block is not exactly one item that
 -- passes 4 to 9 but for nesting, level 2..9"

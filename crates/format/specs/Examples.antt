@@ -16,7 +16,8 @@ use Rattle.format.specs.Record.{typeOf, countName, dataColumns, directio
 use Rattle.format.specs.Sheet.{wholesOf, fractionsOf, partLength, sheetFault, corners, statedElements, statedRecords, writeCounts}
 use Rattle.format.specs.Index.{indexFault}
 use Rattle.format.specs.Judge.{judge, judgeRecords, judgeIndexRecords, judgeSheet, judgeIndex}
-use Rattle.format.specs.Edit.{Edit, plain, insert, remove, BlockItem, blockItem}
+use Rattle.format.specs.Edit.{BlockItem, blockItem}
+use Rattle.format.specs.Calls.{Edit, plain, insert, remove}
 use Rattle.format.specs.Run.{call, runBuffer, repliesBuffer, inFour}
 use Rattle.format.specs.Above.{toHeader, up}
 use Rattle.format.specs.Program.{line, printed}

@@ -10,7 +10,8 @@ use Rattle.format.specs.Layout.{Col, find, header, sheetB}
 use Rattle.format.specs.Record.{View, countIndex, countName}
 use Rattle.format.specs.Sheet.{statedElements}
 use Rattle.format.specs.Judge.{Counts, File, fileOf, accepted, judgeSheet}
-use Rattle.format.specs.Edit.{RecordList, Edit, insert, remove, PlainStep, plain, aboveIn, before, blockOf, firstView, removedItem}
+use Rattle.format.specs.Edit.{RecordList, aboveIn, before, blockOf, firstView, removedItem}
+use Rattle.format.specs.Calls.{Edit, insert, remove, PlainStep, plain}
 use Rattle.format.specs.Above.{up, WayAnswered}
 
 -- a lent buffer and the used length
@@ -92,7 +93,7 @@ itemOf (remove place) list = removedItem list place
 
 -- the record number of the header above an item there
 abbrev pub headerAbove : RecordList → (place : ℕ) → (itemView : View) → ℕ
-headerAbove list place itemView = (fileOf (list .records)) .partLength + aboveIn (itemView .level) (before (fileOf (list .records)) (list .tail) place)
+headerAbove list place itemView = (fileOf (list .records)) .partLength + aboveIn (itemView .level) (before (fileOf (list .records)) place)
 
 -- byte i of a buffer lies in this column of this record
 abbrev pub inColumn : (number : ℕ) → Col → (i : ℕ) → Bool
