@@ -16,11 +16,11 @@ use Rattle.format.specs.declared.Column.the-variants.{Malformed}
 use Rattle.format.specs.Column.{strip, isDigit, allDigits, valueOf, isNumber, negative, positive, signed, columnOf}
 use Rattle.format.proofs.Basics.{and-true}
 use Rattle.format.proofs.Columns.{Byte, v-space, v-minus, v-digit, v-other, byte}
-use Rattle.columns.specs.declared.Kind.{Kind}
-use Rattle.columns.specs.declared.Kind.the-variants.{Space, Minus, Digit, Other}
+use Rattle.columns.specs.declared.Role.{Role}
+use Rattle.columns.specs.declared.Role.the-variants.{Space, Minus, Digit, Other}
 use Rattle.columns.specs.declared.State.{State}
 use Rattle.columns.specs.declared.State.the-variants.{Blank, Signed, Digits, Bad}
-use Rattle.columns.specs.ReadSteps.{kindOf, stepKind, stepOf, finishNumber, finishOf, numberKept, run}
+use Rattle.columns.specs.ReadSteps.{roleOf, stepRole, stepOf, finishNumber, finishOf, numberKept, run}
 
 -- ---- after digits, after a minus, after spaces
 
@@ -38,7 +38,7 @@ abbrev Result : Bool → ℕ → List ℕ → Column
 Result m n l = cond (allDigits l) (finishNumber m (n * 10 ^ length l + valueOf l)) Malformed
 
 digits-step : (b : ℕ) (bs : List ℕ) (m : Bool) (n : ℕ) → Byte b → finishOf (run (Digits m (n * 10 + (b - 48))) bs) ≡ Result m (n * 10 + (b - 48)) bs → finishOf (run (Digits m n) (b ∷ bs)) ≡ Result m n (b ∷ bs)
-unfolding run kindOf isDigit allDigits valueOf
+unfolding run roleOf isDigit allDigits valueOf
 digits-step b bs m n (v-space e) ih = rw e (ap finishOf (bad-run bs))
 digits-step b bs m n (v-minus e) ih = rw e (ap finishOf (bad-run bs))
 digits-step b bs m n (v-digit p q r) ih =
@@ -51,7 +51,7 @@ digits-run [] m n = ap (finishNumber m) (omega arith)
 digits-run (b ∷ bs) m n = digits-step b bs m n (byte b) (digits-run bs m (n * 10 + (b - 48)))
 
 signed-step : (b : ℕ) (bs : List ℕ) → Byte b → finishOf (run Signed (b ∷ bs)) ≡ negative (b ∷ bs)
-unfolding run kindOf isDigit allDigits valueOf isNumber negative
+unfolding run roleOf isDigit allDigits valueOf isNumber negative
 signed-step b bs (v-space e) = rw e (ap finishOf (bad-run bs))
 signed-step b bs (v-minus e) = rw e (ap finishOf (bad-run bs))
 signed-step b bs (v-digit p q r) = simp (p, q, r) (digits-run bs true (b - 48))
@@ -63,7 +63,7 @@ signed-run [] = refl
 signed-run (b ∷ bs) = signed-step b bs (byte b)
 
 blank-step : (b : ℕ) (bs : List ℕ) → Byte b → finishOf (run Blank bs) ≡ columnOf bs → finishOf (run Blank (b ∷ bs)) ≡ columnOf (b ∷ bs)
-unfolding run kindOf isDigit allDigits valueOf isNumber positive signed strip columnOf
+unfolding run roleOf isDigit allDigits valueOf isNumber positive signed strip columnOf
 blank-step b bs (v-space e) ih = rw e ih
 blank-step b bs (v-minus e) ih = rw e (signed-run bs)
 blank-step b bs (v-digit p q r) ih = simp (p, q, r) (digits-run bs false (b - 48))
@@ -77,20 +77,20 @@ means (b ∷ bs) = blank-step b bs (byte b) (means bs)
 
 -- ---- the number that is kept stays below 10 ^ i after i bytes
 
-digitIn : Kind → ℕ
+digitIn : Role → ℕ
 digitIn Space = 0
 digitIn Minus = 0
 digitIn (Digit d) = d
 digitIn Other = 0
 
-digit-small : (b : ℕ) → Byte b → digitIn (kindOf b) ≤ 9
-unfolding isDigit kindOf digitIn
+digit-small : (b : ℕ) → Byte b → digitIn (roleOf b) ≤ 9
+unfolding isDigit roleOf digitIn
 digit-small b (v-space e) = rw e (omega arith)
 digit-small b (v-minus e) = rw e (omega arith)
 digit-small b (v-digit p q r) = simp (p, q, r) (omega (arith, leb-true b 57 (and-true (leb 48 b) (leb b 57) r .1)))
 digit-small b (v-other p q r) = simp (p, q, r) (omega arith)
 
-step-small : (s : State) (k : Kind) → numberKept (stepKind s k) ≤ numberKept s * 10 + digitIn k
+step-small : (s : State) (k : Role) → numberKept (stepRole s k) ≤ numberKept s * 10 + digitIn k
 unfolding digitIn
 step-small Blank Space = omega arith
 step-small Blank Minus = omega arith
@@ -108,7 +108,7 @@ step-small Bad k = omega arith
 
 grows : (s : State) (b i : ℕ) → numberKept s < 10 ^ i → numberKept (stepOf s b) < 10 ^ (i + 1)
 grows s b i h =
-    rw (add-one, pow-suc) (omega (arith, step-small s (kindOf b), digit-small b (byte b)))
+    rw (add-one, pow-suc) (omega (arith, step-small s (roleOf b), digit-small b (byte b)))
 
 -- all the bytes of a list
 pub run-small : (l : List ℕ) (s : State) (i : ℕ) → numberKept s < 10 ^ i → numberKept (run s l) < 10 ^ (i + length l)

@@ -12,10 +12,10 @@ use mir.Syntax.{w64}
 use mir.Val.{Fits, SFits, toZ, ofZ}
 use mir.ValLaws.{toZ-pos}
 use Rattle.format.specs.declared.Column.the-variants.{Value}
-use Rattle.columns.specs.declared.Kind.{Kind}
+use Rattle.columns.specs.declared.Role.{Role}
 use Rattle.columns.specs.declared.State.{State}
 use Rattle.columns.specs.declared.State.the-variants.{Digits}
-use Rattle.columns.specs.ReadSteps.{stepKind, finishOf, numberKept}
+use Rattle.columns.specs.ReadSteps.{stepRole, finishOf, numberKept}
 use Rattle.columns.specs.declared.Rest.{Rest}
 use Rattle.columns.specs.declared.Rest.the-variants.{Minus, Spaces}
 use Rattle.columns.specs.declared.Rest.the-variants as Rest
@@ -24,9 +24,9 @@ use Rattle.columns.proofs.Numbers.{minus-fits, minus-back}
 
 -- ---- `step`
 
--- the state and the kind that the arms found
-pub stepped : {s s′ r : State} {k k′ k″ : Kind} → s ≡ s′ → k ≡ k″ → k ≡ k′ → stepKind s′ k′ ≡ r → r ≡ stepKind s k″
-stepped e f g h = sym h ∙ ap₂ stepKind (sym e) (sym g ∙ f)
+-- the state and the role that the arms found
+pub stepped : {s s′ r : State} {k k′ k″ : Role} → s ≡ s′ → k ≡ k″ → k ≡ k′ → stepRole s′ k′ ≡ r → r ≡ stepRole s k″
+stepped e f g h = sym h ∙ ap₂ stepRole (sym e) (sym g ∙ f)
 
 module _ {s : State} {m : Bool} {n : ℕ} (e : s ≡ Digits m n) (h : numberKept s < 10 ^ 18) where
   kept : n < 10 ^ 18

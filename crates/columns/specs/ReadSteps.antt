@@ -8,32 +8,32 @@ use lib.IntN.{pos, negℤ}
 use Rattle.format.specs.Column.{isDigit}
 use Rattle.format.specs.declared.Column.{Column}
 use Rattle.format.specs.declared.Column.the-variants.{Value, MinusZero, Malformed}
-use Rattle.columns.specs.declared.Kind.{Kind}
-use Rattle.columns.specs.declared.Kind.the-variants.{Space, Minus, Digit, Other}
+use Rattle.columns.specs.declared.Role.{Role}
+use Rattle.columns.specs.declared.Role.the-variants.{Space, Minus, Digit, Other}
 use Rattle.columns.specs.declared.State.{State}
 use Rattle.columns.specs.declared.State.the-variants.{Blank, Signed, Digits, Bad}
 
 -- space is 32, minus 45
-unfoldable pub kindOf : ℕ → Kind
-kindOf b = cond (eqb b 32) Space (cond (eqb b 45) Minus (cond (isDigit b) (Digit (b - 48)) Other))
+unfoldable pub roleOf : ℕ → Role
+roleOf b = cond (eqb b 32) Space (cond (eqb b 45) Minus (cond (isDigit b) (Digit (b - 48)) Other))
 
-abbrev pub stepKind : State → Kind → State
-stepKind Blank Space = Blank
-stepKind Blank Minus = Signed
-stepKind Blank (Digit d) = Digits false d
-stepKind Blank Other = Bad
-stepKind Signed Space = Bad
-stepKind Signed Minus = Bad
-stepKind Signed (Digit d) = Digits true d
-stepKind Signed Other = Bad
-stepKind (Digits m n) Space = Bad
-stepKind (Digits m n) Minus = Bad
-stepKind (Digits m n) (Digit d) = Digits m (n * 10 + d)
-stepKind (Digits m n) Other = Bad
-stepKind Bad k = Bad
+abbrev pub stepRole : State → Role → State
+stepRole Blank Space = Blank
+stepRole Blank Minus = Signed
+stepRole Blank (Digit d) = Digits false d
+stepRole Blank Other = Bad
+stepRole Signed Space = Bad
+stepRole Signed Minus = Bad
+stepRole Signed (Digit d) = Digits true d
+stepRole Signed Other = Bad
+stepRole (Digits m n) Space = Bad
+stepRole (Digits m n) Minus = Bad
+stepRole (Digits m n) (Digit d) = Digits m (n * 10 + d)
+stepRole (Digits m n) Other = Bad
+stepRole Bad k = Bad
 
 abbrev pub stepOf : State → ℕ → State
-stepOf s b = stepKind s (kindOf b)
+stepOf s b = stepRole s (roleOf b)
 
 -- the state after more bytes
 unfoldable pub run : State → List ℕ → State

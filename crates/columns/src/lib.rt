@@ -8,7 +8,7 @@ ghost use Rattle.format.specs.Column.{columnOf, integer, readAlone, writeAlone}
 ghost use Rattle.format.specs.Layout.{spaces};
 ghost use Rattle.format.specs.Answers.{numberAnswer, writtenAnswer};
 ghost use Rattle.columns.specs.InRecord.{columnAt, numberIn, spacesAt, writeAt};
-ghost use Rattle.columns.specs.ReadSteps.{kindOf, stepOf, finishOf, numberKept};
+ghost use Rattle.columns.specs.ReadSteps.{roleOf, stepOf, finishOf, numberKept};
 ghost use Rattle.columns.specs.WriteSteps.{byteOf, beforeOf, filled, choiceOf};
 use format::Column;
 use format::Number;
@@ -20,7 +20,7 @@ const WIDEST: usize = 18;
 // ---- reading
 
 // What a byte is to a column.
-enum Kind {
+enum Role {
     Space,
     Minus,
     Digit(u8),
@@ -36,22 +36,22 @@ enum State {
     Bad,
 }
 
-fn kind_of(b: u8) -> Kind
-    ensures { λ r. ⌜ r ≡ kindOf b ⌝ }
+fn role_of(b: u8) -> Role
+    ensures { λ r. ⌜ r ≡ roleOf b ⌝ }
 {
     if b == b' ' {
-        return Kind::Space;
+        return Role::Space;
     }
     if b == b'-' {
-        return Kind::Minus;
+        return Role::Minus;
     }
     if b < b'0' {
-        return Kind::Other;
+        return Role::Other;
     }
     if b <= b'9' {
-        Kind::Digit(b - b'0')
+        Role::Digit(b - b'0')
     } else {
-        Kind::Other
+        Role::Other
     }
 }
 
@@ -60,25 +60,25 @@ fn step(s: State, b: u8) -> State
     requires { ⌜ numberKept s < 10 ^ 18 ⌝ }
     ensures { λ r. ⌜ r ≡ stepOf s b ⌝ }
 {
-    let k = kind_of(b);
+    let k = role_of(b);
     match s {
         State::Blank => match k {
-            Kind::Space => State::Blank,
-            Kind::Minus => State::Signed,
-            Kind::Digit(d) => State::Digits(false, d as u64),
-            Kind::Other => State::Bad,
+            Role::Space => State::Blank,
+            Role::Minus => State::Signed,
+            Role::Digit(d) => State::Digits(false, d as u64),
+            Role::Other => State::Bad,
         },
         State::Signed => match k {
-            Kind::Space => State::Bad,
-            Kind::Minus => State::Bad,
-            Kind::Digit(d) => State::Digits(true, d as u64),
-            Kind::Other => State::Bad,
+            Role::Space => State::Bad,
+            Role::Minus => State::Bad,
+            Role::Digit(d) => State::Digits(true, d as u64),
+            Role::Other => State::Bad,
         },
         State::Digits(minus, n) => match k {
-            Kind::Space => State::Bad,
-            Kind::Minus => State::Bad,
-            Kind::Digit(d) => State::Digits(minus, n * 10 + (d as u64)),
-            Kind::Other => State::Bad,
+            Role::Space => State::Bad,
+            Role::Minus => State::Bad,
+            Role::Digit(d) => State::Digits(minus, n * 10 + (d as u64)),
+            Role::Other => State::Bad,
         },
         State::Bad => State::Bad,
     }

@@ -4,8 +4,8 @@ use Rattle.columns.proofs.Steps.{stepped, factor-fits, digit-fits}
 use Rattle.columns.proofs.step.Statement.{statement}
 use Rattle.columns.proofs.step.Tie as tie
 
-kind-of-requires : tie.Need-kind-of-requires
-kind-of-requires c κs = search needs
+role-of-requires : tie.Need-role-of-requires
+role-of-requires c κs = search needs
 
 enum-told : tie.Need-enum-told
 enum-told c = search needs
@@ -113,7 +113,7 @@ pub step-spec : {M : Type 1} → statement M
 step-spec =
     tie.close
     (tie.spec
-    kind-of-requires
+    role-of-requires
     enum-told
     enum-told-2
     enum-told-3
