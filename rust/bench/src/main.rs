@@ -7,7 +7,7 @@ use reference::random::Random;
 use reference::{judge, sheets, RECORD};
 use std::hint::black_box;
 use std::time::Instant;
-use zvaigulta::{insert, judge_sheet, remove};
+use zvaigulta::{insert, judge_sheet, normal_sheet, remove, way_up};
 
 const ROUNDS: usize = 9;
 
@@ -180,6 +180,8 @@ fn once(what: &str, records: usize) {
             println!("{:?}", insert(&mut file, used, place, &sheets::item(&mut Random(5), 2, 2).concat()))
         }
         "remove" | "remove-last" => println!("{:?}", remove(&mut file, used, place)),
+        "normal" => println!("{:?}", normal_sheet(&file, used, &mut vec![0; used])),
+        "way-up" | "way-up-last" => println!("{:?}", way_up(&file, used, place)),
         _ => println!("{:?}", judge_sheet(&file, used)),
     }
 }
@@ -195,7 +197,7 @@ fn main() {
         }
         ["once", what, records] => once(what, records.parse().expect("a number of records")),
         _ => {
-            eprintln!("usage: bench | bench once grids|mixed|elements|insert|insert-last|remove|remove-last RECORDS");
+            eprintln!("usage: bench | bench once grids|mixed|elements|insert|insert-last|remove|remove-last|normal|way-up|way-up-last RECORDS");
             std::process::exit(2);
         }
     }
