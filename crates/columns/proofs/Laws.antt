@@ -15,74 +15,13 @@ use Rattle.format.specs.Column.{strip, valueOf, isNumber, positive, signed, col
 use Rattle.format.specs.Layout.{column, splice}
 use Rattle.format.proofs.Basics.{and-true}
 use Rattle.format.proofs.Columns.{Byte, v-space, v-minus, v-digit, v-other, byte, length-column, length-written, length-splice, column-own}
-use Rattle.format.proofs.ColumnFits.{fits-plus, fits-minus}
+use Rattle.format.proofs.NormalReads.{read-fits}
 use Rattle.format.proofs.ColumnRoundTrip.{reads-back}
 use Rattle.columns.specs.declared.State.{State}
 use Rattle.columns.specs.declared.State.the-variants.{Blank, Signed, Digits, Bad}
 use Rattle.columns.specs.ReadSteps.{finishOf, numberKept, run}
 use Rattle.columns.specs.InRecord.{columnAt, Rewritten, writeAt}
 use Rattle.columns.proofs.Reading.{run-small, signed-run, means}
-
--- ---- A VALUE THAT WAS READ FITS ITS WIDTH
-
-size-minus : (n : ℕ) → natAbs (negℤ (pos n)) ≡ n
-size-minus zero = refl
-size-minus (suc n) = refl
-
--- the number that the pass keeps is the size of the value
-size-kept : (s : State) (z : ℤ) → finishOf s ≡ Value z → natAbs z ≡ numberKept s
-size-kept Blank z e = let x : _≡_ {A = ℕ} 0 1 = cc in absurd (omega arith)
-size-kept Signed z e = let x : _≡_ {A = ℕ} 0 1 = cc in absurd (omega arith)
-size-kept (Digits false n) z e = let x : pos n ≡ z = cc in ap natAbs (sym x)
-size-kept (Digits true n) z e = at-test (eqb n 0) e
-  where
-    at-test : (t : Bool) → cond t MinusZero (Value (negℤ (pos n))) ≡ Value z → natAbs z ≡ n
-    at-test true e = let x : _≡_ {A = ℕ} 0 1 = cc in absurd (omega arith)
-    at-test false e = let x : negℤ (pos n) ≡ z = cc in ap natAbs (sym x) ∙ size-minus n
-size-kept Bad z e = let x : _≡_ {A = ℕ} 0 1 = cc in absurd (omega arith)
-
-pass-below : (s : State) (l : List ℕ) (z : ℤ) → numberKept s < 10 ^ 0 → finishOf (run s l) ≡ Value z → natAbs z < 10 ^ length l
-pass-below s l z h e =
-    let k : 0 + length l ≡ length l = omega arith in
-    rw (size-kept (run s l) z e) (rw k at (run-small l s 0 h))
-
--- of any list of bytes
-pub read-below : (l : List ℕ) (z : ℤ) → columnOf l ≡ Value z → natAbs z < 10 ^ length l
-read-below l z e = pass-below Blank l z (omega arith) (means l ∙ e)
-
-fits-wider : (v w : ℕ) (z : ℤ) → v ≤ w → fits v z ≡ true → fits w z ≡ true
-unfolding fits
-fits-wider v w z h e = le-leb (length (textOf z)) w (omega (arith, leb-true (length (textOf z)) v e))
-
--- with a byte for the minus
-fits-any-sign : (w : ℕ) (z : ℤ) → w ≤ 18 → natAbs z < 10 ^ w → fits (suc w) z ≡ true
-fits-any-sign w (pos n) h k =
-    let k′ : n < 10 ^ suc w = rw pow-suc (omega arith) in
-    fits-plus (suc w) n (omega arith) (omega arith) ∙ lt-ltb n (10 ^ suc w) k′
-fits-any-sign w (negsuc n) h k = fits-minus w n (omega arith) ∙ lt-ltb (suc n) (10 ^ w) k
-
-plain-only : (l : List ℕ) (z : ℤ) → positive l ≡ Value z → z ≡ pos (natAbs z)
-unfolding positive
-plain-only l z = at-test (isNumber l)
-  where
-    at-test : (t : Bool) → cond t (Value (pos (valueOf l))) Malformed ≡ Value z → z ≡ pos (natAbs z)
-    at-test true e = let x : pos (valueOf l) ≡ z = cc in rw (← x)
-    at-test false e = let x : _≡_ {A = ℕ} 0 1 = cc in absurd (omega arith)
-
-plain-fits : (l : List ℕ) (z : ℤ) → 1 ≤ length l → length l ≤ 18 → natAbs z < 10 ^ length l → positive l ≡ Value z → fits (length l) z ≡ true
-plain-fits l z h k b e = rw (plain-only l z e) (fits-plus (length l) (natAbs z) h (omega arith) ∙ lt-ltb (natAbs z) (10 ^ length l) b)
-
-fits-step : (b : ℕ) (bs : List ℕ) (z : ℤ) → Byte b → suc (length bs) ≤ 18 → (columnOf bs ≡ Value z → fits (length bs) z ≡ true) → columnOf (b ∷ bs) ≡ Value z → fits (suc (length bs)) z ≡ true
-unfolding columnOf strip signed
-fits-step b bs z (v-space e) h ih c = fits-wider (length bs) (suc (length bs)) z (omega arith) (ih (rw e at c))
-fits-step b bs z (v-minus e) h ih c = fits-any-sign (length bs) z (omega arith) (pass-below Signed bs z (omega arith) (signed-run bs ∙ rw e at c))
-fits-step b bs z (v-digit p q r) h ih c = plain-fits (b ∷ bs) z (omega arith) h (read-below (b ∷ bs) z c) (simp (p, q) at c)
-fits-step b bs z (v-other p q r) h ih c = plain-fits (b ∷ bs) z (omega arith) h (read-below (b ∷ bs) z c) (simp (p, q) at c)
-
-pub read-fits : (l : List ℕ) (z : ℤ) → length l ≤ 18 → columnOf l ≡ Value z → fits (length l) z ≡ true
-unfolding columnOf strip signed
-read-fits [] z h c = let x : _≡_ {A = ℕ} 0 1 = cc in absurd (omega arith)
-read-fits (b ∷ bs) z h c = fits-step b bs z (byte b) h (read-fits bs z (omega arith)) c
 
 -- ---- A COLUMN INSIDE A RECORD
 
@@ -108,12 +47,9 @@ module _ (l : List ℕ) (start width : ℕ) where
     value-width : length (column start width l) ≡ width
     value-width = length-column start width l (value-inside .0)
 
-    pub value-below : natAbs z < 10 ^ width
-    value-below = rw value-width at (read-below (column start width l) z value-read)
-
     -- so it can be written again in the same width
     pub value-fits : fits width z ≡ true
-    value-fits = rw value-width at (read-fits (column start width l) z (rw value-width (value-inside .1)) value-read)
+    value-fits = rw value-width at (read-fits (column start width l) z (rw value-width (value-inside .1)) value-read .1)
 
   -- ---- a number written into a record
 

@@ -30,8 +30,8 @@ bad-run [] = refl
 bad-run (b ∷ bs) = bad-run bs
 
 -- one more digit: n, a digit d and k digits of value v
-more : (n d k v : ℕ) → (n * 10 + d) * 10 ^ k + v ≡ n * 10 ^ suc k + (d * 10 ^ k + v)
-more n d k v = omega (arith, add-mul (n * 10) d (10 ^ k), mul-assoc n 10 (10 ^ k), ap (λ (x : ℕ). n * x) (pow-succ' 10 k))
+pub digit-more : (n d k v : ℕ) → (n * 10 + d) * 10 ^ k + v ≡ n * 10 ^ suc k + (d * 10 ^ k + v)
+digit-more n d k v = omega (arith, add-mul (n * 10) d (10 ^ k), mul-assoc n 10 (10 ^ k), ap (λ (x : ℕ). n * x) (pow-succ' 10 k))
 
 -- what n and the digits of l say
 abbrev Result : Bool → ℕ → List ℕ → Column
@@ -42,7 +42,7 @@ unfolding run roleOf isDigit allDigits valueOf
 digits-step b bs m n (v-space e) ih = rw e (ap finishOf (bad-run bs))
 digits-step b bs m n (v-minus e) ih = rw e (ap finishOf (bad-run bs))
 digits-step b bs m n (v-digit p q r) ih =
-    simp (p, q, r) (ih ∙ ap (λ (x : ℕ). cond (allDigits bs) (finishNumber m x) Malformed) (more n (b - 48) (length bs) (valueOf bs)))
+    simp (p, q, r) (ih ∙ ap (λ (x : ℕ). cond (allDigits bs) (finishNumber m x) Malformed) (digit-more n (b - 48) (length bs) (valueOf bs)))
 digits-step b bs m n (v-other p q r) ih = simp (p, q, r) (ap finishOf (bad-run bs))
 
 digits-run : (l : List ℕ) (m : Bool) (n : ℕ) → finishOf (run (Digits m n) l) ≡ Result m n l

@@ -11,10 +11,11 @@ use lib.Dec.{ltb, lit<, leb·suc-zero}
 use lib.IntN.{ℤ, pos, negsuc, natAbs}
 use lib.Signed.{ltZ}
 use lib.ListN.{length, drop, set, replicate, length-set, length-append, length-replicate, replicate-append-replicate}
-use lib.Seq.{take-all, drop-set-lt, drop-cons, drop-length, getD-set-same}
+use lib.Seq.{take-all, drop-length}
 use mir.Syntax.{w64}
 use mir.Val.{Fits}
 use Rattle.format.specs.Column.{digitsIn, digits, textOf, fits, written}
+use Rattle.format.proofs.Lists.{drop-set}
 use Rattle.format.proofs.ColumnFits.{fits-plus, fits-minus}
 use Rattle.format.proofs.Columns.{Size, below, above, size-of}
 use Rattle.columns.specs.declared.Rest.{Rest}
@@ -25,11 +26,6 @@ use Rattle.columns.specs.WriteSteps.{byteOf, beforeOf, filled}
 
 pub nothing-stored : (l : List ℕ) (s : Rest) → filled (length l) s ++ drop (length l) l ≡ filled (length l) s
 nothing-stored l s = rw drop-length (append-nil (filled (length l) s))
-
-drop-set : (l : List ℕ) (j b : ℕ) → j < length l → drop j (set l j b) ≡ b ∷ drop (suc j) l
-drop-set l j b h =
-    let h′ : j < length (set l j b) = simp length-set h in
-    rw (drop-cons (set l j b) j 0 h′, getD-set-same l j b 0 h, drop-set-lt (suc j) l j b (omega arith))
 
 one-stored : (l : List ℕ) (j : ℕ) (s : Rest) → j < length l → filled j (beforeOf s) ++ drop j (set l j (byteOf s)) ≡ filled (suc j) s ++ drop (suc j) l
 unfolding filled

@@ -15,7 +15,8 @@ use Rattle.format.specs.Corner.{isUnit, most, millimetresEach, opposite, fracti
 use Rattle.format.specs.Answers.{numberAnswer}
 use Rattle.format.specs.declared.Number.the-variants.{Is, Refused}
 use Rattle.format.proofs.ColumnFits.{fits-range, fits-size}
-use Rattle.corners.proofs.Signed.{held, back, fits-abs, abs-neg, abs-mul, abs-add, size-range}
+use Rattle.format.proofs.Basics.{abs-neg}
+use Rattle.corners.proofs.Signed.{held, back, fits-abs, abs-mul, abs-add, size-range}
 
 -- ---- signs
 below-zero : (w : ℤ) → ltZ w (pos 0) ≡ true → ltZ (pos 0) w ≡ false

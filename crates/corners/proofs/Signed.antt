@@ -11,6 +11,7 @@ use mir.Syntax.{w64}
 use mir.Val.{SFits, toZ, ofZ}
 use mir.ValLaws.{toZ-ofZ, sfits-le}
 use Rattle.format.specs.Basics.{minus}
+use Rattle.format.proofs.Basics.{abs-neg}
 use Rattle.format.proofs.ColumnFits.{minus-pos, minus-negsuc}
 
 -- ---- bits: a number as an `i64` holds it, which is how code reads each operand
@@ -31,10 +32,6 @@ mag-le (negsuc n) = omega arith
 
 pub fits-abs : (z : ℤ) → natAbs z < 2 ^ 63 → SFits w64 z
 fits-abs z h = record { sfits = omega (arith, mag-le z) }
-
-pub abs-neg : (n : ℕ) → natAbs (negℤ (pos n)) ≡ n
-abs-neg zero = refl
-abs-neg (suc n) = refl
 
 pub abs-mul : (a b : ℤ) → natAbs (a *ℤ b) ≡ natAbs a * natAbs b
 abs-mul (pos a) (pos b) = refl

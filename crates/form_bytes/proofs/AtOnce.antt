@@ -14,7 +14,7 @@ use lib.Seq.{length-take-le}
 use Rattle.format.specs.declared.Column.the-variants.{Value, MinusZero, Malformed}
 use Rattle.format.specs.Column.{strip, isDigit, allDigits, valueOf, isNumber, negative, positive, signed, columnOf, formed, integer}
 use Rattle.format.specs.Layout.{Rule, anySign, atLeast, range, within, oneOf, inside, spaces, What, text, blank, integral, integralOrSpaces, isFormed, isInside}
-use Rattle.format.proofs.Basics.{and-true, true-and}
+use Rattle.format.proofs.Basics.{and-true, true-and, or-false}
 use Rattle.format.proofs.Columns.{Byte, v-space, v-minus, v-digit, v-other, byte, number-digits}
 use Rattle.form_bytes.specs.Doubt.{leastAt, mostAt, surelyRight, doubt}
 use Rattle.form_bytes.specs.Places.{behind, placesIn, ruled, placesFor, doubtsIn}
@@ -60,10 +60,6 @@ at-digit b bs p q = simp (p, q)
 
 digits-of : (b : ℕ) (bs : List ℕ) → eqb b 32 ≡ false → eqb b 45 ≡ false → formed (columnOf (b ∷ bs)) ≡ true → allDigits (b ∷ bs) ≡ true
 digits-of b bs p q e = number-digits (b ∷ bs) (positive-number (b ∷ bs) (rw (at-digit b bs p q) at e))
-
-both-false : (a b : Bool) → a || b ≡ false → (a ≡ false) × (b ≡ false)
-both-false true b e = absurd (false≢true (sym e))
-both-false false b e = (refl, e)
 
 -- ---- one byte
 
@@ -123,11 +119,11 @@ module _ (s : Bool) (z : ℕ) (last : Digits z) where
   digits-none n p [] g d m = absurd (omega arith)
   digits-none zero p (b ∷ bs) g d m =
       let a = and-true (isDigit b) (allDigits bs) d in
-      let q = both-false (eqb p 45 && eqb b 48) (zeroAfterMinus b bs) m in
+      let q = or-false (eqb p 45 && eqb b 48) (zeroAfterMinus b bs) m in
       omega (arith, sure-digit z p b last (a .0) (q .0))
   digits-none (suc n) p (b ∷ bs) g d m =
       let a = and-true (isDigit b) (allDigits bs) d in
-      let q = both-false (eqb p 45 && eqb b 48) (zeroAfterMinus b bs) m in
+      let q = or-false (eqb p 45 && eqb b 48) (zeroAfterMinus b bs) m in
       omega (arith, sure-digit (betweenPlace s) p b (between-digits s) (a .0) (q .0), digits-none n b bs (omega arith) (a .1) (q .1))
 
   -- a minus stands only where one may
@@ -166,7 +162,7 @@ module _ (s : Bool) (z : ℕ) (last : Digits z) where
 
   none-after : (p b : ℕ) (bs : List ℕ) → zeroAfterMinus p (b ∷ bs) ≡ false → (eqb p 45 && eqb b 48 ≡ false) × (zeroAfterMinus b bs ≡ false)
   unfolding zeroAfterMinus
-  none-after p b bs m = both-false (eqb p 45 && eqb b 48) (zeroAfterMinus b bs) m
+  none-after p b bs m = or-false (eqb p 45 && eqb b 48) (zeroAfterMinus b bs) m
 
   behind-none : (n : ℕ) (l : List ℕ) → length l ≡ suc n → Column l → zeroAfterMinus 32 l ≡ false → doubtsIn (behind (betweenPlace s) z n) 32 l ≡ 0
   unfolding behind doubtsIn

@@ -55,7 +55,7 @@ signed-below (b ∷ bs) n w l e = at-test (eqb b 45) e
     at-test true e = omega (arith, negative-below bs n e, pow-up (length bs) w (omega arith))
     at-test false e = absurd (not-positive (b ∷ bs) n e)
 
-read-fits : (l : List ℕ) (z : ℤ) → length l ≤ 18 → columnOf l ≡ Value z → (1 ≤ length l) × (fits (length l) z ≡ true)
+pub read-fits : (l : List ℕ) (z : ℤ) → length l ≤ 18 → columnOf l ≡ Value z → (1 ≤ length l) × (fits (length l) z ≡ true)
 unfolding columnOf strip signed
 read-fits [] z h e = let x : _≡_ {A = ℕ} 0 1 = cc in absurd (omega arith)
 read-fits (b ∷ bs) (pos n) h e = (omega arith, fits-plus (suc (length bs)) n (omega arith) (omega arith) ∙ lt-ltb n (10 ^ suc (length bs)) (rw (ap numberOf e) at (number-below (b ∷ bs))))

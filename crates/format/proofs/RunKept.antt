@@ -19,7 +19,7 @@ use Rattle.format.specs.Judge.{File, fileOf}
 use Rattle.format.specs.Edit.{RecordList, file, alterAt, aboveIn, before, after, fault12, insert11, insert13, insert14, insert15, dueBehind, insertFault, remove11, inserted, removed, removedItem, firstView, partRecords, bodyRecords, blockOf, bodyPlace}
 use Rattle.format.specs.Calls.{conclude, Edit, insert, remove, plain}
 use Rattle.format.specs.Run.{bufferOf, placeOf, itemOf, inColumn, inFour, headerAbove, withBlock, withoutItem, moved}
-use Rattle.format.proofs.Basics.{and-true, first-zero, unless-zero}
+use Rattle.format.proofs.Basics.{and-true, or-false, first-zero, unless-zero}
 use Rattle.format.proofs.Columns.{Apart, left, right, column-other, length-splice, length-written}
 use Rattle.format.proofs.Lists.{Wide, map-drop, block-wide, length-flat, length-alterAt, wide-nil, wide-alter, wide-append, wide-take, wide-drop}
 use Rattle.format.proofs.RecordHeaders.{place}
@@ -82,10 +82,6 @@ outside number c i k e is = go (leb (84 * pred number + c .start) i) refl e
     go : (t : Bool) → leb (84 * pred number + c .start) i ≡ t → t && ltb i (84 * pred number + c .start + c .width) ≡ false → Apart k 1 (c .start) (c .width)
     go true p q = right (omega (arith, ltb-false i (84 * pred number + c .start + c .width) q))
     go false p q = left (omega (arith, leb-false (84 * pred number + c .start) i p))
-
-or-false : (a b : Bool) → a || b ≡ false → (a ≡ false) × (b ≡ false)
-or-false true b e = absurd (false≢true (sym e))
-or-false false b e = (refl, e)
 
 -- two columns of one record
 module _ (layout : List Col) (n m : String) (n-room : (find n layout) .start + (find n layout) .width ≤ 84) (m-room : (find m layout) .start + (find m layout) .width ≤ 84) where

@@ -18,6 +18,7 @@ use Rattle.format.proofs.Basics.{and-true}
 use Rattle.format.proofs.Columns.{Byte, v-space, v-minus, v-digit, v-other, byte}
 use Rattle.columns.specs.InRecord.{columnAt, numberIn}
 use Rattle.columns.proofs.Laws.{column-at-inside}
+use Rattle.columns.proofs.Reading.{digit-more}
 use Rattle.layout_faults.specs.Faults.{faultIn}
 use Rattle.layout_faults.proofs.Laws.{number-at}
 use Rattle.records.specs.Steps.{Natural}
@@ -27,10 +28,6 @@ use Rattle.records.specs.Steps.{Natural}
 unfoldable pub halves : ℕ → List ℕ → ℕ
 halves n [] = n
 halves n (b ∷ bs) = halves (n * 10 + b % 16) bs
-
--- one more digit: n, a digit d and k digits of value v
-more : (n d k v : ℕ) → (n * 10 + d) * 10 ^ k + v ≡ n * 10 ^ suc k + (d * 10 ^ k + v)
-more n d k v = omega (arith, add-mul (n * 10) d (10 ^ k), mul-assoc n 10 (10 ^ k), ap (λ (x : ℕ). n * x) (pow-succ' 10 k))
 
 half-of-digit : (b : ℕ) → isDigit b ≡ true → b % 16 ≡ b - 48
 unfolding isDigit
@@ -43,7 +40,7 @@ unfolding halves allDigits valueOf
 of-digits [] n d = omega arith
 of-digits (b ∷ bs) n d =
     let t = and-true (isDigit b) (allDigits bs) d in
-    rw (half-of-digit b (t .0)) (of-digits bs (n * 10 + (b - 48)) (t .1) ∙ more n (b - 48) (length bs) (valueOf bs))
+    rw (half-of-digit b (t .0)) (of-digits bs (n * 10 + (b - 48)) (t .1) ∙ digit-more n (b - 48) (length bs) (valueOf bs))
 
 -- a number after a minus is below 0
 not-negative : (l : List ℕ) (v : ℕ) → negative l ≡ Value (pos v) → ⊥

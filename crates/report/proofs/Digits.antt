@@ -9,6 +9,7 @@ use borrow.Author.Tests.{lt-ltb, le-ltb}
 use lib.ListN.{take-append-drop, length, take, drop, set, length-append, length-set}
 use lib.Seq.{take-set-le, drop-cons, getD-set-same, drop-set-lt}
 use Rattle.format.specs.Column.{digitsIn, digits}
+use Rattle.format.proofs.Lists.{drop-set}
 use Rattle.format.proofs.Columns.{Size, below, above, size-of, length-more}
 use Rattle.report.specs.Steps.{placed, lastDigits, storedDigits}
 
@@ -47,9 +48,6 @@ pub counted : (n left count : ℕ) → left < 10 → length (digits n) + 1 ≡ c
 counted n left count h e = omega (arith, e, length-one (20 - count) left h)
 
 -- ---- the digits stored, from the last to the first
-drop-set : (l : List ℕ) (j v : ℕ) → j < length l → drop j (set l j v) ≡ v ∷ drop (suc j) l
-drop-set l j v h = rw (drop-cons (set l j v) j 0 (rw (length-set l j v) h), getD-set-same l j v 0 h, drop-set-lt (suc j) l j v (omega arith))
-
 -- one turn, and the end, of the loop of stores
 pub one-stored : (out : List ℕ) (at count n : ℕ) → 0 < count → storedDigits (set out (at + (count - 1)) (48 + n % 10)) at (count - 1) (n / 10) ≡ storedDigits out at count n
 unfolding storedDigits
