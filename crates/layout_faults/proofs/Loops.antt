@@ -1,4 +1,4 @@
--- The loops and returns of `table_fault`, `is_one`, `listed` and `all_spaces` in the code's own words. Assumes nothing.
+-- The loops and returns of `table_fault` and what it calls, `is_one` and `listed` in the code's own words. Assumes nothing.
 use mathlib.Core.Path.{_≡_, refl, ap, sym, _∙_}
 use mathlib.Core.Bool.{Bool, true, false, _&&_, _||_, and-assoc, and-true, or-assoc, or-false, false≢true, true≢false}
 use mathlib.Core.List.{List, [], _∷_}
@@ -19,11 +19,11 @@ use mir.ValLaws.{toZ-ofZ}
 use Rattle.format.proofs.Column.{the-type}
 use Rattle.format.specs.declared.Column.{Column}
 use Rattle.format.specs.declared.Column.the-variants.{Value, MinusZero, Malformed}
-use Rattle.format.specs.Basics.{member}
+use Rattle.format.specs.Basics.{first, unless, member}
 use Rattle.format.specs.Column.{formed, integer}
-use Rattle.format.specs.Layout.{spaces, isOne}
-use Rattle.columns.specs.InRecord.{columnAt}
-use Rattle.layout_faults.specs.Tables.{formedAt, between, betweenAt, tableFault, listedAt}
+use Rattle.format.specs.Layout.{isOne}
+use Rattle.columns.specs.InRecord.{columnAt, spacesAt}
+use Rattle.layout_faults.specs.Tables.{formedAs, between, betweenAs, faultAs, faultOf, formedAt, betweenAt, tableFault, listedAt}
 
 -- what `let Column::Value(z) = .. else` tells of the column in its other way
 pub other-tag : (c : Column) → OneOf (1 ∷ 2 ∷ []) (tagOf the-type c) → formed c ≡ false
@@ -31,50 +31,140 @@ other-tag (Value z) h = absurd (miss (1 ∷ 2 ∷ []) 0 tt h)
 other-tag MinusZero h = refl
 other-tag Malformed h = refl
 
+-- ---- one column, by its form
+
+-- an integer
+module _ (l : List ℕ) (start width : ℕ) (low high : ℤ) (c : Column) (e : c ≡ columnAt l start width) where
+  pub integer-malformed : OneOf (1 ∷ 2 ∷ []) (tagOf the-type c) → 5 ≡ faultAs l start width 0 low high
+  unfolding faultAs formedAs
+  integer-malformed n = rw (← e, other-tag c n)
+
+  module _ (z : ℤ) (v : c ≡ Value z) (s : SFits w64 z) (m : SFits w64 low) (n : SFits w64 high) where
+    integer-fault : (t : Bool) → leZ (toZ w64 (ofZ w64 low)) (toZ w64 (ofZ w64 z)) && leZ (toZ w64 (ofZ w64 z)) (toZ w64 (ofZ w64 high)) ≡ t → unless t 6 ≡ faultAs l start width 0 low high
+    unfolding faultAs formedAs betweenAs
+    integer-fault t h = let k : between low high z ≡ t = rw (toZ-ofZ w64 z s, toZ-ofZ w64 low m, toZ-ofZ w64 high n) at h in rw (← e, v, k)
+
+    pub integer-inside : leZ (toZ w64 (ofZ w64 low)) (toZ w64 (ofZ w64 z)) && leZ (toZ w64 (ofZ w64 z)) (toZ w64 (ofZ w64 high)) ≡ true → 0 ≡ faultAs l start width 0 low high
+    integer-inside = integer-fault true
+
+    pub integer-outside : leZ (toZ w64 (ofZ w64 low)) (toZ w64 (ofZ w64 z)) && leZ (toZ w64 (ofZ w64 z)) (toZ w64 (ofZ w64 high)) ≡ false → 6 ≡ faultAs l start width 0 low high
+    integer-outside = integer-fault false
+
+-- an integer or spaces
+module _ (l : List ℕ) (start width : ℕ) (t : Bool) (k : t ≡ spacesAt l start width) where
+  pub spaces-taken : t ≡ true → 0 ≡ unless (formedAs 1 l start width) 5
+  unfolding formedAs
+  spaces-taken h = rw (← k, h)
+
+  module _ (h : t ≡ false) (c : Column) (e : c ≡ columnAt l start width) where
+    pub integer-taken : (z : ℤ) → c ≡ Value z → 0 ≡ unless (formedAs 1 l start width) 5
+    unfolding formedAs
+    integer-taken z v = rw (← k, h, ← e, v)
+
+    pub neither-taken : (d : Column) → c ≡ d → formed d ≡ false → 5 ≡ unless (formedAs 1 l start width) 5
+    unfolding formedAs
+    neither-taken d f g = rw (← k, h, ← e, f, g)
+
+-- any form
+module _ (l : List ℕ) (start width form : ℕ) (low high : ℤ) where
+  pub as-integer : form ≡ 0 → (r : ℕ) → SFits w64 low → SFits w64 high → r ≡ faultAs l start width 0 (toZ w64 (ofZ w64 low)) (toZ w64 (ofZ w64 high)) → r ≡ faultAs l start width form low high
+  as-integer e r m n h = rw (e, ← toZ-ofZ w64 low m, ← toZ-ofZ w64 high n) h
+
+  module _ (n : form ≡ 0 → ⊥) where
+    pub as-integer-or-spaces : form ≡ 1 → (r : ℕ) → r ≡ unless (formedAs 1 l start width) 5 → r ≡ faultAs l start width form low high
+    unfolding faultAs betweenAs
+    as-integer-or-spaces e r h = h ∙ rw e (go (formedAs 1 l start width))
+      where
+        go : (f : Bool) → unless f 5 ≡ first (unless f 5) 0
+        go true = refl
+        go false = refl
+
+    pub as-blank : (form ≡ 1 → ⊥) → 0 ≡ faultAs l start width form low high
+    unfolding faultAs formedAs betweenAs
+    as-blank m = rw (ne-eqb form 0 n, ne-eqb form 1 m)
+
+-- ---- `column_fault`
+
+module _ (l starts widths forms : List ℕ) (lows highs : List ℤ) (i r : ℕ) where
+  pub told-of-read : mag (getD lows i (pos 0)) < 2 ^ hbits w64 → mag (getD highs i (pos 0)) < 2 ^ hbits w64 → r ≡ faultAs l (getD starts i 0) (getD widths i 0) (getD forms i 0) (toZ w64 (ofZ w64 (getD lows i (pos 0)))) (toZ w64 (ofZ w64 (getD highs i (pos 0)))) → r ≡ faultOf l i starts widths forms lows highs
+  unfolding faultOf
+  told-of-read m n e = rw (toZ-ofZ w64 (getD lows i (pos 0)) (record { sfits = m }), toZ-ofZ w64 (getD highs i (pos 0)) (record { sfits = n })) at e
+
 -- ---- `table_fault`
 
-module _ (l starts widths : List ℕ) where
-  -- one column: c is what it says
-  module _ (i : ℕ) (c : Column) (e : c ≡ columnAt l (getD starts i 0) (getD widths i 0)) (here : i < length starts) (w : length widths ≡ length starts) where
-    formed-here : formedAt l (drop i starts) (drop i widths) ≡ formed c && formedAt l (drop (i + 1) starts) (drop (i + 1) widths)
+-- what one column's fault tells of it
+module _ (l : List ℕ) (start width form : ℕ) (low high : ℤ) (fault : ℕ) (e : fault ≡ faultAs l start width form low high) where
+  five-tells : fault ≡ 5 → formedAs form l start width ≡ false
+  unfolding faultAs
+  five-tells h = go (formedAs form l start width) (betweenAs form l start width low high) (sym h ∙ e)
+    where
+      go : (f b : Bool) → 5 ≡ first (unless f 5) (unless b 6) → f ≡ false
+      go false b k = refl
+      go true true k = absurd (omega arith)
+      go true false k = absurd (omega arith)
+
+  module _ (n : fault ≡ 5 → ⊥) where
+    well-formed : formedAs form l start width ≡ true
+    unfolding faultAs
+    well-formed = go (formedAs form l start width) (λ (f : formedAs form l start width ≡ false). n (e ∙ rw f))
+      where
+        go : (f : Bool) → (f ≡ false → ⊥) → f ≡ true
+        go true n = refl
+        go false n = absurd (n refl)
+
+    is-between : betweenAs form l start width low high ≡ eqb fault 0
+    unfolding faultAs
+    is-between = rw (e, well-formed) (go (betweenAs form l start width low high))
+      where
+        go : (b : Bool) → b ≡ eqb (unless b 6) 0
+        go true = refl
+        go false = refl
+
+module _ (l starts widths forms : List ℕ) (lows highs : List ℤ) where
+  pub no-record : (length l ≡ 84 → ⊥) → 5 ≡ tableFault l starts widths forms lows highs
+  unfolding tableFault
+  no-record h = rw (ne-eqb (length l) 84 h)
+
+  -- one column of the tables
+  module _ (i : ℕ) (here : i < length starts) (w : length widths ≡ length starts) (f : length forms ≡ length starts) where
+    formed-here : formedAt l (drop i starts) (drop i widths) (drop i forms) ≡ formedAs (getD forms i 0) l (getD starts i 0) (getD widths i 0) && formedAt l (drop (i + 1) starts) (drop (i + 1) widths) (drop (i + 1) forms)
     unfolding formedAt
-    formed-here = rw (e, add-one, drop-cons starts i 0 here, drop-cons widths i 0 (omega arith))
+    formed-here = rw (add-one, drop-cons starts i 0 here, drop-cons widths i 0 (omega arith), drop-cons forms i 0 (omega arith))
 
-    pub formed-again : (z : ℤ) (all : Bool) → c ≡ Value z → formedAt l (drop i starts) (drop i widths) ≡ all → formedAt l (drop (i + 1) starts) (drop (i + 1) widths) ≡ all
-    formed-again z all f h = rw (formed-here, f) at h
+    module _ (a : length lows ≡ length starts) (b : length highs ≡ length starts) where
+      between-here : betweenAt l (drop i starts) (drop i widths) (drop i forms) (drop i lows) (drop i highs) ≡ betweenAs (getD forms i 0) l (getD starts i 0) (getD widths i 0) (getD lows i (pos 0)) (getD highs i (pos 0)) && betweenAt l (drop (i + 1) starts) (drop (i + 1) widths) (drop (i + 1) forms) (drop (i + 1) lows) (drop (i + 1) highs)
+      unfolding betweenAt
+      between-here = rw (add-one, drop-cons starts i 0 here, drop-cons widths i 0 (omega arith), drop-cons forms i 0 (omega arith), drop-cons lows i (pos 0) (omega arith), drop-cons highs i (pos 0) (omega arith))
 
-    module _ (lows highs : List ℤ) where
-      pub malformed : OneOf (1 ∷ 2 ∷ []) (tagOf the-type c) → length l ≡ 84 → formedAt l (drop i starts) (drop i widths) ≡ formedAt l starts widths → 5 ≡ tableFault l starts widths lows highs
-      unfolding tableFault
-      malformed n k h = rw (k, ← h, formed-here, other-tag c n)
+      module _ (fault : ℕ) (e : fault ≡ faultOf l i starts widths forms lows highs) where
+        fault-is : fault ≡ faultAs l (getD starts i 0) (getD widths i 0) (getD forms i 0) (getD lows i (pos 0)) (getD highs i (pos 0))
+        unfolding faultOf
+        fault-is = e
 
-      module _ (a : length lows ≡ length starts) (b : length highs ≡ length starts) where
-        between-here : betweenAt l (drop i starts) (drop i widths) (drop i lows) (drop i highs) ≡ between (getD lows i (pos 0)) (getD highs i (pos 0)) (integer c) && betweenAt l (drop (i + 1) starts) (drop (i + 1) widths) (drop (i + 1) lows) (drop (i + 1) highs)
-        unfolding betweenAt
-        between-here = rw (e, add-one, drop-cons starts i 0 here, drop-cons widths i 0 (omega arith), drop-cons lows i (pos 0) (omega arith), drop-cons highs i (pos 0) (omega arith))
+        pub malformed : fault ≡ 5 → length l ≡ 84 → formedAt l (drop i starts) (drop i widths) (drop i forms) ≡ formedAt l starts widths forms → fault ≡ tableFault l starts widths forms lows highs
+        unfolding tableFault
+        malformed k whole h = k ∙ rw (whole, ← h, formed-here, five-tells l _ _ _ _ _ fault fault-is k)
 
-        pub between-again : (z : ℤ) (inside all : Bool) → c ≡ Value z → SFits w64 z → mag (getD lows i (pos 0)) < 2 ^ hbits w64 → mag (getD highs i (pos 0)) < 2 ^ hbits w64 → inside && betweenAt l (drop i starts) (drop i widths) (drop i lows) (drop i highs) ≡ all → ((inside && leZ (toZ w64 (ofZ w64 (getD lows i (pos 0)))) (toZ w64 (ofZ w64 z))) && leZ (toZ w64 (ofZ w64 z)) (toZ w64 (ofZ w64 (getD highs i (pos 0))))) && betweenAt l (drop (i + 1) starts) (drop (i + 1) widths) (drop (i + 1) lows) (drop (i + 1) highs) ≡ all
-        between-again z inside all f s m n h =
-            rw (toZ-ofZ w64 z s, toZ-ofZ w64 (getD lows i (pos 0)) (record { sfits = m }), toZ-ofZ w64 (getD highs i (pos 0)) (record { sfits = n })) (simp and-assoc (simp and-assoc at (rw (between-here, f) at h)))
+        module _ (k : fault ≡ 5 → ⊥) where
+          pub formed-again : (all : Bool) → formedAt l (drop i starts) (drop i widths) (drop i forms) ≡ all → formedAt l (drop (i + 1) starts) (drop (i + 1) widths) (drop (i + 1) forms) ≡ all
+          formed-again all h = rw (formed-here, well-formed l _ _ _ _ _ fault fault-is k) at h
 
-  module _ (lows highs : List ℤ) where
-    pub no-record : (length l ≡ 84 → ⊥) → 5 ≡ tableFault l starts widths lows highs
+          pub between-again : (inside all : Bool) → inside && betweenAt l (drop i starts) (drop i widths) (drop i forms) (drop i lows) (drop i highs) ≡ all → (inside && eqb fault 0) && betweenAt l (drop (i + 1) starts) (drop (i + 1) widths) (drop (i + 1) forms) (drop (i + 1) lows) (drop (i + 1) highs) ≡ all
+          between-again inside all h = rw and-assoc (rw (between-here, is-between l _ _ _ _ _ fault fault-is k) at h)
+
+  -- all columns are read
+  module _ (i : ℕ) (inside : Bool) (k : length l ≡ 84) (end : length starts ≤ i) (f : formedAt l (drop i starts) (drop i widths) (drop i forms) ≡ formedAt l starts widths forms) (b : inside && betweenAt l (drop i starts) (drop i widths) (drop i forms) (drop i lows) (drop i highs) ≡ betweenAt l starts widths forms lows highs) where
+    formed-all : formedAt l starts widths forms ≡ true
+    unfolding formedAt
+    formed-all = sym f ∙ rw (drop-of-length-le starts end)
+
+    pub outside : inside ≡ false → 6 ≡ tableFault l starts widths forms lows highs
     unfolding tableFault
-    no-record h = rw (ne-eqb (length l) 84 h)
+    outside e = rw (k, formed-all, ← b, e)
 
-    -- all columns are read
-    module _ (i : ℕ) (inside : Bool) (k : length l ≡ 84) (end : length starts ≤ i) (f : formedAt l (drop i starts) (drop i widths) ≡ formedAt l starts widths) (b : inside && betweenAt l (drop i starts) (drop i widths) (drop i lows) (drop i highs) ≡ betweenAt l starts widths lows highs) where
-      formed-all : formedAt l starts widths ≡ true
-      unfolding formedAt
-      formed-all = sym f ∙ rw (drop-of-length-le starts end)
-
-      pub outside : inside ≡ false → 6 ≡ tableFault l starts widths lows highs
-      unfolding tableFault
-      outside e = rw (k, formed-all, ← b, e)
-
-      pub no-fault : inside ≡ true → 0 ≡ tableFault l starts widths lows highs
-      unfolding tableFault betweenAt
-      no-fault e = rw (k, formed-all, ← b, e, drop-of-length-le starts end)
+    pub no-fault : inside ≡ true → 0 ≡ tableFault l starts widths forms lows highs
+    unfolding tableFault betweenAt
+    no-fault e = rw (k, formed-all, ← b, e, drop-of-length-le starts end)
 
 -- ---- `is_one`
 
@@ -120,12 +210,3 @@ not-below-zero z s h = rw (toZ-ofZ w64 z s) (go z s (rw (toZ-ofZ w64 z s) at h))
     go : (z : ℤ) → SFits w64 z → ltZ z (pos 0) ≡ false → T (nonNeg z) × Fits w64 (natAbs z)
     go (pos n) s h = (tt, record { fits = omega (arith, s .sfits) })
     go (negsuc n) s h = absurd (true≢false h)
-
--- ---- `all_spaces`
-
-module _ (l : List ℕ) (i : ℕ) (blank : Bool) where
-  pub spaces-again : i < length l → blank && spaces (drop i l) ≡ spaces l → (blank && eqb (getD l i 0) 32) && spaces (drop (i + 1) l) ≡ spaces l
-  spaces-again h k = rw (and-assoc, add-one) (rw (drop-cons l i 0 h) at k)
-
-  pub spaces-end : length l ≤ i → blank && spaces (drop i l) ≡ spaces l → blank ≡ spaces l
-  spaces-end h k = sym (and-true blank) ∙ rw (drop-of-length-le l h) at k

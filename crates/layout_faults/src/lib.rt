@@ -3,20 +3,23 @@
 // by column.
 ghost use mathlib.Core.Path.{_≡_};
 ghost use mathlib.Core.Bool.{true};
+ghost use Prim.Native.Nat.{_<_};
 ghost use lib.IntN.{pos};
 ghost use lib.Signed.{leZ};
 ghost use lib.ListN.{length};
-ghost use Rattle.format.specs.Basics.{member};
+ghost use Rattle.format.specs.Basics.{unless, member};
 ghost use Rattle.format.specs.Column.{integer};
-ghost use Rattle.format.specs.Layout.{spaces, indexA, indexC, sheetA, sheetB, sheetD, sheetE, sheetF, header, element, gridHeader, netHeader, dataNote};
+ghost use Rattle.format.specs.Layout.{indexA, indexC, sheetA, sheetB, sheetD, sheetE, sheetF, header, element, gridHeader, netHeader, dataNote};
 ghost use Rattle.columns.specs.InRecord.{columnAt};
 ghost use Rattle.layout_faults.specs.Faults.{faultIn};
-ghost use Rattle.layout_faults.specs.Tables.{tableFault, listedAt};
+ghost use Rattle.layout_faults.specs.Tables.{formedAs, faultAs, faultOf, tableFault, listedAt};
 use format::Column;
 use layouts::DataNote;
 use layouts::Element;
 use layouts::GridHeader;
 use layouts::Header;
+use layouts::INTEGER;
+use layouts::INTEGER_OR_SPACES;
 use layouts::IndexA;
 use layouts::IndexC;
 use layouts::NetHeader;
@@ -29,10 +32,70 @@ use layouts::SheetF;
 // "records of 84 bytes"
 const RECORD: usize = 84;
 
-// The columns of the tables, each read once. A malformed one ends it; a number outside does not, since a later column may be malformed.
-fn table_fault(record: &[u8], starts: &[u8], widths: &[u8], lows: &[i64], highs: &[i64]) -> u8
-    requires { ⌜ (length (now widths) ≡ length (now starts)) × (length (now lows) ≡ length (now starts)) × (length (now highs) ≡ length (now starts)) ⌝ }
-    ensures { λ r. ⌜ r ≡ tableFault (now («record» .entry)) (now (starts .entry)) (now (widths .entry)) (now (lows .entry)) (now (highs .entry)) ⌝ }
+// An integer: 5 where it is malformed, 6 where it is outside its limits.
+fn integer_fault(record: &[u8], start: usize, width: usize, low: i64, high: i64) -> u8
+    ensures { λ r. ⌜ r ≡ faultAs (now («record» .entry)) start width 0 low high ⌝ }
+{
+    let Column::Value(z) = columns::column_at(record, start, width) else {
+        return 5;
+    };
+    if (low <= z) & (z <= high) { 0 } else { 6 }
+}
+
+// An integer or spaces: 5 where it is neither.
+fn integer_or_spaces_fault(record: &[u8], start: usize, width: usize) -> u8
+    ensures { λ r. ⌜ r ≡ unless (formedAs 1 (now («record» .entry)) start width) 5 ⌝ }
+{
+    if columns::spaces_at(record, start, width) {
+        return 0;
+    }
+    match columns::column_at(record, start, width) {
+        Column::Value(_) => 0,
+        Column::MinusZero => 5,
+        Column::Malformed => 5,
+    }
+}
+
+// A column by its form: a blank is not judged.
+fn fault_by_form(record: &[u8], start: u8, width: u8, form: u8, low: i64, high: i64) -> u8
+    ensures { λ r. ⌜ r ≡ faultAs (now («record» .entry)) start width form low high ⌝ }
+{
+    if form == INTEGER {
+        return integer_fault(record, start as usize, width as usize, low, high);
+    }
+    if form == INTEGER_OR_SPACES {
+        return integer_or_spaces_fault(record, start as usize, width as usize);
+    }
+    0
+}
+
+// Column i of the tables.
+fn column_fault(
+    record: &[u8],
+    i: usize,
+    starts: &[u8],
+    widths: &[u8],
+    forms: &[u8],
+    lows: &[i64],
+    highs: &[i64],
+) -> u8
+    requires { ⌜ (i < length (now starts)) × (length (now widths) ≡ length (now starts)) × (length (now forms) ≡ length (now starts)) × (length (now lows) ≡ length (now starts)) × (length (now highs) ≡ length (now starts)) ⌝ }
+    ensures { λ r. ⌜ r ≡ faultOf (now («record» .entry)) i (now (starts .entry)) (now (widths .entry)) (now (forms .entry)) (now (lows .entry)) (now (highs .entry)) ⌝ }
+{
+    fault_by_form(record, starts[i], widths[i], forms[i], lows[i], highs[i])
+}
+
+// All columns of the tables. A malformed one ends it; a number outside does not, since a later column may be malformed.
+fn table_fault(
+    record: &[u8],
+    starts: &[u8],
+    widths: &[u8],
+    forms: &[u8],
+    lows: &[i64],
+    highs: &[i64],
+) -> u8
+    requires { ⌜ (length (now widths) ≡ length (now starts)) × (length (now forms) ≡ length (now starts)) × (length (now lows) ≡ length (now starts)) × (length (now highs) ≡ length (now starts)) ⌝ }
+    ensures { λ r. ⌜ r ≡ tableFault (now («record» .entry)) (now (starts .entry)) (now (widths .entry)) (now (forms .entry)) (now (lows .entry)) (now (highs .entry)) ⌝ }
 {
     if record.len() != RECORD {
         return 5;
@@ -40,11 +103,11 @@ fn table_fault(record: &[u8], starts: &[u8], widths: &[u8], lows: &[i64], highs:
     let mut inside = true;
     let mut i = 0;
     while i < starts.len() {
-        let Column::Value(z) = columns::column_at(record, starts[i] as usize, widths[i] as usize)
-        else {
-            return 5;
-        };
-        inside = inside & (lows[i] <= z) & (z <= highs[i]);
+        let fault = column_fault(record, i, starts, widths, forms, lows, highs);
+        if fault == 5 {
+            return fault;
+        }
+        inside = inside & (fault == 0);
         i += 1;
     }
     if inside { 0 } else { 6 }
@@ -86,38 +149,27 @@ fn above_zero(record: &[u8], start: usize, width: usize) -> bool
     1 <= z
 }
 
-// Spaces alone.
-fn all_spaces(bytes: &[u8]) -> bool
-    ensures { λ r. ⌜ r ≡ spaces (now (bytes .entry)) ⌝ }
-{
-    let mut blank = true;
-    let mut i = 0;
-    while i < bytes.len() {
-        blank = blank & (bytes[i] == b' ');
-        i += 1;
-    }
-    blank
-}
-
 pub fn index_a_fault(record: &[u8]) -> u8
     ensures { λ r. ⌜ r ≡ faultIn indexA (now («record» .entry)) ⌝ }
 {
-    let starts = IndexA::integer_starts();
-    let widths = IndexA::integer_widths();
-    let lows = IndexA::integer_lows();
-    let highs = IndexA::integer_highs();
-    table_fault(record, &starts, &widths, &lows, &highs)
+    let starts = IndexA::starts();
+    let widths = IndexA::widths();
+    let forms = IndexA::forms();
+    let lows = IndexA::lows();
+    let highs = IndexA::highs();
+    table_fault(record, &starts, &widths, &forms, &lows, &highs)
 }
 
 // The dimension is one of a list.
 pub fn index_c_fault(record: &[u8]) -> u8
     ensures { λ r. ⌜ r ≡ faultIn indexC (now («record» .entry)) ⌝ }
 {
-    let starts = IndexC::integer_starts();
-    let widths = IndexC::integer_widths();
-    let lows = IndexC::integer_lows();
-    let highs = IndexC::integer_highs();
-    let fault = table_fault(record, &starts, &widths, &lows, &highs);
+    let starts = IndexC::starts();
+    let widths = IndexC::widths();
+    let forms = IndexC::forms();
+    let lows = IndexC::lows();
+    let highs = IndexC::highs();
+    let fault = table_fault(record, &starts, &widths, &forms, &lows, &highs);
     if fault != 0 {
         return fault;
     }
@@ -138,11 +190,12 @@ pub fn index_c_fault(record: &[u8]) -> u8
 pub fn sheet_a_fault(record: &[u8]) -> u8
     ensures { λ r. ⌜ r ≡ faultIn sheetA (now («record» .entry)) ⌝ }
 {
-    let starts = SheetA::integer_starts();
-    let widths = SheetA::integer_widths();
-    let lows = SheetA::integer_lows();
-    let highs = SheetA::integer_highs();
-    let fault = table_fault(record, &starts, &widths, &lows, &highs);
+    let starts = SheetA::starts();
+    let widths = SheetA::widths();
+    let forms = SheetA::forms();
+    let lows = SheetA::lows();
+    let highs = SheetA::highs();
+    let fault = table_fault(record, &starts, &widths, &forms, &lows, &highs);
     if fault != 0 {
         return fault;
     }
@@ -157,22 +210,24 @@ pub fn sheet_a_fault(record: &[u8]) -> u8
 pub fn sheet_b_fault(record: &[u8]) -> u8
     ensures { λ r. ⌜ r ≡ faultIn sheetB (now («record» .entry)) ⌝ }
 {
-    let starts = SheetB::integer_starts();
-    let widths = SheetB::integer_widths();
-    let lows = SheetB::integer_lows();
-    let highs = SheetB::integer_highs();
-    table_fault(record, &starts, &widths, &lows, &highs)
+    let starts = SheetB::starts();
+    let widths = SheetB::widths();
+    let forms = SheetB::forms();
+    let lows = SheetB::lows();
+    let highs = SheetB::highs();
+    table_fault(record, &starts, &widths, &forms, &lows, &highs)
 }
 
 // Both codes are of one list.
 pub fn sheet_d_fault(record: &[u8]) -> u8
     ensures { λ r. ⌜ r ≡ faultIn sheetD (now («record» .entry)) ⌝ }
 {
-    let starts = SheetD::integer_starts();
-    let widths = SheetD::integer_widths();
-    let lows = SheetD::integer_lows();
-    let highs = SheetD::integer_highs();
-    let fault = table_fault(record, &starts, &widths, &lows, &highs);
+    let starts = SheetD::starts();
+    let widths = SheetD::widths();
+    let forms = SheetD::forms();
+    let lows = SheetD::lows();
+    let highs = SheetD::highs();
+    let fault = table_fault(record, &starts, &widths, &forms, &lows, &highs);
     if fault != 0 {
         return fault;
     }
@@ -192,25 +247,26 @@ pub fn sheet_d_fault(record: &[u8]) -> u8
     if first & second { 0 } else { 6 }
 }
 
-// Its integers may have any sign: what a width of four holds.
 pub fn sheet_e_fault(record: &[u8]) -> u8
     ensures { λ r. ⌜ r ≡ faultIn sheetE (now («record» .entry)) ⌝ }
 {
-    let starts = SheetE::integer_starts();
-    let widths = SheetE::integer_widths();
-    let lows: [i64; 8] = [-999; 8];
-    let highs: [i64; 8] = [9999; 8];
-    table_fault(record, &starts, &widths, &lows, &highs)
+    let starts = SheetE::starts();
+    let widths = SheetE::widths();
+    let forms = SheetE::forms();
+    let lows = SheetE::lows();
+    let highs = SheetE::highs();
+    table_fault(record, &starts, &widths, &forms, &lows, &highs)
 }
 
 pub fn sheet_f_fault(record: &[u8]) -> u8
     ensures { λ r. ⌜ r ≡ faultIn sheetF (now («record» .entry)) ⌝ }
 {
-    let starts = SheetF::integer_starts();
-    let widths = SheetF::integer_widths();
-    let lows = SheetF::integer_lows();
-    let highs = SheetF::integer_highs();
-    table_fault(record, &starts, &widths, &lows, &highs)
+    let starts = SheetF::starts();
+    let widths = SheetF::widths();
+    let forms = SheetF::forms();
+    let lows = SheetF::lows();
+    let highs = SheetF::highs();
+    table_fault(record, &starts, &widths, &forms, &lows, &highs)
 }
 
 pub fn header_fault(record: &[u8]) -> u8
@@ -219,36 +275,26 @@ pub fn header_fault(record: &[u8]) -> u8
     if form_records::header_sure(record) {
         return 0;
     }
-    let starts = Header::integer_starts();
-    let widths = Header::integer_widths();
-    let lows = Header::integer_lows();
-    let highs = Header::integer_highs();
-    table_fault(record, &starts, &widths, &lows, &highs)
+    let starts = Header::starts();
+    let widths = Header::widths();
+    let forms = Header::forms();
+    let lows = Header::lows();
+    let highs = Header::highs();
+    table_fault(record, &starts, &widths, &forms, &lows, &highs)
 }
 
-// The value is an integer or spaces. Its form is asked before a number outside its range answers 6.
 pub fn element_fault(record: &[u8]) -> u8
     ensures { λ r. ⌜ r ≡ faultIn element (now («record» .entry)) ⌝ }
 {
     if form_records::element_sure(record) {
         return 0;
     }
-    let starts = Element::integer_starts();
-    let widths = Element::integer_widths();
-    let lows = Element::integer_lows();
-    let highs = Element::integer_highs();
-    let fault = table_fault(record, &starts, &widths, &lows, &highs);
-    if fault == 5 {
-        return fault;
-    }
-    if all_spaces(&record[Element::VALUE_START..Element::VALUE_START + Element::VALUE_WIDTH]) {
-        return fault;
-    }
-    match columns::column_at(record, Element::VALUE_START, Element::VALUE_WIDTH) {
-        Column::Value(_) => fault,
-        Column::MinusZero => 5,
-        Column::Malformed => 5,
-    }
+    let starts = Element::starts();
+    let widths = Element::widths();
+    let forms = Element::forms();
+    let lows = Element::lows();
+    let highs = Element::highs();
+    table_fault(record, &starts, &widths, &forms, &lows, &highs)
 }
 
 // Told at once to be without fault: beside its form, rows, columns and cell sizes are at least 1.
@@ -279,11 +325,12 @@ pub fn grid_header_fault(record: &[u8]) -> u8
     if grid_header_sure(record) {
         return 0;
     }
-    let starts = GridHeader::integer_starts();
-    let widths = GridHeader::integer_widths();
-    let lows = GridHeader::integer_lows();
-    let highs = GridHeader::integer_highs();
-    table_fault(record, &starts, &widths, &lows, &highs)
+    let starts = GridHeader::starts();
+    let widths = GridHeader::widths();
+    let forms = GridHeader::forms();
+    let lows = GridHeader::lows();
+    let highs = GridHeader::highs();
+    table_fault(record, &starts, &widths, &forms, &lows, &highs)
 }
 
 // Told at once to be without fault: beside its form, it has at least one triangle.
@@ -306,11 +353,12 @@ pub fn net_header_fault(record: &[u8]) -> u8
     if net_header_sure(record) {
         return 0;
     }
-    let starts = NetHeader::integer_starts();
-    let widths = NetHeader::integer_widths();
-    let lows = NetHeader::integer_lows();
-    let highs = NetHeader::integer_highs();
-    table_fault(record, &starts, &widths, &lows, &highs)
+    let starts = NetHeader::starts();
+    let widths = NetHeader::widths();
+    let forms = NetHeader::forms();
+    let lows = NetHeader::lows();
+    let highs = NetHeader::highs();
+    table_fault(record, &starts, &widths, &forms, &lows, &highs)
 }
 
 pub fn data_note_fault(record: &[u8]) -> u8
@@ -319,9 +367,10 @@ pub fn data_note_fault(record: &[u8]) -> u8
     if form_records::data_note_sure(record) {
         return 0;
     }
-    let starts = DataNote::integer_starts();
-    let widths = DataNote::integer_widths();
-    let lows = DataNote::integer_lows();
-    let highs = DataNote::integer_highs();
-    table_fault(record, &starts, &widths, &lows, &highs)
+    let starts = DataNote::starts();
+    let widths = DataNote::widths();
+    let forms = DataNote::forms();
+    let lows = DataNote::lows();
+    let highs = DataNote::highs();
+    table_fault(record, &starts, &widths, &forms, &lows, &highs)
 }

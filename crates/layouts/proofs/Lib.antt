@@ -1,3 +1,4 @@
 pub mod Ranges
-pub mod Integers
+pub mod Tabled
+pub mod Lies
 pub mod Limits

@@ -1,4 +1,4 @@
--- A layout's table as the code lists it: start and width of every column; and, of its integers alone, starts, widths, and the least and
+-- A layout's table as the code lists it: start and width of every column; and, of its columns but text, starts, widths, forms, and the least and
 -- the greatest number allowed. Assumes nothing.
 use mathlib.Core.Path.{_≡_}
 use mathlib.Core.Bool.{Bool, true, false, cond}
@@ -21,26 +21,27 @@ widthsOf l = map (λ (c : Col). c .width) l
 unfoldable pub spansOf : List Col → List Span
 spansOf l = map (λ (c : Col). (c .start, c .width)) l
 
--- the columns judged as integers; those that hold an integer or spaces, as the element's value, are judged apart
-abbrev pub isInteger : What → Bool
-isInteger text = false
-isInteger blank = false
-isInteger (integral rule) = true
-isInteger integralOrSpaces = false
+-- the columns of the tables, in the order of the layout: all but text, of which nothing is asked
+abbrev pub isTabled : What → Bool
+isTabled text = false
+isTabled blank = true
+isTabled (integral rule) = true
+isTabled integralOrSpaces = true
 
-unfoldable pub integers : List Col → List Col
-integers [] = []
-integers (c ∷ cs) = cond (isInteger (c .what)) (c ∷ integers cs) (integers cs)
+unfoldable pub tabled : List Col → List Col
+tabled [] = []
+tabled (c ∷ cs) = cond (isTabled (c .what)) (c ∷ tabled cs) (tabled cs)
 
-abbrev pub isIntegerOrSpaces : What → Bool
-isIntegerOrSpaces text = false
-isIntegerOrSpaces blank = false
-isIntegerOrSpaces (integral rule) = false
-isIntegerOrSpaces integralOrSpaces = true
+-- a column's form, by the number that the code has for it: INTEGER, INTEGER_OR_SPACES, BLANK. Text is in no table; like a blank, it is neither judged nor
+-- changed
+abbrev pub formOf : What → ℕ
+formOf text = 2
+formOf blank = 2
+formOf (integral rule) = 0
+formOf integralOrSpaces = 1
 
-unfoldable pub integersOrSpaces : List Col → List Col
-integersOrSpaces [] = []
-integersOrSpaces (c ∷ cs) = cond (isIntegerOrSpaces (c .what)) (c ∷ integersOrSpaces cs) (integersOrSpaces cs)
+unfoldable pub formsOf : List Col → List ℕ
+formsOf l = map (λ (c : Col). formOf (c .what)) l
 
 -- the least and the greatest number that a rule allows in a column of this width: of any sign, what the width holds, a minus taking one
 -- byte of it; of a list, its ends. What they are stands below; and `inside-between` of proofs/Ranges shows that a column is inside its rule exactly
@@ -66,11 +67,24 @@ ruleOf blank = anySign
 ruleOf (integral rule) = rule
 ruleOf integralOrSpaces = anySign
 
+-- the columns that may hold a number; of the others the tables say 0
+abbrev pub isNumeric : What → Bool
+isNumeric text = false
+isNumeric blank = false
+isNumeric (integral rule) = true
+isNumeric integralOrSpaces = true
+
+abbrev pub lowIn : Col → ℤ
+lowIn c = cond (isNumeric (c .what)) (low (ruleOf (c .what)) (c .width)) (pos 0)
+
+abbrev pub highIn : Col → ℤ
+highIn c = cond (isNumeric (c .what)) (high (ruleOf (c .what)) (c .width)) (pos 0)
+
 unfoldable pub lowsOf : List Col → List ℤ
-lowsOf l = map (λ (c : Col). low (ruleOf (c .what)) (c .width)) l
+lowsOf l = map lowIn l
 
 unfoldable pub highsOf : List Col → List ℤ
-highsOf l = map (λ (c : Col). high (ruleOf (c .what)) (c .width)) l
+highsOf l = map highIn l
 
 -- the least number, and the greatest, that a column may hold: it fits the width and is inside the rule, and of all such numbers none is less, or greater
 pub record Least (rule : Rule) (width : ℕ) (low : ℤ) : Type 0 where
@@ -83,20 +97,20 @@ pub record Greatest (rule : Rule) (width : ℕ) (high : ℤ) : Type 0 where
   pub allowed : inside rule high ≡ true
   pub none-greater : (z : ℤ) → fits width z ≡ true → inside rule z ≡ true → leZ z high ≡ true
 
--- so it is for each column of a list
+-- so it is for each column of a list that may hold a number
 pub data LeastEach : List Col → List ℤ → Type 0 where
   least-none : LeastEach [] []
-  least-more : {c : Col} {cs : List Col} {z : ℤ} {zs : List ℤ} → Least (ruleOf (c .what)) (c .width) z → LeastEach cs zs → LeastEach (c ∷ cs) (z ∷ zs)
+  least-more : {c : Col} {cs : List Col} {z : ℤ} {zs : List ℤ} → (isNumeric (c .what) ≡ true → Least (ruleOf (c .what)) (c .width) z) → LeastEach cs zs → LeastEach (c ∷ cs) (z ∷ zs)
 
 pub data GreatestEach : List Col → List ℤ → Type 0 where
   greatest-none : GreatestEach [] []
-  greatest-more : {c : Col} {cs : List Col} {z : ℤ} {zs : List ℤ} → Greatest (ruleOf (c .what)) (c .width) z → GreatestEach cs zs → GreatestEach (c ∷ cs) (z ∷ zs)
+  greatest-more : {c : Col} {cs : List Col} {z : ℤ} {zs : List ℤ} → (isNumeric (c .what) ≡ true → Greatest (ruleOf (c .what)) (c .width) z) → GreatestEach cs zs → GreatestEach (c ∷ cs) (z ∷ zs)
 
--- what `integer_lows` and `integer_highs` answer of a layout, and what that is for each of its integer columns
+-- what `lows` and `highs` answer of a layout, and what that is for each of its columns that may hold a number
 pub record Lows (layout : List Col) (lows : List ℤ) : Type 0 where
-  pub are : lows ≡ lowsOf (integers layout)
-  pub least : LeastEach (integers layout) lows
+  pub are : lows ≡ lowsOf (tabled layout)
+  pub least : LeastEach (tabled layout) lows
 
 pub record Highs (layout : List Col) (highs : List ℤ) : Type 0 where
-  pub are : highs ≡ highsOf (integers layout)
-  pub greatest : GreatestEach (integers layout) highs
+  pub are : highs ≡ highsOf (tabled layout)
+  pub greatest : GreatestEach (tabled layout) highs

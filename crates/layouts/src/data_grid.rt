@@ -1,7 +1,8 @@
 ghost use mathlib.Core.Path.{_≡_};
 ghost use Rattle.format.specs.Layout.{dataGrid};
-ghost use Rattle.layouts.specs.Tables.{spansOf, startsOf, widthsOf, integers};
+ghost use Rattle.layouts.specs.Tables.{spansOf, startsOf, widthsOf, formsOf, tabled};
 use super::Bytes12;
+use super::INTEGER;
 use super::Span;
 use super::Spans12;
 
@@ -84,15 +85,21 @@ impl DataGrid {
         ]
     }
 
-    pub fn integer_starts() -> Bytes12
-        ensures { λ r. ⌜ r ≡ startsOf (integers dataGrid) ⌝ }
+    pub fn starts() -> Bytes12
+        ensures { λ r. ⌜ r ≡ startsOf (tabled dataGrid) ⌝ }
     {
         [0, 7, 14, 21, 28, 35, 42, 49, 56, 63, 70, 77]
     }
 
-    pub fn integer_widths() -> Bytes12
-        ensures { λ r. ⌜ r ≡ widthsOf (integers dataGrid) ⌝ }
+    pub fn widths() -> Bytes12
+        ensures { λ r. ⌜ r ≡ widthsOf (tabled dataGrid) ⌝ }
     {
         [7; 12]
+    }
+
+    pub fn forms() -> Bytes12
+        ensures { λ r. ⌜ r ≡ formsOf (tabled dataGrid) ⌝ }
+    {
+        [INTEGER; 12]
     }
 }

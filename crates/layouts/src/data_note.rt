@@ -1,7 +1,8 @@
 ghost use mathlib.Core.Path.{_≡_};
 ghost use Rattle.format.specs.Layout.{dataNote};
-ghost use Rattle.layouts.specs.Tables.{spansOf, startsOf, widthsOf, integers, Lows, Highs};
+ghost use Rattle.layouts.specs.Tables.{spansOf, startsOf, widthsOf, formsOf, tabled, Lows, Highs};
 use super::Bytes5;
+use super::INTEGER;
 use super::Limits5;
 use super::Span;
 use super::Spans6;
@@ -56,25 +57,31 @@ impl DataNote {
         ]
     }
 
-    pub fn integer_starts() -> Bytes5
-        ensures { λ r. ⌜ r ≡ startsOf (integers dataNote) ⌝ }
+    pub fn starts() -> Bytes5
+        ensures { λ r. ⌜ r ≡ startsOf (tabled dataNote) ⌝ }
     {
         [0, 1, 8, 13, 18]
     }
 
-    pub fn integer_widths() -> Bytes5
-        ensures { λ r. ⌜ r ≡ widthsOf (integers dataNote) ⌝ }
+    pub fn widths() -> Bytes5
+        ensures { λ r. ⌜ r ≡ widthsOf (tabled dataNote) ⌝ }
     {
         [1, 7, 5, 5, 2]
     }
 
-    pub fn integer_lows() -> Limits5
+    pub fn forms() -> Bytes5
+        ensures { λ r. ⌜ r ≡ formsOf (tabled dataNote) ⌝ }
+    {
+        [INTEGER; 5]
+    }
+
+    pub fn lows() -> Limits5
         ensures { λ r. ⌜ Lows dataNote r ⌝ }
     {
         [0, -999999, 0, 0, 0]
     }
 
-    pub fn integer_highs() -> Limits5
+    pub fn highs() -> Limits5
         ensures { λ r. ⌜ Highs dataNote r ⌝ }
     {
         [1, 9999999, 99999, 99999, 99]

@@ -1,8 +1,11 @@
 ghost use mathlib.Core.Path.{_≡_};
 ghost use Rattle.format.specs.Layout.{element};
-ghost use Rattle.layouts.specs.Tables.{spansOf, startsOf, widthsOf, integers, Lows, Highs};
-use super::Bytes17;
-use super::Limits17;
+ghost use Rattle.layouts.specs.Tables.{spansOf, startsOf, widthsOf, formsOf, tabled, Lows, Highs};
+use super::BLANK;
+use super::Bytes19;
+use super::INTEGER;
+use super::INTEGER_OR_SPACES;
+use super::Limits19;
 use super::Span;
 use super::Spans24;
 
@@ -148,8 +151,8 @@ impl Element {
         ]
     }
 
-    pub fn integer_starts() -> Bytes17
-        ensures { λ r. ⌜ r ≡ startsOf (integers element) ⌝ }
+    pub fn starts() -> Bytes19
+        ensures { λ r. ⌜ r ≡ startsOf (tabled element) ⌝ }
     {
         [
             2, // class
@@ -167,18 +170,46 @@ impl Element {
             31, // records
             35, // X
             42, // Y
+            49, // value
             56, // attribute class
+            77, // blank
             83, // repeat
         ]
     }
 
-    pub fn integer_widths() -> Bytes17
-        ensures { λ r. ⌜ r ≡ widthsOf (integers element) ⌝ }
+    pub fn widths() -> Bytes19
+        ensures { λ r. ⌜ r ≡ widthsOf (tabled element) ⌝ }
     {
-        [4, 2, 4, 4, 2, 2, 1, 2, 1, 2, 1, 4, 4, 7, 7, 2, 1]
+        [4, 2, 4, 4, 2, 2, 1, 2, 1, 2, 1, 4, 4, 7, 7, 7, 2, 6, 1]
     }
 
-    pub fn integer_lows() -> Limits17
+    pub fn forms() -> Bytes19
+        ensures { λ r. ⌜ r ≡ formsOf (tabled element) ⌝ }
+    {
+        [
+            INTEGER, // class
+            INTEGER, // area code
+            INTEGER, // information
+            INTEGER, // number
+            INTEGER, // level
+            INTEGER, // figure
+            INTEGER, // data kind
+            INTEGER, // accuracy
+            INTEGER, // note kind
+            INTEGER, // shift
+            INTEGER, // break
+            INTEGER, // data count
+            INTEGER, // records
+            INTEGER, // X
+            INTEGER, // Y
+            INTEGER_OR_SPACES, // value
+            INTEGER, // attribute class
+            BLANK, // blank
+            INTEGER, // repeat
+        ]
+    }
+
+    pub fn lows() -> Limits19
         ensures { λ r. ⌜ Lows element r ⌝ }
     {
         [
@@ -197,12 +228,14 @@ impl Element {
             0, // records
             -999999, // X
             -999999, // Y
+            -999999, // value
             0, // attribute class
+            0, // blank
             1, // repeat
         ]
     }
 
-    pub fn integer_highs() -> Limits17
+    pub fn highs() -> Limits19
         ensures { λ r. ⌜ Highs element r ⌝ }
     {
         [
@@ -221,7 +254,9 @@ impl Element {
             9999, // records
             9999999, // X
             9999999, // Y
+            9999999, // value
             99, // attribute class
+            0, // blank
             9, // repeat
         ]
     }

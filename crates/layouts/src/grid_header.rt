@@ -1,8 +1,10 @@
 ghost use mathlib.Core.Path.{_≡_};
 ghost use Rattle.format.specs.Layout.{gridHeader};
-ghost use Rattle.layouts.specs.Tables.{spansOf, startsOf, widthsOf, integers, Lows, Highs};
-use super::Bytes15;
-use super::Limits15;
+ghost use Rattle.layouts.specs.Tables.{spansOf, startsOf, widthsOf, formsOf, tabled, Lows, Highs};
+use super::BLANK;
+use super::Bytes16;
+use super::INTEGER;
+use super::Limits16;
 use super::Span;
 use super::Spans20;
 
@@ -126,25 +128,65 @@ impl GridHeader {
         ]
     }
 
-    pub fn integer_starts() -> Bytes15
-        ensures { λ r. ⌜ r ≡ startsOf (integers gridHeader) ⌝ }
+    pub fn starts() -> Bytes16
+        ensures { λ r. ⌜ r ≡ startsOf (tabled gridHeader) ⌝ }
     {
-        [2, 6, 8, 12, 16, 18, 22, 26, 30, 37, 44, 51, 70, 72, 83]
+        [
+            2, // class
+            6, // area code
+            8, // information
+            12, // number
+            16, // level
+            18, // rows
+            22, // columns
+            26, // records
+            30, // cell rows
+            37, // cell columns
+            44, // origin X
+            51, // origin Y
+            70, // figure
+            72, // accuracy
+            74, // blank
+            83, // repeat
+        ]
     }
 
-    pub fn integer_widths() -> Bytes15
-        ensures { λ r. ⌜ r ≡ widthsOf (integers gridHeader) ⌝ }
+    pub fn widths() -> Bytes16
+        ensures { λ r. ⌜ r ≡ widthsOf (tabled gridHeader) ⌝ }
     {
-        [4, 2, 4, 4, 2, 4, 4, 4, 7, 7, 7, 7, 2, 2, 1]
+        [4, 2, 4, 4, 2, 4, 4, 4, 7, 7, 7, 7, 2, 2, 9, 1]
     }
 
-    pub fn integer_lows() -> Limits15
+    pub fn forms() -> Bytes16
+        ensures { λ r. ⌜ r ≡ formsOf (tabled gridHeader) ⌝ }
+    {
+        [
+            INTEGER, // class
+            INTEGER, // area code
+            INTEGER, // information
+            INTEGER, // number
+            INTEGER, // level
+            INTEGER, // rows
+            INTEGER, // columns
+            INTEGER, // records
+            INTEGER, // cell rows
+            INTEGER, // cell columns
+            INTEGER, // origin X
+            INTEGER, // origin Y
+            INTEGER, // figure
+            INTEGER, // accuracy
+            BLANK, // blank
+            INTEGER, // repeat
+        ]
+    }
+
+    pub fn lows() -> Limits16
         ensures { λ r. ⌜ Lows gridHeader r ⌝ }
     {
-        [0, 0, 0, 0, 0, 1, 1, 0, 1, 1, -999999, -999999, 0, 0, 1]
+        [0, 0, 0, 0, 0, 1, 1, 0, 1, 1, -999999, -999999, 0, 0, 0, 1]
     }
 
-    pub fn integer_highs() -> Limits15
+    pub fn highs() -> Limits16
         ensures { λ r. ⌜ Highs gridHeader r ⌝ }
     {
         [
@@ -162,6 +204,7 @@ impl GridHeader {
             9999999, // origin Y
             99, // figure
             99, // accuracy
+            0, // blank
             9, // repeat
         ]
     }

@@ -1,8 +1,10 @@
 ghost use mathlib.Core.Path.{_≡_};
 ghost use Rattle.format.specs.Layout.{header};
-ghost use Rattle.layouts.specs.Tables.{spansOf, startsOf, widthsOf, integers, Lows, Highs};
-use super::Bytes17;
-use super::Limits17;
+ghost use Rattle.layouts.specs.Tables.{spansOf, startsOf, widthsOf, formsOf, tabled, Lows, Highs};
+use super::BLANK;
+use super::Bytes18;
+use super::INTEGER;
+use super::Limits18;
 use super::Span;
 use super::Spans22;
 
@@ -136,8 +138,8 @@ impl Header {
         ]
     }
 
-    pub fn integer_starts() -> Bytes17
-        ensures { λ r. ⌜ r ≡ startsOf (integers header) ⌝ }
+    pub fn starts() -> Bytes18
+        ensures { λ r. ⌜ r ≡ startsOf (tabled header) ⌝ }
     {
         [
             2, // class
@@ -157,22 +159,48 @@ impl Header {
             63, // attribute
             68, // grid and net
             81, // method
+            83, // blank
         ]
     }
 
-    pub fn integer_widths() -> Bytes17
-        ensures { λ r. ⌜ r ≡ widthsOf (integers header) ⌝ }
+    pub fn widths() -> Bytes18
+        ensures { λ r. ⌜ r ≡ widthsOf (tabled header) ⌝ }
     {
-        [4, 2, 4, 4, 2, 5, 5, 5, 5, 5, 5, 5, 5, 5, 5, 1, 2]
+        [4, 2, 4, 4, 2, 5, 5, 5, 5, 5, 5, 5, 5, 5, 5, 1, 2, 1]
     }
 
-    pub fn integer_lows() -> Limits17
+    pub fn forms() -> Bytes18
+        ensures { λ r. ⌜ r ≡ formsOf (tabled header) ⌝ }
+    {
+        [
+            INTEGER, // class
+            INTEGER, // area code
+            INTEGER, // information
+            INTEGER, // number
+            INTEGER, // level
+            INTEGER, // total
+            INTEGER, // groups
+            INTEGER, // area
+            INTEGER, // line
+            INTEGER, // circle
+            INTEGER, // arc
+            INTEGER, // point
+            INTEGER, // direction
+            INTEGER, // note
+            INTEGER, // attribute
+            INTEGER, // grid and net
+            INTEGER, // method
+            BLANK, // blank
+        ]
+    }
+
+    pub fn lows() -> Limits18
         ensures { λ r. ⌜ Lows header r ⌝ }
     {
-        [0; 17]
+        [0; 18]
     }
 
-    pub fn integer_highs() -> Limits17
+    pub fn highs() -> Limits18
         ensures { λ r. ⌜ Highs header r ⌝ }
     {
         [
@@ -193,6 +221,7 @@ impl Header {
             99999, // attribute
             9, // grid and net
             99, // method
+            0, // blank
         ]
     }
 }

@@ -1,8 +1,10 @@
 ghost use mathlib.Core.Path.{_≡_};
 ghost use Rattle.format.specs.Layout.{indexA};
-ghost use Rattle.layouts.specs.Tables.{spansOf, startsOf, widthsOf, integers, Lows, Highs};
-use super::Bytes9;
-use super::Limits9;
+ghost use Rattle.layouts.specs.Tables.{spansOf, startsOf, widthsOf, formsOf, tabled, Lows, Highs};
+use super::BLANK;
+use super::Bytes10;
+use super::INTEGER;
+use super::Limits10;
 use super::Span;
 use super::Spans13;
 
@@ -91,27 +93,44 @@ impl IndexA {
         ]
     }
 
-    pub fn integer_starts() -> Bytes9
-        ensures { λ r. ⌜ r ≡ startsOf (integers indexA) ⌝ }
+    pub fn starts() -> Bytes10
+        ensures { λ r. ⌜ r ≡ startsOf (tabled indexA) ⌝ }
     {
-        [2, 34, 37, 39, 43, 44, 45, 79, 80]
+        [2, 34, 37, 39, 43, 44, 45, 79, 80, 81]
     }
 
-    pub fn integer_widths() -> Bytes9
-        ensures { λ r. ⌜ r ≡ widthsOf (integers indexA) ⌝ }
+    pub fn widths() -> Bytes10
+        ensures { λ r. ⌜ r ≡ widthsOf (tabled indexA) ⌝ }
     {
-        [2, 3, 2, 4, 1, 1, 4, 1, 1]
+        [2, 3, 2, 4, 1, 1, 4, 1, 1, 3]
     }
 
-    pub fn integer_lows() -> Limits9
+    pub fn forms() -> Bytes10
+        ensures { λ r. ⌜ r ≡ formsOf (tabled indexA) ⌝ }
+    {
+        [
+            INTEGER, // system
+            INTEGER, // sheets
+            INTEGER, // b records
+            INTEGER, // c records
+            INTEGER, // shift flag
+            INTEGER, // break flag
+            INTEGER, // year
+            INTEGER, // version
+            INTEGER, // blank use
+            BLANK, // blank
+        ]
+    }
+
+    pub fn lows() -> Limits10
         ensures { λ r. ⌜ Lows indexA r ⌝ }
     {
-        [1, 0, 0, 0, 0, 0, 0, 1, 0]
+        [1, 0, 0, 0, 0, 0, 0, 1, 0, 0]
     }
 
-    pub fn integer_highs() -> Limits9
+    pub fn highs() -> Limits10
         ensures { λ r. ⌜ Highs indexA r ⌝ }
     {
-        [19, 999, 99, 9999, 1, 1, 9999, 1, 9]
+        [19, 999, 99, 9999, 1, 1, 9999, 1, 9, 0]
     }
 }

@@ -1,7 +1,8 @@
 ghost use mathlib.Core.Path.{_≡_};
 ghost use Rattle.format.specs.Layout.{indexC};
-ghost use Rattle.layouts.specs.Tables.{spansOf, startsOf, widthsOf, integers, Lows, Highs};
+ghost use Rattle.layouts.specs.Tables.{spansOf, startsOf, widthsOf, formsOf, tabled, Lows, Highs};
 use super::Bytes13;
+use super::INTEGER;
 use super::Limits13;
 use super::Span;
 use super::Spans14;
@@ -97,25 +98,31 @@ impl IndexC {
         ]
     }
 
-    pub fn integer_starts() -> Bytes13
-        ensures { λ r. ⌜ r ≡ startsOf (integers indexC) ⌝ }
+    pub fn starts() -> Bytes13
+        ensures { λ r. ⌜ r ≡ startsOf (tabled indexC) ⌝ }
     {
         [0, 4, 8, 9, 10, 11, 12, 13, 14, 15, 16, 17, 18]
     }
 
-    pub fn integer_widths() -> Bytes13
-        ensures { λ r. ⌜ r ≡ widthsOf (integers indexC) ⌝ }
+    pub fn widths() -> Bytes13
+        ensures { λ r. ⌜ r ≡ widthsOf (tabled indexC) ⌝ }
     {
         [4, 4, 1, 1, 1, 1, 1, 1, 1, 1, 1, 1, 1]
     }
 
-    pub fn integer_lows() -> Limits13
+    pub fn forms() -> Bytes13
+        ensures { λ r. ⌜ r ≡ formsOf (tabled indexC) ⌝ }
+    {
+        [INTEGER; 13]
+    }
+
+    pub fn lows() -> Limits13
         ensures { λ r. ⌜ Lows indexC r ⌝ }
     {
         [0; 13]
     }
 
-    pub fn integer_highs() -> Limits13
+    pub fn highs() -> Limits13
         ensures { λ r. ⌜ Highs indexC r ⌝ }
     {
         [9999, 9999, 1, 1, 1, 1, 1, 1, 1, 1, 1, 1, 3]

@@ -4,10 +4,12 @@
 // before it ends, and END is where the last one ends. The blank column, X, is named BLANK. Its functions are:
 // - end: END, which is 84;
 // - columns: start and width of every column, those of the layout's table in crate format;
-// - integer_starts, integer_widths: those of its integer columns alone, as tables for a loop over them. The element's value, an integer or
-//   spaces, is not among them. Points and heights are all twelve integers of seven bytes, so one table, that of the grid's data, serves them;
-// - integer_lows, integer_highs: the least and the greatest number allowed in each, of a list its ends. A layout whose integers may all
-//   have any sign has neither.
+// - starts, widths: those of its columns but text, as tables for a loop over them, in the order of the layout. Points and heights are all twelve
+//   integers of seven bytes, so one table, that of the grid's data, serves them;
+// - forms: what each of these columns holds, one of the numbers below;
+// - lows, highs: the least and the greatest number allowed in each, of a list its ends; of an integer or spaces, those of any sign in its width; 0 of a
+//   blank. The grid's data has neither: its integers may have any sign.
+// Sheet c, index b and the data of attributes hold no number; they have no tables.
 mod data_2d;
 mod data_3d;
 mod data_attribute;
@@ -51,7 +53,15 @@ pub use sheet_f::SheetF;
 // A column: its start in the record, from 0, and its width, in bytes.
 pub struct Span(pub usize, pub usize);
 
-// Tables, named by their number of entries: columns by start and width; starts or widths alone, in bytes; least or greatest numbers.
+// The forms of a column, one home for their numbers; text has none. An integer: it must be well formed, and inside its range or list. An integer or
+// spaces: spaces alone are taken too, and the integer may have any sign. A blank: it is not judged, and the normal form leaves it as it is.
+pub const INTEGER: u8 = 0;
+
+pub const INTEGER_OR_SPACES: u8 = 1;
+
+pub const BLANK: u8 = 2;
+
+// Tables, named by their number of entries: columns by start and width; starts or widths alone, in bytes, or forms; least or greatest numbers.
 pub type Spans1 = [Span; 1];
 
 pub type Spans6 = [Span; 6];
@@ -76,36 +86,38 @@ pub type Spans22 = [Span; 22];
 
 pub type Spans24 = [Span; 24];
 
-pub type Bytes4 = [u8; 4];
-
 pub type Bytes5 = [u8; 5];
 
-pub type Bytes8 = [u8; 8];
+pub type Bytes6 = [u8; 6];
 
 pub type Bytes9 = [u8; 9];
 
-pub type Bytes11 = [u8; 11];
+pub type Bytes10 = [u8; 10];
 
 pub type Bytes12 = [u8; 12];
 
 pub type Bytes13 = [u8; 13];
 
-pub type Bytes15 = [u8; 15];
+pub type Bytes16 = [u8; 16];
 
-pub type Bytes17 = [u8; 17];
+pub type Bytes18 = [u8; 18];
 
-pub type Limits4 = [i64; 4];
+pub type Bytes19 = [u8; 19];
 
 pub type Limits5 = [i64; 5];
 
+pub type Limits6 = [i64; 6];
+
 pub type Limits9 = [i64; 9];
 
-pub type Limits11 = [i64; 11];
+pub type Limits10 = [i64; 10];
 
 pub type Limits12 = [i64; 12];
 
 pub type Limits13 = [i64; 13];
 
-pub type Limits15 = [i64; 15];
+pub type Limits16 = [i64; 16];
 
-pub type Limits17 = [i64; 17];
+pub type Limits18 = [i64; 18];
+
+pub type Limits19 = [i64; 19];

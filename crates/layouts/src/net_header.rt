@@ -1,8 +1,10 @@
 ghost use mathlib.Core.Path.{_≡_};
 ghost use Rattle.format.specs.Layout.{netHeader};
-ghost use Rattle.layouts.specs.Tables.{spansOf, startsOf, widthsOf, integers, Lows, Highs};
-use super::Bytes9;
-use super::Limits9;
+ghost use Rattle.layouts.specs.Tables.{spansOf, startsOf, widthsOf, formsOf, tabled, Lows, Highs};
+use super::BLANK;
+use super::Bytes10;
+use super::INTEGER;
+use super::Limits10;
 use super::Span;
 use super::Spans14;
 
@@ -95,27 +97,44 @@ impl NetHeader {
         ]
     }
 
-    pub fn integer_starts() -> Bytes9
-        ensures { λ r. ⌜ r ≡ startsOf (integers netHeader) ⌝ }
+    pub fn starts() -> Bytes10
+        ensures { λ r. ⌜ r ≡ startsOf (tabled netHeader) ⌝ }
     {
-        [2, 6, 8, 12, 16, 18, 20, 26, 44]
+        [2, 6, 8, 12, 16, 18, 20, 26, 44, 46]
     }
 
-    pub fn integer_widths() -> Bytes9
-        ensures { λ r. ⌜ r ≡ widthsOf (integers netHeader) ⌝ }
+    pub fn widths() -> Bytes10
+        ensures { λ r. ⌜ r ≡ widthsOf (tabled netHeader) ⌝ }
     {
-        [4, 2, 4, 4, 2, 2, 6, 6, 2]
+        [4, 2, 4, 4, 2, 2, 6, 6, 2, 38]
     }
 
-    pub fn integer_lows() -> Limits9
+    pub fn forms() -> Bytes10
+        ensures { λ r. ⌜ r ≡ formsOf (tabled netHeader) ⌝ }
+    {
+        [
+            INTEGER, // class
+            INTEGER, // area code
+            INTEGER, // information
+            INTEGER, // number
+            INTEGER, // level
+            INTEGER, // figure
+            INTEGER, // triangles
+            INTEGER, // records
+            INTEGER, // accuracy
+            BLANK, // blank
+        ]
+    }
+
+    pub fn lows() -> Limits10
         ensures { λ r. ⌜ Lows netHeader r ⌝ }
     {
-        [0, 0, 0, 0, 0, 0, 1, 0, 0]
+        [0, 0, 0, 0, 0, 0, 1, 0, 0, 0]
     }
 
-    pub fn integer_highs() -> Limits9
+    pub fn highs() -> Limits10
         ensures { λ r. ⌜ Highs netHeader r ⌝ }
     {
-        [9999, 99, 9999, 9999, 99, 99, 999999, 999999, 99]
+        [9999, 99, 9999, 9999, 99, 99, 999999, 999999, 99, 0]
     }
 }

@@ -1,8 +1,10 @@
 ghost use mathlib.Core.Path.{_≡_};
 ghost use Rattle.format.specs.Layout.{sheetA};
-ghost use Rattle.layouts.specs.Tables.{spansOf, startsOf, widthsOf, integers, Lows, Highs};
-use super::Bytes4;
-use super::Limits4;
+ghost use Rattle.layouts.specs.Tables.{spansOf, startsOf, widthsOf, formsOf, tabled, Lows, Highs};
+use super::BLANK;
+use super::Bytes5;
+use super::INTEGER;
+use super::Limits5;
 use super::Span;
 use super::Spans9;
 
@@ -70,27 +72,33 @@ impl SheetA {
         ]
     }
 
-    pub fn integer_starts() -> Bytes4
-        ensures { λ r. ⌜ r ≡ startsOf (integers sheetA) ⌝ }
+    pub fn starts() -> Bytes5
+        ensures { λ r. ⌜ r ≡ startsOf (tabled sheetA) ⌝ }
     {
-        [30, 65, 67, 68]
+        [30, 65, 67, 68, 69]
     }
 
-    pub fn integer_widths() -> Bytes4
-        ensures { λ r. ⌜ r ≡ widthsOf (integers sheetA) ⌝ }
+    pub fn widths() -> Bytes5
+        ensures { λ r. ⌜ r ≡ widthsOf (tabled sheetA) ⌝ }
     {
-        [5, 2, 1, 1]
+        [5, 2, 1, 1, 15]
     }
 
-    pub fn integer_lows() -> Limits4
+    pub fn forms() -> Bytes5
+        ensures { λ r. ⌜ r ≡ formsOf (tabled sheetA) ⌝ }
+    {
+        [INTEGER, INTEGER, INTEGER, INTEGER, BLANK]
+    }
+
+    pub fn lows() -> Limits5
         ensures { λ r. ⌜ Lows sheetA r ⌝ }
     {
-        [500, 0, 1, 0]
+        [500, 0, 1, 0, 0]
     }
 
-    pub fn integer_highs() -> Limits4
+    pub fn highs() -> Limits5
         ensures { λ r. ⌜ Highs sheetA r ⌝ }
     {
-        [10000, 99, 1, 9]
+        [10000, 99, 1, 9, 0]
     }
 }

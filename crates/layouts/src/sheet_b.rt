@@ -1,8 +1,10 @@
 ghost use mathlib.Core.Path.{_≡_};
 ghost use Rattle.format.specs.Layout.{sheetB};
-ghost use Rattle.layouts.specs.Tables.{spansOf, startsOf, widthsOf, integers, Lows, Highs};
-use super::Bytes11;
-use super::Limits11;
+ghost use Rattle.layouts.specs.Tables.{spansOf, startsOf, widthsOf, formsOf, tabled, Lows, Highs};
+use super::BLANK;
+use super::Bytes12;
+use super::INTEGER;
+use super::Limits12;
 use super::Span;
 use super::Spans13;
 
@@ -91,19 +93,38 @@ impl SheetB {
         ]
     }
 
-    pub fn integer_starts() -> Bytes11
-        ensures { λ r. ⌜ r ≡ startsOf (integers sheetB) ⌝ }
+    pub fn starts() -> Bytes12
+        ensures { λ r. ⌜ r ≡ startsOf (tabled sheetB) ⌝ }
     {
-        [0, 7, 14, 21, 31, 37, 44, 47, 54, 61, 68]
+        [0, 7, 14, 21, 31, 37, 44, 47, 54, 61, 68, 75]
     }
 
-    pub fn integer_widths() -> Bytes11
-        ensures { λ r. ⌜ r ≡ widthsOf (integers sheetB) ⌝ }
+    pub fn widths() -> Bytes12
+        ensures { λ r. ⌜ r ≡ widthsOf (tabled sheetB) ⌝ }
     {
-        [7, 7, 7, 7, 6, 7, 3, 7, 7, 7, 7]
+        [7, 7, 7, 7, 6, 7, 3, 7, 7, 7, 7, 9]
     }
 
-    pub fn integer_lows() -> Limits11
+    pub fn forms() -> Bytes12
+        ensures { λ r. ⌜ r ≡ formsOf (tabled sheetB) ⌝ }
+    {
+        [
+            INTEGER, // lower left X
+            INTEGER, // lower left Y
+            INTEGER, // upper right X
+            INTEGER, // upper right Y
+            INTEGER, // element count
+            INTEGER, // record count
+            INTEGER, // unit
+            INTEGER, // upper left X
+            INTEGER, // upper left Y
+            INTEGER, // lower right X
+            INTEGER, // lower right Y
+            BLANK, // blank
+        ]
+    }
+
+    pub fn lows() -> Limits12
         ensures { λ r. ⌜ Lows sheetB r ⌝ }
     {
         [
@@ -118,10 +139,11 @@ impl SheetB {
             -999999, // upper left Y
             -999999, // lower right X
             -999999, // lower right Y
+            0, // blank
         ]
     }
 
-    pub fn integer_highs() -> Limits11
+    pub fn highs() -> Limits12
         ensures { λ r. ⌜ Highs sheetB r ⌝ }
     {
         [
@@ -136,6 +158,7 @@ impl SheetB {
             9999999, // upper left Y
             9999999, // lower right X
             9999999, // lower right Y
+            0, // blank
         ]
     }
 }

@@ -1,8 +1,10 @@
 ghost use mathlib.Core.Path.{_≡_};
 ghost use Rattle.format.specs.Layout.{sheetD};
-ghost use Rattle.layouts.specs.Tables.{spansOf, startsOf, widthsOf, integers, Lows, Highs};
-use super::Bytes5;
-use super::Limits5;
+ghost use Rattle.layouts.specs.Tables.{spansOf, startsOf, widthsOf, formsOf, tabled, Lows, Highs};
+use super::BLANK;
+use super::Bytes6;
+use super::INTEGER;
+use super::Limits6;
 use super::Span;
 use super::Spans10;
 
@@ -76,27 +78,33 @@ impl SheetD {
         ]
     }
 
-    pub fn integer_starts() -> Bytes5
-        ensures { λ r. ⌜ r ≡ startsOf (integers sheetD) ⌝ }
+    pub fn starts() -> Bytes6
+        ensures { λ r. ⌜ r ≡ startsOf (tabled sheetD) ⌝ }
     {
-        [8, 9, 70, 71, 72]
+        [8, 9, 70, 71, 72, 73]
     }
 
-    pub fn integer_widths() -> Bytes5
-        ensures { λ r. ⌜ r ≡ widthsOf (integers sheetD) ⌝ }
+    pub fn widths() -> Bytes6
+        ensures { λ r. ⌜ r ≡ widthsOf (tabled sheetD) ⌝ }
     {
-        [1; 5]
+        [1, 1, 1, 1, 1, 11]
     }
 
-    pub fn integer_lows() -> Limits5
+    pub fn forms() -> Bytes6
+        ensures { λ r. ⌜ r ≡ formsOf (tabled sheetD) ⌝ }
+    {
+        [INTEGER, INTEGER, INTEGER, INTEGER, INTEGER, BLANK]
+    }
+
+    pub fn lows() -> Limits6
         ensures { λ r. ⌜ Lows sheetD r ⌝ }
     {
-        [0; 5]
+        [0; 6]
     }
 
-    pub fn integer_highs() -> Limits5
+    pub fn highs() -> Limits6
         ensures { λ r. ⌜ Highs sheetD r ⌝ }
     {
-        [9, 9, 2, 9, 9]
+        [9, 9, 2, 9, 9, 0]
     }
 }

@@ -1,7 +1,10 @@
 ghost use mathlib.Core.Path.{_≡_};
 ghost use Rattle.format.specs.Layout.{sheetE};
-ghost use Rattle.layouts.specs.Tables.{spansOf, startsOf, widthsOf, integers};
-use super::Bytes8;
+ghost use Rattle.layouts.specs.Tables.{spansOf, startsOf, widthsOf, formsOf, tabled, Lows, Highs};
+use super::BLANK;
+use super::Bytes9;
+use super::INTEGER;
+use super::Limits9;
 use super::Span;
 use super::Spans10;
 
@@ -75,15 +78,43 @@ impl SheetE {
         ]
     }
 
-    pub fn integer_starts() -> Bytes8
-        ensures { λ r. ⌜ r ≡ startsOf (integers sheetE) ⌝ }
+    pub fn starts() -> Bytes9
+        ensures { λ r. ⌜ r ≡ startsOf (tabled sheetE) ⌝ }
     {
-        [40, 44, 48, 52, 56, 60, 64, 68]
+        [40, 44, 48, 52, 56, 60, 64, 68, 72]
     }
 
-    pub fn integer_widths() -> Bytes8
-        ensures { λ r. ⌜ r ≡ widthsOf (integers sheetE) ⌝ }
+    pub fn widths() -> Bytes9
+        ensures { λ r. ⌜ r ≡ widthsOf (tabled sheetE) ⌝ }
     {
-        [4; 8]
+        [4, 4, 4, 4, 4, 4, 4, 4, 12]
+    }
+
+    pub fn forms() -> Bytes9
+        ensures { λ r. ⌜ r ≡ formsOf (tabled sheetE) ⌝ }
+    {
+        [
+            INTEGER, // lower left X
+            INTEGER, // lower left Y
+            INTEGER, // upper right X
+            INTEGER, // upper right Y
+            INTEGER, // upper left X
+            INTEGER, // upper left Y
+            INTEGER, // lower right X
+            INTEGER, // lower right Y
+            BLANK, // blank
+        ]
+    }
+
+    pub fn lows() -> Limits9
+        ensures { λ r. ⌜ Lows sheetE r ⌝ }
+    {
+        [-999, -999, -999, -999, -999, -999, -999, -999, 0]
+    }
+
+    pub fn highs() -> Limits9
+        ensures { λ r. ⌜ Highs sheetE r ⌝ }
+    {
+        [9999, 9999, 9999, 9999, 9999, 9999, 9999, 9999, 0]
     }
 }

@@ -1,8 +1,10 @@
 ghost use mathlib.Core.Path.{_≡_};
 ghost use Rattle.format.specs.Layout.{sheetF};
-ghost use Rattle.layouts.specs.Tables.{spansOf, startsOf, widthsOf, integers, Lows, Highs};
-use super::Bytes12;
-use super::Limits12;
+ghost use Rattle.layouts.specs.Tables.{spansOf, startsOf, widthsOf, formsOf, tabled, Lows, Highs};
+use super::BLANK;
+use super::Bytes13;
+use super::INTEGER;
+use super::Limits13;
 use super::Span;
 use super::Spans19;
 
@@ -135,25 +137,45 @@ impl SheetF {
         ]
     }
 
-    pub fn integer_starts() -> Bytes12
-        ensures { λ r. ⌜ r ≡ startsOf (integers sheetF) ⌝ }
+    pub fn starts() -> Bytes13
+        ensures { λ r. ⌜ r ≡ startsOf (tabled sheetF) ⌝ }
     {
-        [8, 13, 14, 18, 30, 35, 36, 40, 52, 57, 58, 62]
+        [8, 13, 14, 18, 30, 35, 36, 40, 52, 57, 58, 62, 66]
     }
 
-    pub fn integer_widths() -> Bytes12
-        ensures { λ r. ⌜ r ≡ widthsOf (integers sheetF) ⌝ }
+    pub fn widths() -> Bytes13
+        ensures { λ r. ⌜ r ≡ widthsOf (tabled sheetF) ⌝ }
     {
-        [5, 1, 4, 4, 5, 1, 4, 4, 5, 1, 4, 4]
+        [5, 1, 4, 4, 5, 1, 4, 4, 5, 1, 4, 4, 18]
     }
 
-    pub fn integer_lows() -> Limits12
+    pub fn forms() -> Bytes13
+        ensures { λ r. ⌜ r ≡ formsOf (tabled sheetF) ⌝ }
+    {
+        [
+            INTEGER, // scale 1
+            INTEGER, // photographs 1
+            INTEGER, // first photograph 1
+            INTEGER, // last photograph 1
+            INTEGER, // scale 2
+            INTEGER, // photographs 2
+            INTEGER, // first photograph 2
+            INTEGER, // last photograph 2
+            INTEGER, // scale 3
+            INTEGER, // photographs 3
+            INTEGER, // first photograph 3
+            INTEGER, // last photograph 3
+            BLANK, // blank
+        ]
+    }
+
+    pub fn lows() -> Limits13
         ensures { λ r. ⌜ Lows sheetF r ⌝ }
     {
-        [0; 12]
+        [0; 13]
     }
 
-    pub fn integer_highs() -> Limits12
+    pub fn highs() -> Limits13
         ensures { λ r. ⌜ Highs sheetF r ⌝ }
     {
         [
@@ -169,6 +191,7 @@ impl SheetF {
             9, // photographs 3
             9999, // first photograph 3
             9999, // last photograph 3
+            0, // blank
         ]
     }
 }

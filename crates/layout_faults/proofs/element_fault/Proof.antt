@@ -1,8 +1,7 @@
--- `layout_faults::element_fault` meets its contract: told at once, or its integers by the tables, then its value. Assumes nothing.
-use native.Mathlib.Omega.{arith}
+-- `layout_faults::element_fault` meets its contract: told at once, or the tables ask all of it. Assumes nothing.
 use Rattle.layout_faults.proofs.Layouts.{element-judged}
 use Rattle.layout_faults.proofs.Sure.{element-faultless}
-use Rattle.layout_faults.proofs.Tables.{whole-record, malformed-first, value-blank, value-integer, value-malformed}
+use Rattle.layout_faults.proofs.Tables.{all-asked}
 use borrow.Author.Needs.{needs}
 use Rattle.layout_faults.proofs.element_fault.Statement.{statement}
 use Rattle.layout_faults.proofs.element_fault.Tie as tie
@@ -13,17 +12,20 @@ element-sure-requires c κs = search needs
 returns : tie.Need-returns
 returns c = search element-faultless
 
-integer-starts-requires : tie.Need-integer-starts-requires
-integer-starts-requires c κs = search needs
+starts-requires : tie.Need-starts-requires
+starts-requires c κs = search needs
 
-integer-widths-requires : tie.Need-integer-widths-requires
-integer-widths-requires c κs = search needs
+widths-requires : tie.Need-widths-requires
+widths-requires c κs = search needs
 
-integer-lows-requires : tie.Need-integer-lows-requires
-integer-lows-requires c κs = search needs
+forms-requires : tie.Need-forms-requires
+forms-requires c κs = search needs
 
-integer-highs-requires : tie.Need-integer-highs-requires
-integer-highs-requires c κs = search needs
+lows-requires : tie.Need-lows-requires
+lows-requires c κs = search needs
+
+highs-requires : tie.Need-highs-requires
+highs-requires c κs = search needs
 
 slice-aggregate-table-fault : tie.Need-slice-aggregate-table-fault
 slice-aggregate-table-fault c = search needs
@@ -37,50 +39,14 @@ slice-aggregate-table-fault-3 c = search needs
 slice-aggregate-table-fault-4 : tie.Need-slice-aggregate-table-fault-4
 slice-aggregate-table-fault-4 c = search needs
 
+slice-aggregate-table-fault-5 : tie.Need-slice-aggregate-table-fault-5
+slice-aggregate-table-fault-5 c = search needs
+
 table-fault-requires : tie.Need-table-fault-requires
 table-fault-requires c κs = search needs
 
 returns-2 : tie.Need-returns-2
-returns-2 c = search (malformed-first, element-judged)
-
-add-all-spaces : tie.Need-add-all-spaces
-add-all-spaces c = search needs
-
-sub-all-spaces : tie.Need-sub-all-spaces
-sub-all-spaces c = search needs
-
-part-all-spaces-start : tie.Need-part-all-spaces-start
-part-all-spaces-start c = search needs
-
-part-all-spaces-end : tie.Need-part-all-spaces-end
-part-all-spaces-end c = omega (arith, whole-record _ _ _ _ _ _ (c .before .table-fault .ensures) (c .if2 .left))
-
-all-spaces-requires : tie.Need-all-spaces-requires
-all-spaces-requires c κs = search needs
-
-returns-3 : tie.Need-returns-3
-returns-3 c = search (value-blank, element-judged)
-
-column-at-requires : tie.Need-column-at-requires
-column-at-requires c κs = search needs
-
-enum-told : tie.Need-enum-told
-enum-told c = search needs
-
-enum-told-2 : tie.Need-enum-told-2
-enum-told-2 c = search needs
-
-enum-told-3 : tie.Need-enum-told-3
-enum-told-3 c = search needs
-
-returns-4 : tie.Need-returns-4
-returns-4 c = search (needs, value-integer, element-judged)
-
-returns-5 : tie.Need-returns-5
-returns-5 c = search (needs, value-malformed, element-judged)
-
-returns-6 : tie.Need-returns-6
-returns-6 c = search (needs, value-malformed, element-judged)
+returns-2 c = search (all-asked, element-judged)
 
 pub element-fault-spec : {M : Type 1} → statement M
 element-fault-spec =
@@ -88,26 +54,15 @@ element-fault-spec =
     (tie.spec
     element-sure-requires
     returns
-    integer-starts-requires
-    integer-widths-requires
-    integer-lows-requires
-    integer-highs-requires
+    starts-requires
+    widths-requires
+    forms-requires
+    lows-requires
+    highs-requires
     slice-aggregate-table-fault
     slice-aggregate-table-fault-2
     slice-aggregate-table-fault-3
     slice-aggregate-table-fault-4
+    slice-aggregate-table-fault-5
     table-fault-requires
-    returns-2
-    add-all-spaces
-    sub-all-spaces
-    part-all-spaces-start
-    part-all-spaces-end
-    all-spaces-requires
-    returns-3
-    column-at-requires
-    enum-told
-    enum-told-2
-    enum-told-3
-    returns-4
-    returns-5
-    returns-6)
+    returns-2)

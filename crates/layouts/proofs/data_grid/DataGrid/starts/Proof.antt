@@ -1,0 +1,13 @@
+-- `layouts::DataGrid::starts` meets its contract: result and table compute to one list. Assumes nothing.
+use mathlib.Core.Path.{refl}
+use Rattle.format.specs.Layout.{dataGrid}
+use Rattle.layouts.specs.Tables.{startsOf, tabled}
+use Rattle.layouts.proofs.data_grid.DataGrid.starts.Statement.{statement}
+use Rattle.layouts.proofs.data_grid.DataGrid.starts.Tie as tie
+
+returns : tie.Need-returns
+unfolding dataGrid startsOf tabled
+returns c = refl
+
+pub starts-spec : {M : Type 1} → statement M
+starts-spec = tie.close (tie.spec returns)

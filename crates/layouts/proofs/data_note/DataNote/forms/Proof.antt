@@ -1,0 +1,13 @@
+-- `layouts::DataNote::forms` meets its contract: result and table compute to one list. Assumes nothing.
+use mathlib.Core.Path.{refl}
+use Rattle.format.specs.Layout.{dataNote}
+use Rattle.layouts.specs.Tables.{formsOf, tabled}
+use Rattle.layouts.proofs.data_note.DataNote.forms.Statement.{statement}
+use Rattle.layouts.proofs.data_note.DataNote.forms.Tie as tie
+
+returns : tie.Need-returns
+unfolding dataNote formsOf tabled
+returns c = refl
+
+pub forms-spec : {M : Type 1} → statement M
+forms-spec = tie.close (tie.spec returns)

@@ -1,0 +1,13 @@
+-- `layouts::SheetB::starts` meets its contract: result and table compute to one list. Assumes nothing.
+use mathlib.Core.Path.{refl}
+use Rattle.format.specs.Layout.{sheetB}
+use Rattle.layouts.specs.Tables.{startsOf, tabled}
+use Rattle.layouts.proofs.sheet_b.SheetB.starts.Statement.{statement}
+use Rattle.layouts.proofs.sheet_b.SheetB.starts.Tie as tie
+
+returns : tie.Need-returns
+unfolding sheetB startsOf tabled
+returns c = refl
+
+pub starts-spec : {M : Type 1} → statement M
+starts-spec = tie.close (tie.spec returns)

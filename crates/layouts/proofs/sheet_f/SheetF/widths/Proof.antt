@@ -1,0 +1,13 @@
+-- `layouts::SheetF::widths` meets its contract: result and table compute to one list. Assumes nothing.
+use mathlib.Core.Path.{refl}
+use Rattle.format.specs.Layout.{sheetF}
+use Rattle.layouts.specs.Tables.{widthsOf, tabled}
+use Rattle.layouts.proofs.sheet_f.SheetF.widths.Statement.{statement}
+use Rattle.layouts.proofs.sheet_f.SheetF.widths.Tie as tie
+
+returns : tie.Need-returns
+unfolding sheetF widthsOf tabled
+returns c = refl
+
+pub widths-spec : {M : Type 1} → statement M
+widths-spec = tie.close (tie.spec returns)
