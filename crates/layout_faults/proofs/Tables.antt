@@ -2,14 +2,14 @@
 use mathlib.Core.Path.{_≡_, refl, ap₂, sym, _∙_}
 use mathlib.Core.Bool.{Bool, true, false, cond, _&&_, and-assoc}
 use mathlib.Core.List.{List, [], _∷_}
-use Prim.Native.Nat.{ℕ, zero, suc, _+_}
+use Prim.Native.Nat.{ℕ, zero, suc, _+_, _≤_}
 use borrow.Author.Tests.{leb-true, eqb-true}
 use lib.Dec.{eqb, leb}
 use lib.IntN.{ℤ, pos}
 use lib.ListN.{length}
 use Rattle.format.specs.Basics.{first, unless}
 use Rattle.format.specs.Column.{columnOf, integer}
-use Rattle.format.specs.Layout.{Rule, What, text, blank, integral, integralOrSpaces, Col, column, bytesOf, inside, isFormed, isInside, allFormed, allInside, columnFault}
+use Rattle.format.specs.Layout.{Rule, What, text, blank, integral, integralOrSpaces, Col, column, inside, isFormed, isInside, allFormed, allInside, columnFault}
 use Rattle.format.proofs.Basics.{and-true}
 use Rattle.format.proofs.Columns.{length-column}
 use Rattle.columns.specs.InRecord.{columnAt}
@@ -18,7 +18,7 @@ use Rattle.columns.proofs.Spaces.{spaces-at-inside}
 use Rattle.layouts.specs.Tables.{tabled, isNumeric, startsOf, widthsOf, formOf, formsOf, lowIn, highIn, lowsOf, highsOf, low, high, ruleOf}
 use Rattle.layouts.proofs.Ranges.{listed, inside-between}
 use Rattle.layouts.proofs.Tabled.{formed-tabled, inside-tabled}
-use Rattle.layouts.proofs.Lies.{lies, allLie}
+use Rattle.layouts.proofs.Lies.{liesAt, lies, allLie, lies-is}
 use Rattle.layout_faults.specs.Faults.{faultIn}
 use Rattle.layout_faults.specs.Tables.{formedAs, formedAt, between, betweenAs, betweenAt, answer, tableFault}
 
@@ -29,42 +29,40 @@ allListed (c ∷ cs) l = listed (ruleOf (c .what)) (integer (columnAt l (c .star
 
 module _ (l : List ℕ) (whole : length l ≡ 84) where
   -- one column
-  module _ (start width : ℕ) (w : leb width 18 ≡ true) (e : leb (start + width) 84 ≡ true) where
-    pub says : columnAt l start width ≡ columnOf (column start width l)
-    says = column-at-inside l start width (rw whole (leb-true (start + width) 84 e)) (leb-true width 18 w)
+  module _ (start width : ℕ) (most : width ≤ 18) (ends : start + width ≤ 84) where
+    what-it-says : columnAt l start width ≡ columnOf (column start width l)
+    what-it-says = column-at-inside l start width (rw whole ends) most
 
-    pub width-is : length (column start width l) ≡ width
-    width-is = length-column start width l (rw whole (leb-true (start + width) 84 e))
+    its-width : length (column start width l) ≡ width
+    its-width = length-column start width l (rw whole ends)
 
     within-rule : (rule : Rule) → between (low rule width) (high rule width) (integer (columnAt l start width)) && listed rule (integer (columnAt l start width)) ≡ inside rule (integer (columnOf (column start width l)))
-    within-rule rule = rw (says, inside-between rule (column start width l), width-is) (simp and-assoc)
+    within-rule rule = rw (what-it-says, inside-between rule (column start width l), its-width) (simp and-assoc)
+
+  -- the same where that is computed
+  module _ (start width : ℕ) (w : leb width 18 ≡ true) (e : leb (start + width) 84 ≡ true) where
+    pub says : columnAt l start width ≡ columnOf (column start width l)
+    says = what-it-says start width (leb-true width 18 w) (leb-true (start + width) 84 e)
+
+    pub width-is : length (column start width l) ≡ width
+    width-is = its-width start width (leb-true width 18 w) (leb-true (start + width) 84 e)
 
   -- by its form
   module _ (start width : ℕ) where
-    abbrev Room : What → Type 0
-    Room k = cond (isNumeric k) (leb 1 width && (leb width 18 && leb (start + width) 84)) true ≡ true
-
-    formed-one : (k : What) → Room k → formedAs (formOf k) l start width ≡ isFormed k (column start width l)
+    formed-one : (k : What) → liesAt k start width ≡ true → formedAs (formOf k) l start width ≡ isFormed k (column start width l)
     unfolding formedAs
     formed-one text h = refl
     formed-one blank h = refl
-    formed-one (integral rule) h =
-        let p = and-true (leb 1 width) (leb width 18 && leb (start + width) 84) h in
-        let q = and-true (leb width 18) (leb (start + width) 84) (p .1) in
-        rw (says start width (q .0) (q .1))
+    formed-one (integral rule) h = let at = lies-is start width h in rw (what-it-says start width (at .most) (at .ends))
     formed-one integralOrSpaces h =
-        let p = and-true (leb 1 width) (leb width 18 && leb (start + width) 84) h in
-        let q = and-true (leb width 18) (leb (start + width) 84) (p .1) in
-        rw (says start width (q .0) (q .1), spaces-at-inside l start width (rw whole (leb-true (start + width) 84 (q .1))))
+        let at = lies-is start width h in
+        rw (what-it-says start width (at .most) (at .ends), spaces-at-inside l start width (rw whole (at .ends)))
 
-    inside-one : (k : What) → Room k → betweenAs (formOf k) l start width (cond (isNumeric k) (low (ruleOf k) width) (pos 0)) (cond (isNumeric k) (high (ruleOf k) width) (pos 0)) && listed (ruleOf k) (integer (columnAt l start width)) ≡ isInside k (column start width l)
+    inside-one : (k : What) → liesAt k start width ≡ true → betweenAs (formOf k) l start width (cond (isNumeric k) (low (ruleOf k) width) (pos 0)) (cond (isNumeric k) (high (ruleOf k) width) (pos 0)) && listed (ruleOf k) (integer (columnAt l start width)) ≡ isInside k (column start width l)
     unfolding betweenAs
     inside-one text h = refl
     inside-one blank h = refl
-    inside-one (integral rule) h =
-        let p = and-true (leb 1 width) (leb width 18 && leb (start + width) 84) h in
-        let q = and-true (leb width 18) (leb (start + width) 84) (p .1) in
-        within-rule start width (q .0) (q .1) rule
+    inside-one (integral rule) h = let at = lies-is start width h in within-rule start width (at .most) (at .ends) rule
     inside-one integralOrSpaces h = refl
 
   swap : (a b c d : Bool) → (a && b) && (c && d) ≡ (a && c) && (b && d)

@@ -6,12 +6,15 @@ use mathlib.Core.List.{List, [], _∷_}
 use Prim.Native.Nat.{ℕ, _+_, _≤_}
 use borrow.Author.Tests.{leb-true}
 use lib.Dec.{leb}
-use Rattle.format.specs.Layout.{Col, indexA, indexC, sheetA, sheetB, sheetD, sheetE, sheetF, header, element, gridHeader, netHeader, data3D, data2D, dataNote, dataGrid, dataNet}
+use Rattle.format.specs.Layout.{What, Col, indexA, indexC, sheetA, sheetB, sheetD, sheetE, sheetF, header, element, gridHeader, netHeader, dataNote}
 use Rattle.format.proofs.Basics.{and-true}
 use Rattle.layouts.specs.Tables.{tabled, isNumeric}
 
+abbrev pub liesAt : What → (start width : ℕ) → Bool
+liesAt what start width = cond (isNumeric what) (leb 1 width && (leb width 18 && leb (start + width) 84)) true
+
 abbrev pub lies : Col → Bool
-lies c = cond (isNumeric (c .what)) (leb 1 (c .width) && (leb (c .width) 18 && leb (c .start + c .width) 84)) true
+lies c = liesAt (c .what) (c .start) (c .width)
 
 abbrev pub allLie : List Col → Bool
 allLie [] = true
@@ -75,19 +78,3 @@ lie-netHeader = refl
 pub lie-dataNote : allLie (tabled dataNote) ≡ true
 unfolding dataNote tabled
 lie-dataNote = refl
-
-pub lie-data3D : allLie (tabled data3D) ≡ true
-unfolding data3D tabled
-lie-data3D = refl
-
-pub lie-data2D : allLie (tabled data2D) ≡ true
-unfolding data2D tabled
-lie-data2D = refl
-
-pub lie-dataGrid : allLie (tabled dataGrid) ≡ true
-unfolding dataGrid tabled
-lie-dataGrid = refl
-
-pub lie-dataNet : allLie (tabled dataNet) ≡ true
-unfolding dataNet tabled
-lie-dataNet = refl

@@ -14,12 +14,10 @@ use Rattle.records.specs.declared.items.Entry as Declared
 use Rattle.records.specs.Entry.{toData, entryOf}
 use Rattle.columns.specs.InRecord.{numberIn}
 use Rattle.records.proofs.Numbers.{stated}
-use Rattle.layouts.specs.Tables.{integers}
 use Rattle.normal.specs.declared.due.Due.{Due}
 use Rattle.normal.specs.declared.due.Due.the-variants.{SheetA, SheetB, SheetC, SheetD, SheetE, SheetF, Entry, Data, IndexA, IndexB, IndexC, Nothing}
 use Rattle.normal.specs.Due.{whenLeft, dueFs, dueData, dueBs, dueCs, behindEntry, dueAfter, letterColumns, columnsDue}
 use Rattle.normal.proofs.Layouts.{form-stays}
-use Rattle.normal.proofs.PlainLayouts.{plain-indexB, plain-sheetC}
 
 -- ---- so many left
 
@@ -123,12 +121,12 @@ module _ (due : Due) (l : List ℕ) where
   due-stays d h e = due-written d l h e
 
 pub sheet-c-stays : (l : List ℕ) → length l ≡ 84 → l ≡ normalRecord sheetC l
-unfolding sheetC integers
-sheet-c-stays l whole = form-stays sheetC l whole plain-sheetC refl
+unfolding sheetC
+sheet-c-stays l whole = form-stays sheetC l refl
 
 pub index-b-stays : (l : List ℕ) → length l ≡ 84 → l ≡ normalRecord indexB l
-unfolding indexB integers
-index-b-stays l whole = form-stays indexB l whole plain-indexB refl
+unfolding indexB
+index-b-stays l whole = form-stays indexB l refl
 
 pub copy-written : (due : Due) (source target l′ : List ℕ) → target ≡ source → l′ ≡ normalRecord (columnsDue due target) target → l′ ≡ normalRecord (columnsDue due source) source
 copy-written due source target l′ e h = h ∙ rw e

@@ -4,25 +4,32 @@ use mathlib.Core.Bool.{cond}
 use mathlib.Core.List.{List, [], _∷_}
 use Prim.Native.Nat.{ℕ, zero, suc, _+_, _*_, _%_}
 use lib.Dec.{eqb}
-use lib.ListN.{take}
+use lib.ListN.{take, getD}
 use Rattle.format.specs.Column.{integer}
-use Rattle.format.specs.Layout.{column, spaces, dataGrid}
-use Rattle.columns.specs.InRecord.{columnAt, writeAt}
-use Rattle.layouts.specs.Tables.{startsOf, widthsOf}
+use Rattle.format.specs.Layout.{dataGrid}
+use Rattle.columns.specs.InRecord.{columnAt, spacesAt, writeAt}
+use Rattle.layouts.specs.Tables.{startsOf, widthsOf, formsOf}
 
 -- one column: its integer, 0 where it has none, in written form
 unfoldable pub rewrittenAt : List ℕ → (start width : ℕ) → List ℕ
 rewrittenAt r start width = (writeAt r start width (integer (columnAt r start width))) .bytes
 
--- those with these starts and widths, one after another
-unfoldable pub rewrittenAll : List ℕ → (starts widths : List ℕ) → List ℕ
-rewrittenAll r [] widths = r
-rewrittenAll r (s ∷ starts) [] = r
-rewrittenAll r (s ∷ starts) (w ∷ widths) = rewrittenAll (rewrittenAt r s w) starts widths
+-- a column by its form: 0 an integer; 1 an integer or spaces, "seven spaces in the value column stay"; another, a blank, stays
+unfoldable pub rewrittenAs : List ℕ → (start width form : ℕ) → List ℕ
+rewrittenAs r start width form =
+    cond (eqb form 0)
+    (rewrittenAt r start width)
+    (cond (eqb form 1) (cond (spacesAt r start width) r (rewrittenAt r start width)) r)
 
--- the element's value, seven bytes from 49 on: "seven spaces in the value column stay"
-unfoldable pub valueRewritten : List ℕ → List ℕ
-valueRewritten r = cond (spaces (column 49 7 r)) r (rewrittenAt r 49 7)
+-- column i of the tables; and all of them, one after another
+unfoldable pub rewrittenOf : List ℕ → (i : ℕ) → (starts widths forms : List ℕ) → List ℕ
+rewrittenOf r i starts widths forms = rewrittenAs r (getD starts i 0) (getD widths i 0) (getD forms i 0)
+
+unfoldable pub rewrittenAll : List ℕ → (starts widths forms : List ℕ) → List ℕ
+rewrittenAll r [] widths forms = r
+rewrittenAll r (s ∷ starts) [] forms = r
+rewrittenAll r (s ∷ starts) (w ∷ widths) [] = r
+rewrittenAll r (s ∷ starts) (w ∷ widths) (f ∷ forms) = rewrittenAll (rewrittenAs r s w f) starts widths forms
 
 -- how many of a data record's twelve columns are used, where each of `count` points, triangles or heights takes `each` of them: all but in
 -- the last record, which takes what is left by twelve
@@ -32,4 +39,4 @@ usedOf each count (suc behind) = 12
 
 -- the first of twelve columns of seven bytes, in which points and heights lie alike
 unfoldable pub firstSevens : (columns : ℕ) → List ℕ → List ℕ
-firstSevens columns r = rewrittenAll r (take columns (startsOf dataGrid)) (take columns (widthsOf dataGrid))
+firstSevens columns r = rewrittenAll r (take columns (startsOf dataGrid)) (take columns (widthsOf dataGrid)) (take columns (formsOf dataGrid))

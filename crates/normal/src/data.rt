@@ -6,8 +6,8 @@ ghost use Rattle.format.specs.Record.{dataColumns};
 ghost use Rattle.format.specs.Normal.{normalRecord};
 ghost use Rattle.records.specs.Entry.{toData};
 ghost use Rattle.records.specs.Steps.{columnsUsed};
-ghost use Rattle.normal.specs.Rewriting.{rewrittenAll, usedOf, firstSevens};
-use super::forms;
+ghost use Rattle.normal.specs.Rewriting.{usedOf, firstSevens};
+use super::by_layout;
 use super::rewriting;
 use layouts::DataGrid;
 use records::Held;
@@ -47,9 +47,15 @@ fn rewrite_first(record: &mut [u8], columns: usize)
     requires { ⌜ (length (now «record») ≡ 84) × (columns ≤ 12) ⌝ }
     ensures { λ r. ⌜ now («record» .exit) ≡ firstSevens columns (now («record» .entry)) ⌝ }
 {
-    let starts = DataGrid::integer_starts();
-    let widths = DataGrid::integer_widths();
-    rewriting::rewrite_columns(record, &starts[..columns], &widths[..columns]);
+    let starts = DataGrid::starts();
+    let widths = DataGrid::widths();
+    let forms = DataGrid::forms();
+    rewriting::rewrite_columns(
+        record,
+        &starts[..columns],
+        &widths[..columns],
+        &forms[..columns],
+    );
 }
 
 // A data record, by what the data records of its item hold and how many of them come after it.
@@ -58,7 +64,7 @@ pub(crate) fn data(record: &mut [u8], held: Held, behind: usize)
     ensures { λ r. ⌜ now («record» .exit) ≡ normalRecord (dataColumns (toData held) behind) (now («record» .entry)) ⌝ }
 {
     if let Held::Notes = held {
-        forms::data_note(record);
+        by_layout::data_note(record);
         return;
     }
     let columns = columns_used(held, behind);

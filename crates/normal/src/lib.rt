@@ -11,9 +11,9 @@ use due::Due;
 use format::Judged;
 use format::Written;
 
+mod by_layout;
 mod data;
 mod due;
-mod forms;
 mod rewriting;
 
 // Bytes of a record.
@@ -25,10 +25,10 @@ fn rewrite_entry(record: &mut [u8])
     ensures { λ r. ⌜ now («record» .exit) ≡ normalRecord (letterColumns (now («record» .entry))) (now («record» .entry)) ⌝ }
 {
     match record[0] {
-        b'H' => forms::header(record),
-        b'E' => forms::element(record),
-        b'G' => forms::grid_header(record),
-        b'T' => forms::net_header(record),
+        b'H' => by_layout::header(record),
+        b'E' => by_layout::element(record),
+        b'G' => by_layout::grid_header(record),
+        b'T' => by_layout::net_header(record),
         _ => {}
     }
 }
@@ -39,17 +39,17 @@ fn rewrite_due(record: &mut [u8], due: Due)
     ensures { λ r. ⌜ now («record» .exit) ≡ normalRecord (columnsDue due (now («record» .entry))) (now («record» .entry)) ⌝ }
 {
     match due {
-        Due::SheetA => forms::sheet_a(record),
-        Due::SheetB(_) => forms::sheet_b(record),
+        Due::SheetA => by_layout::sheet_a(record),
+        Due::SheetB(_) => by_layout::sheet_b(record),
         Due::SheetC(_) => {}
-        Due::SheetD(_) => forms::sheet_d(record),
-        Due::SheetE(_, _) => forms::sheet_e(record),
-        Due::SheetF(_, _) => forms::sheet_f(record),
+        Due::SheetD(_) => by_layout::sheet_d(record),
+        Due::SheetE(_, _) => by_layout::sheet_e(record),
+        Due::SheetF(_, _) => by_layout::sheet_f(record),
         Due::Entry => rewrite_entry(record),
         Due::Data(held, behind) => data::data(record, held, behind),
-        Due::IndexA => forms::index_a(record),
+        Due::IndexA => by_layout::index_a(record),
         Due::IndexB(_, _) => {}
-        Due::IndexC(_) => forms::index_c(record),
+        Due::IndexC(_) => by_layout::index_c(record),
         Due::Nothing => {}
     }
 }
