@@ -1,9 +1,8 @@
-pub mod Records
-pub mod Numbers
-pub mod Faults
-pub mod Fractions
-pub mod Due
-pub mod Walked
-pub mod SheetWalks
-pub mod IndexWalks
+pub mod FaultLaws
+pub mod Corners
+pub mod DueLaws
+pub mod ProgressLaws
+pub mod WalkLaws
+pub mod Meaning
+pub mod Parts
 pub mod Laws

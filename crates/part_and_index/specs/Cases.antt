@@ -3,15 +3,17 @@ use mathlib.Core.Path.{_≡_, refl}
 use mathlib.Core.List.{List, [], _∷_, map}
 use Prim.Native.Nat.{ℕ}
 use Prim.Native.String.{String}
-use Rattle.format.specs.Text.{bytes, rows, begins}
+use lib.IntN.{pos}
+use Rattle.format.specs.Basics.{minus}
+use Rattle.format.specs.Text.{bytes, begins}
 use Rattle.format.specs.Column.{strip, isDigit, allDigits, valueOf, isNumber, negative, positive, signed, columnOf}
-use Rattle.format.specs.Corner.{fractionOk}
+use Rattle.format.specs.Corner.{fractionOk, millimetres}
 use Rattle.format.specs.Layout.{column, find, integerAt, numberAt, allFormed, allInside, columnFault, indexA, indexB, indexC, sheetA, sheetB, sheetC, sheetD, sheetE, sheetF}
-use Rattle.format.specs.Sheet.{wholesOf, fractionsOf, partLength, sheetFault, statedElements, statedRecords}
+use Rattle.format.specs.Sheet.{wholesOf, fractionsOf, partLength, sheetFault, corners, statedElements, statedRecords}
 use Rattle.format.specs.Index.{indexFault}
 use Rattle.part_and_index.specs.declared.SheetPart.{SheetPart}
 use Rattle.part_and_index.specs.declared.Fault.{Fault}
-use Rattle.part_and_index.specs.Result.{recordsOf, refusedPart, sheetPartOf, indexFaultOf}
+use Rattle.part_and_index.specs.Result.{refusedPart, sheetPartOf, indexFaultOf}
 
 abbrev sheet-a : String
 sheet-a = "M 09LD1234Example sheet         500Town plan                      010               "
@@ -51,6 +53,10 @@ sheet-e = "Survey office                            -56  50   0   0   0  50 -56 
 abbrev other-sign : String
 other-sign = "Survey office                             56  50   0   0   0  50 -56   0            "
 
+-- another first fraction, as allowed as the one above
+abbrev other-corner : String
+other-corner = "Survey office                            -57  50   0   0   0  50 -56   0            "
+
 abbrev index-a : String
 index-a = "I  9City survey office             10 1   1002008Regulation                    10   "
 
@@ -77,10 +83,12 @@ sheets =
     -- "all are judged": the first e record of two
     (revised ∷ sheet-b ∷ sheet-c ∷ sheet-d ∷ other-sign ∷ sheet-d ∷ sheet-e ∷ []) ∷
     (revised ∷ sheet-b ∷ sheet-c ∷ sheet-d ∷ sheet-e ∷ []) ∷
-    (revised ∷ sheet-b ∷ sheet-c ∷ sheet-d ∷ sheet-e ∷ sheet-d ∷ sheet-e ∷ []) ∷ []
+    -- "The last e record gives the corners"
+    (revised ∷ sheet-b ∷ sheet-c ∷ sheet-d ∷ other-corner ∷ sheet-d ∷ sheet-e ∷ []) ∷ []
 
+-- -1234 metres and -56 millimetres are -1234056 millimetres, and so on in the order of record b
 abbrev sound : ℕ → SheetPart
-sound n = record { fault = 0; at = 0; length = n; elements = 1; records = 4 }
+sound n = record { fault = 0; at = 0; length = n; elements = 1; records = 4; unit = 1; corners = minus 1234056 ∷ pos 5678050 ∷ minus 934000 ∷ pos 5978000 ∷ minus 934000 ∷ pos 5678050 ∷ minus 1234056 ∷ pos 5978000 ∷ [] }
 
 abbrev sheetAnswers : List SheetPart
 sheetAnswers =
@@ -115,6 +123,6 @@ indexAnswers =
     answer 10 1 ∷
     answer 2 1 ∷ []
 
-pub cases : (map (λ (rs : List String). sheetPartOf (rows rs)) sheets ≡ sheetAnswers) × (map (λ (rs : List String). indexFaultOf (rows rs)) indexes ≡ indexAnswers)
-unfolding bytes rows begins strip isDigit allDigits valueOf isNumber negative positive signed columnOf fractionOk column find integerAt numberAt allFormed allInside columnFault indexA indexB indexC sheetA sheetB sheetC sheetD sheetE sheetF wholesOf fractionsOf partLength sheetFault statedElements statedRecords indexFault recordsOf sheetPartOf indexFaultOf
+pub cases : (map (λ (rs : List String). sheetPartOf (map bytes rs)) sheets ≡ sheetAnswers) × (map (λ (rs : List String). indexFaultOf (map bytes rs)) indexes ≡ indexAnswers)
+unfolding bytes begins strip isDigit allDigits valueOf isNumber negative positive signed columnOf fractionOk column find integerAt numberAt allFormed allInside columnFault indexA indexB indexC sheetA sheetB sheetC sheetD sheetE sheetF wholesOf fractionsOf partLength sheetFault statedElements statedRecords millimetres corners indexFault sheetPartOf indexFaultOf
 cases = (refl, refl)

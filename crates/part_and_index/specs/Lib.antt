@@ -1,3 +1,5 @@
 pub mod Result
 pub mod Cases
-pub mod Walks
+pub mod Due
+pub mod Faults
+pub mod Progress

@@ -1,39 +1,37 @@
--- What the two public calls answer of a file, by format's `sheetFault`, `partLength` and `indexFault`. Assumes nothing.
+-- What the two public calls answer of a file's records, by format's `sheetFault`, `partLength`, `corners` and `indexFault`. Assumes nothing.
 use mathlib.Core.List.{List, []}
-use Prim.Native.Nat.{ℕ, _/_}
-use lib.ListN.{length, getD}
-use Rattle.format.specs.Basics.{Fault, none, fault, chunks}
-use Rattle.format.specs.Sheet.{sheetFault, partLength, statedElements, statedRecords}
+use Prim.Native.Nat.{ℕ}
+use lib.IntN.{ℤ, pos}
+use lib.ListN.{replicate, getD}
+use Rattle.format.specs.Basics.{Fault, none, fault}
+use Rattle.format.specs.Layout.{numberAt, sheetB}
+use Rattle.format.specs.Sheet.{sheetFault, partLength, corners, statedElements, statedRecords}
 use Rattle.format.specs.Index.{indexFault}
 use Rattle.part_and_index.specs.declared.SheetPart.{SheetPart}
 use Rattle.part_and_index.specs.declared.Fault as Declared
 
--- "records of 84 bytes, no line ends": those of a file
-unfoldable pub recordsOf : List ℕ → List (List ℕ)
-recordsOf file = chunks (length file / 84) file
-
 -- "A refusal returns number and record only"
 abbrev pub refusedPart : (number at : ℕ) → SheetPart
-refusedPart number at = record { fault = number; at = at; length = 0; elements = 0; records = 0 }
+refusedPart number at = record { fault = number; at = at; length = 0; elements = 0; records = 0; unit = 0; corners = replicate 8 (pos 0) }
 
--- how many records the part has, and the two counts that record 2 states
-abbrev pub soundPart : (length : ℕ) → (second : List ℕ) → SheetPart
-soundPart n second = record { fault = 0; at = 0; length = n; elements = statedElements second; records = statedRecords second }
+-- how many records the part has, the two counts and the unit that record 2 states, and the corners
+abbrev pub soundPart : (length : ℕ) → (second : List ℕ) → (corners : List ℤ) → SheetPart
+soundPart n second cs = record { fault = 0; at = 0; length = n; elements = statedElements second; records = statedRecords second; unit = numberAt sheetB "unit" second; corners = cs }
 
 -- the first fault of the part, or else those
-abbrev pub partAnswer : Fault → (length : ℕ) → (second : List ℕ) → SheetPart
-partAnswer none n second = soundPart n second
-partAnswer (fault number at) n second = refusedPart number at
+abbrev pub partAnswer : Fault → (length : ℕ) → (second : List ℕ) → (corners : List ℤ) → SheetPart
+partAnswer none n second cs = soundPart n second cs
+partAnswer (fault number at) n second cs = refusedPart number at
 
--- "Records a, b, c, then d, e and the f records, this last set revisions + 1 times": the part that they are at the front of a file
-unfoldable pub sheetPartOf : List ℕ → SheetPart
-sheetPartOf file = partAnswer (sheetFault (recordsOf file)) (partLength (recordsOf file)) (getD (recordsOf file) 1 [])
+-- "Records a, b, c, then d, e and the f records, this last set revisions + 1 times": the part that they are at the front of a file's records
+unfoldable pub sheetPartOf : List (List ℕ) → SheetPart
+sheetPartOf rs = partAnswer (sheetFault rs) (partLength rs) (getD rs 1 []) (corners rs)
 
 -- number and record of a fault; 0 and 0 for none
 abbrev pub faultAnswer : Fault → Declared.Fault
 faultAnswer none = record { number = 0; at = 0 }
 faultAnswer (fault number at) = record { number = number; at = at }
 
--- the first fault of an index file: that of its records in order, or else 10 where records are left over
-unfoldable pub indexFaultOf : List ℕ → Declared.Fault
-indexFaultOf file = faultAnswer (indexFault (recordsOf file))
+-- the first fault of an index file's records: that of the records in order, or else 10 where some are left over
+unfoldable pub indexFaultOf : List (List ℕ) → Declared.Fault
+indexFaultOf rs = faultAnswer (indexFault rs)

@@ -1,0 +1,57 @@
+-- Which record is due, of a sheet part or of an index, and which one behind it: by format's `Sheet.after` and `Index.after`, without what only
+-- judging asks of them. Assumes nothing.
+use mathlib.Core.Bool.{Bool, true, false, cond}
+use mathlib.Core.List.{List, []}
+use Prim.Native.Nat.{ℕ}
+use lib.Dec.{eqb}
+use lib.ListN.{length}
+use Rattle.format.specs.Sheet as Sheet
+use Rattle.format.specs.Index as Index
+use Rattle.part_and_index.specs.declared.due.Due.{Due}
+use Rattle.part_and_index.specs.declared.due.Due.the-variants.{SheetA, SheetB, SheetC, SheetD, SheetE, SheetF, IndexA, IndexB, IndexC, Over}
+
+-- the record that is due in a phase of a sheet part, and in a stage of an index
+abbrev pub dueIn : Sheet.Phase → Due
+dueIn Sheet.due-a = SheetA
+dueIn (Sheet.due-b level more) = SheetB more
+dueIn (Sheet.due-c unit wholes more) = SheetC more
+dueIn (Sheet.due-d unit wholes more) = SheetD more
+dueIn (Sheet.due-e unit wholes more fs) = SheetE fs more
+dueIn (Sheet.due-f unit wholes more fs) = SheetF fs more
+dueIn Sheet.body = Over
+
+abbrev pub dueAt : Index.Stage → Due
+dueAt Index.due-a = IndexA
+dueAt (Index.due-b bs cs) = IndexB bs cs
+dueAt (Index.due-c cs) = IndexC cs
+dueAt Index.over = Over
+
+-- behind a whole record: what is due there does not ask for the level, the unit and the wholes, which are 0 and none here (proofs/Laws: due-phase)
+abbrev pub dueBehind : Due → List ℕ → Due
+dueBehind SheetA r = dueIn (Sheet.after Sheet.due-a r)
+dueBehind (SheetB sets) r = dueIn (Sheet.after (Sheet.due-b 0 sets) r)
+dueBehind (SheetC sets) r = dueIn (Sheet.after (Sheet.due-c 0 [] sets) r)
+dueBehind (SheetD sets) r = dueIn (Sheet.after (Sheet.due-d 0 [] sets) r)
+dueBehind (SheetE fs sets) r = dueIn (Sheet.after (Sheet.due-e 0 [] sets fs) r)
+dueBehind (SheetF fs sets) r = dueIn (Sheet.after (Sheet.due-f 0 [] sets fs) r)
+dueBehind IndexA r = dueAt (Index.after Index.due-a r)
+dueBehind (IndexB bs cs) r = dueAt (Index.after (Index.due-b bs cs) r)
+dueBehind (IndexC cs) r = dueAt (Index.after (Index.due-c cs) r)
+dueBehind Over r = Over
+
+-- "records of 84 bytes": behind bytes that are no whole record what was due is due still
+unfoldable pub dueAfter : Due → List ℕ → Due
+dueAfter due r = cond (eqb (length r) 84) (dueBehind due r) due
+
+-- nothing is due
+abbrev pub isOver : Due → Bool
+isOver SheetA = false
+isOver (SheetB sets) = false
+isOver (SheetC sets) = false
+isOver (SheetD sets) = false
+isOver (SheetE fs sets) = false
+isOver (SheetF fs sets) = false
+isOver IndexA = false
+isOver (IndexB bs cs) = false
+isOver (IndexC cs) = false
+isOver Over = true
