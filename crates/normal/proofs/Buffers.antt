@@ -1,15 +1,15 @@
 -- The records of a file written to a second buffer one after another: `copy` and `write_records` in the code's own words. Assumes nothing.
-use mathlib.Core.Path.{_≡_, refl, ap, sym, _∙_}
-use mathlib.Core.List.{List, [], _∷_, _++_, append-assoc, append-nil}
-use Prim.Native.Nat.{ℕ, zero, suc, _+_, _-_, _*_, _≤_, _<_}
+use mathlib.Core.Path.{_≡_, ap, sym, _∙_}
+use mathlib.Core.List.{List, _∷_, _++_, append-assoc, append-nil}
+use Prim.Native.Nat.{ℕ, suc, _+_, _-_, _*_, _≤_, _<_}
 use native.Mathlib.Nat.{add-sub-cancel-left}
 use native.Mathlib.Numerals.{add-one}
 use native.Mathlib.Omega.{arith}
-use lib.ListN.{length, take, drop, getD, set, length-append, length-drop, length-set, take-append-drop}
+use lib.ListN.{length, take, drop, getD, set, length-append, length-drop, take-append-drop}
 use lib.Seq.{length-take-le, take-all, take-suc, take-suc-set, take-at, drop-at, drop-drop}
 use Rattle.format.specs.Basics.{chunks, flat}
 use Rattle.format.specs.Normal.{normalRecord}
-use Rattle.normal.specs.declared.due.Due.{Due}
+use Rattle.normal.specs.declared.due.FileDue.{FileDue}
 use Rattle.normal.specs.Due.{dueAfter, columnsDue, rewritten}
 
 -- ---- `copy`
@@ -43,7 +43,7 @@ take-parts p q r n e = ap (take n) (sym (append-assoc p q r)) ∙ take-at (p ++ 
 drop-parts : (p q r : List ℕ) (n : ℕ) → length p + length q ≡ n → drop n (p ++ (q ++ r)) ≡ r
 drop-parts p q r n e = ap (drop n) (sym (append-assoc p q r)) ∙ drop-at (p ++ q) r n (length-append p q ∙ e)
 
-pub nothing-written : (buffer : List ℕ) (n : ℕ) (first : Due) (second : List ℕ) → take (84 * 0) second ++ flat (rewritten first (chunks (n - 0) (drop (84 * 0) buffer))) ≡ flat (rewritten first (chunks n buffer))
+pub nothing-written : (buffer : List ℕ) (n : ℕ) (first : FileDue) (second : List ℕ) → take (84 * 0) second ++ flat (rewritten first (chunks (n - 0) (drop (84 * 0) buffer))) ≡ flat (rewritten first (chunks n buffer))
 nothing-written buffer n first second = let e : n - 0 ≡ n = omega arith in rw e
 
 module _ (buffer second second₀ part whole : List ℕ) (n k : ℕ) (here : k < n) (room : 84 * n ≤ length buffer) (room₂ : 84 * n ≤ length second) (long : length part ≡ 84) where
@@ -65,14 +65,14 @@ module _ (buffer second second₀ part whole : List ℕ) (n k : ℕ) (here : k <
       ∙ ap (drop (84 * k + 84 - 84 * k)) e
       ∙ next second₀
 
-  pub written-again : (due due′ : Due) → part ≡ normalRecord (columnsDue due (take (84 * k + 84 - 84 * k) (drop (84 * k) buffer))) (take (84 * k + 84 - 84 * k) (drop (84 * k) buffer)) → due′ ≡ dueAfter due (take (84 * k + 84 - 84 * k) (drop (84 * k) buffer)) → take (84 * k) second ++ flat (rewritten due (chunks (n - k) (drop (84 * k) buffer))) ≡ whole → take (84 * (k + 1)) (take (84 * k) second ++ (part ++ drop (84 * k + 84 - 84 * k) (drop (84 * k) second))) ++ flat (rewritten due′ (chunks (n - (k + 1)) (drop (84 * (k + 1)) buffer))) ≡ whole
+  pub written-again : (due due′ : FileDue) → part ≡ normalRecord (columnsDue due (take (84 * k + 84 - 84 * k) (drop (84 * k) buffer))) (take (84 * k + 84 - 84 * k) (drop (84 * k) buffer)) → due′ ≡ dueAfter due (take (84 * k + 84 - 84 * k) (drop (84 * k) buffer)) → take (84 * k) second ++ flat (rewritten due (chunks (n - k) (drop (84 * k) buffer))) ≡ whole → take (84 * (k + 1)) (take (84 * k) second ++ (part ++ drop (84 * k + 84 - 84 * k) (drop (84 * k) second))) ++ flat (rewritten due′ (chunks (n - (k + 1)) (drop (84 * (k + 1)) buffer))) ≡ whole
   unfolding rewritten
   written-again due due′ p d e =
       ap (λ (x : List ℕ). x ++ flat (rewritten due′ (chunks (n - (k + 1)) (drop (84 * (k + 1)) buffer)))) (take-parts (take (84 * k) second) part (drop (84 * k + 84 - 84 * k) (drop (84 * k) second)) (84 * (k + 1)) taken)
       ∙ append-assoc (take (84 * k) second) part (flat (rewritten due′ (chunks (n - (k + 1)) (drop (84 * (k + 1)) buffer))))
       ∙ rw (p, d) (rw (records-left buffer n k here room) at e)
 
-pub written-all : (buffer second second₀ whole : List ℕ) (n k : ℕ) (due : Due) → k ≤ n → n ≤ k → take (84 * k) second ++ flat (rewritten due (chunks (n - k) (drop (84 * k) buffer))) ≡ whole → drop (84 * k) second ≡ drop (84 * k) second₀ → second ≡ whole ++ drop (84 * n) second₀
+pub written-all : (buffer second second₀ whole : List ℕ) (n k : ℕ) (due : FileDue) → k ≤ n → n ≤ k → take (84 * k) second ++ flat (rewritten due (chunks (n - k) (drop (84 * k) buffer))) ≡ whole → drop (84 * k) second ≡ drop (84 * k) second₀ → second ≡ whole ++ drop (84 * n) second₀
 unfolding rewritten
 written-all buffer second second₀ whole n k due h j e d =
     let z : n - k ≡ 0 = omega arith in

@@ -1,76 +1,66 @@
 -- Which record is due, and its layout, in the code's own words. Assumes nothing.
-use mathlib.Core.Path.{_≡_, refl, ap, sym, _∙_}
-use mathlib.Core.Bool.{Bool, true, false, cond}
+use mathlib.Core.Path.{_≡_, refl, ap, _∙_}
+use mathlib.Core.Bool.{Bool, cond}
 use mathlib.Core.List.{List, [], _∷_}
-use Prim.Native.Nat.{ℕ, zero, suc, _+_, _-_, _≤_, _<_}
+use Prim.Native.Nat.{ℕ, zero, suc, _-_}
 use native.Mathlib.Omega.{arith}
-use borrow.Author.Tests.{eq-eqb, ne-eqb}
-use lib.ListN.{length, getD}
-use Rattle.format.specs.Layout.{find, numberAt, indexA, indexB, indexC, sheetA, sheetB, sheetC, sheetD, sheetE, sheetF, header, element, gridHeader, netHeader}
+use borrow.Author.Tests.{ne-eqb}
+use types.Run.{OneOf}
+use denote.Enum.Declared.{tagOf}
+use lib.ListN.{getD}
+use Rattle.format.specs.Layout.{indexA, indexB, indexC, sheetA, sheetB, sheetC, sheetD, sheetE, sheetF, header, element, gridHeader, netHeader}
 use Rattle.format.specs.Record.{dataColumns}
 use Rattle.format.specs.Normal.{normalRecord}
 use Rattle.records.specs.declared.Held.{Held}
 use Rattle.records.specs.declared.items.Entry as Declared
 use Rattle.records.specs.Entry.{toData, entryOf}
-use Rattle.columns.specs.InRecord.{numberIn}
-use Rattle.records.proofs.Numbers.{stated}
-use Rattle.normal.specs.declared.due.Due.{Due}
-use Rattle.normal.specs.declared.due.Due.the-variants.{SheetA, SheetB, SheetC, SheetD, SheetE, SheetF, Entry, Data, IndexA, IndexB, IndexC, Nothing}
-use Rattle.normal.specs.Due.{whenLeft, dueFs, dueData, dueBs, dueCs, behindEntry, dueAfter, letterColumns, columnsDue}
+use Rattle.part_and_index.specs.declared.due.Due.{Due}
+use Rattle.part_and_index.specs.declared.due.Due.the-variants.{SheetA, SheetB, SheetC, SheetD, SheetE, SheetF, IndexA, IndexB, IndexC, Over}
+use Rattle.part_and_index.specs.Due as Part
+use Rattle.part_and_index.proofs.due.Due.{the-type}
+use Rattle.part_and_index.proofs.WalkLaws.{due-still}
+use Rattle.normal.specs.declared.due.FileDue.{FileDue}
+use Rattle.normal.specs.declared.due.FileDue.the-variants.{Sheet, Index, Entry, Data}
+use Rattle.normal.specs.Due.{behindPart, dueData, behindEntry, dueAfter, letterColumns, partColumns, columnsDue}
 use Rattle.normal.proofs.Layouts.{form-stays}
 
--- ---- so many left
+-- ---- `behind_part`
 
-pub none-left : (n : ℕ) (next : Due) (due : ℕ → Due) → n ≡ 0 → next ≡ whenLeft n next due
-none-left n next due e = rw e
+pub part-over : (due : Due) → due ≡ Over → Entry ≡ behindPart due
+unfolding behindPart
+part-over due h = rw h
 
-pub some-left : (n : ℕ) (next : Due) (due : ℕ → Due) → (n ≡ 0 → ⊥) → due (n - 1) ≡ whenLeft n next due
-some-left zero next due h = absurd (h refl)
-some-left (suc n) next due h = let e : suc n - 1 ≡ n = omega arith in rw e
+pub part-goes-on : (due : Due) → OneOf (0 ∷ 1 ∷ 2 ∷ 3 ∷ 4 ∷ 5 ∷ 6 ∷ 7 ∷ 8 ∷ []) (tagOf the-type due) → Sheet due ≡ behindPart due
+unfolding behindPart
+part-goes-on due h = ap (λ (t : Bool). cond t Entry (Sheet due)) (due-still due h)
 
--- ---- `behind_entry`
+-- ---- `due_data`, `behind_entry`
 
-pub entry-behind : (r : List ℕ) (e : Declared.Entry) (d : Due) → e ≡ entryOf r → d ≡ dueData (e .held) (e .«data_records») → d ≡ behindEntry r
+pub no-data : (held : Held) (n : ℕ) → n ≡ 0 → Entry ≡ dueData held n
+unfolding dueData
+no-data held n e = rw e
+
+pub some-data : (held : Held) (n : ℕ) → (n ≡ 0 → ⊥) → Data held (n - 1) ≡ dueData held n
+unfolding dueData
+some-data held zero h = absurd (h refl)
+some-data held (suc n) h = let e : suc n - 1 ≡ n = omega arith in rw e
+
+pub entry-behind : (r : List ℕ) (e : Declared.Entry) (d : FileDue) → e ≡ entryOf r → d ≡ dueData (e .held) (e .«data_records») → d ≡ behindEntry r
 unfolding behindEntry
 entry-behind r e d h k = k ∙ rw h
 
 -- ---- `due_after`
 
-module _ (due : Due) (r : List ℕ) (whole : length r ≡ 84) where
-  pub after-a : (sets : ℕ) → due ≡ SheetA → sets ≡ numberIn r 65 2 → SheetB sets ≡ dueAfter due r
-  unfolding dueAfter find sheetA
-  after-a sets h e = rw (h, e, stated r whole sheetA "revisions" 65 2 _ refl refl)
-
-  pub after-d : (fs sets : ℕ) → due ≡ SheetD sets → fs ≡ numberIn r 9 1 → SheetE fs sets ≡ dueAfter due r
-  unfolding dueAfter find sheetD
-  after-d fs sets h e = rw (h, e, stated r whole sheetD "f records" 9 1 _ refl refl)
-
-  pub after-index-a : (bs cs : ℕ) (d : Due) → due ≡ IndexA → bs ≡ numberIn r 37 2 → cs ≡ numberIn r 39 4 → d ≡ dueBs bs cs → d ≡ dueAfter due r
-  unfolding dueAfter find indexA
-  after-index-a bs cs d h e f k = k ∙ rw (h, e, f, stated r whole indexA "b records" 37 2 _ refl refl, stated r whole indexA "c records" 39 4 _ refl refl)
-
-module _ (due : Due) (r : List ℕ) where
-  pub after-b : (sets : ℕ) → due ≡ SheetB sets → SheetC sets ≡ dueAfter due r
+module _ (due : FileDue) (r : List ℕ) where
+  pub after-sheet : (part next : Due) (d : FileDue) → due ≡ Sheet part → next ≡ Part.dueAfter part r → d ≡ behindPart next → d ≡ dueAfter due r
   unfolding dueAfter
-  after-b sets h = rw h
+  after-sheet part next d h e k = k ∙ rw (h, e)
 
-  pub after-c : (sets : ℕ) → due ≡ SheetC sets → SheetD sets ≡ dueAfter due r
+  pub after-index : (part next : Due) → due ≡ Index part → next ≡ Part.dueAfter part r → Index next ≡ dueAfter due r
   unfolding dueAfter
-  after-c sets h = rw h
+  after-index part next h e = rw (h, e)
 
-  pub after-nothing : due ≡ Nothing → Nothing ≡ dueAfter due r
-  unfolding dueAfter
-  after-nothing h = rw h
-
-  module _ (d : Due) where
-    pub after-e : (fs sets : ℕ) → due ≡ SheetE fs sets → d ≡ dueFs fs sets → d ≡ dueAfter due r
-    unfolding dueAfter
-    after-e fs sets h k = k ∙ rw h
-
-    pub after-f : (fs sets : ℕ) → due ≡ SheetF fs sets → d ≡ dueFs fs sets → d ≡ dueAfter due r
-    unfolding dueAfter
-    after-f fs sets h k = k ∙ rw h
-
+  module _ (d : FileDue) where
     pub after-entry : due ≡ Entry → d ≡ behindEntry r → d ≡ dueAfter due r
     unfolding dueAfter
     after-entry h k = k ∙ rw h
@@ -78,14 +68,6 @@ module _ (due : Due) (r : List ℕ) where
     pub after-data : (held : Held) (behind : ℕ) → due ≡ Data held behind → d ≡ dueData held behind → d ≡ dueAfter due r
     unfolding dueAfter
     after-data held behind h k = k ∙ rw h
-
-    pub after-index-b : (bs cs : ℕ) → due ≡ IndexB bs cs → d ≡ dueBs bs cs → d ≡ dueAfter due r
-    unfolding dueAfter
-    after-index-b bs cs h k = k ∙ rw h
-
-    pub after-index-c : (cs : ℕ) → due ≡ IndexC cs → d ≡ dueCs cs → d ≡ dueAfter due r
-    unfolding dueAfter
-    after-index-c cs h k = k ∙ rw h
 
 -- ---- `rewrite_entry`
 
@@ -110,23 +92,68 @@ pub no-letter : (l : List ℕ) → (getD l 0 0 ≡ 72 → ⊥) → (getD l 0 0 �
 unfolding letterColumns normalRecord
 no-letter l h e g t = simp (ne-eqb (getD l 0 0) 72 h, ne-eqb (getD l 0 0) 69 e, ne-eqb (getD l 0 0) 71 g, ne-eqb (getD l 0 0) 84 t)
 
--- ---- `rewrite_due`, `write_record`
+-- ---- `rewrite_part`, `rewrite_due`, `write_record`
 
+-- by the layout of what was due
+module _ (due : Due) (l l′ : List ℕ) where
+  pub by-sheet-a : due ≡ SheetA → l′ ≡ normalRecord sheetA l → l′ ≡ normalRecord (partColumns due) l
+  unfolding partColumns
+  by-sheet-a h e = e ∙ rw h
+
+  pub by-sheet-b : (sets : ℕ) → due ≡ SheetB sets → l′ ≡ normalRecord sheetB l → l′ ≡ normalRecord (partColumns due) l
+  unfolding partColumns
+  by-sheet-b sets h e = e ∙ rw h
+
+  pub by-sheet-d : (sets : ℕ) → due ≡ SheetD sets → l′ ≡ normalRecord sheetD l → l′ ≡ normalRecord (partColumns due) l
+  unfolding partColumns
+  by-sheet-d sets h e = e ∙ rw h
+
+  pub by-sheet-e : (fs sets : ℕ) → due ≡ SheetE fs sets → l′ ≡ normalRecord sheetE l → l′ ≡ normalRecord (partColumns due) l
+  unfolding partColumns
+  by-sheet-e fs sets h e = e ∙ rw h
+
+  pub by-sheet-f : (fs sets : ℕ) → due ≡ SheetF fs sets → l′ ≡ normalRecord sheetF l → l′ ≡ normalRecord (partColumns due) l
+  unfolding partColumns
+  by-sheet-f fs sets h e = e ∙ rw h
+
+  pub by-index-a : due ≡ IndexA → l′ ≡ normalRecord indexA l → l′ ≡ normalRecord (partColumns due) l
+  unfolding partColumns
+  by-index-a h e = e ∙ rw h
+
+  pub by-index-c : (cs : ℕ) → due ≡ IndexC cs → l′ ≡ normalRecord indexC l → l′ ≡ normalRecord (partColumns due) l
+  unfolding partColumns
+  by-index-c cs h e = e ∙ rw h
+
+-- nothing is written again
 module _ (due : Due) (l : List ℕ) where
-  -- by the layout of what was due
-  pub due-written : (d : Due) (l′ : List ℕ) → due ≡ d → l′ ≡ normalRecord (columnsDue d l) l → l′ ≡ normalRecord (columnsDue due l) l
-  due-written d l′ h e = e ∙ rw h
+  pub sheet-c-stays : (sets : ℕ) → due ≡ SheetC sets → l ≡ normalRecord (partColumns due) l
+  unfolding partColumns sheetC
+  sheet-c-stays sets h = rw h (form-stays sheetC l refl)
 
-  pub due-stays : (d : Due) → due ≡ d → l ≡ normalRecord (columnsDue d l) l → l ≡ normalRecord (columnsDue due l) l
-  due-stays d h e = due-written d l h e
+  pub index-b-stays : (bs cs : ℕ) → due ≡ IndexB bs cs → l ≡ normalRecord (partColumns due) l
+  unfolding partColumns indexB
+  index-b-stays bs cs h = rw h (form-stays indexB l refl)
 
-pub sheet-c-stays : (l : List ℕ) → length l ≡ 84 → l ≡ normalRecord sheetC l
-unfolding sheetC
-sheet-c-stays l whole = form-stays sheetC l refl
+  pub over-stays : due ≡ Over → l ≡ normalRecord (partColumns due) l
+  unfolding partColumns normalRecord
+  over-stays h = rw h
 
-pub index-b-stays : (l : List ℕ) → length l ≡ 84 → l ≡ normalRecord indexB l
-unfolding indexB
-index-b-stays l whole = form-stays indexB l refl
+module _ (due : FileDue) (l l′ : List ℕ) where
+  pub sheet-written : (part : Due) → due ≡ Sheet part → l′ ≡ normalRecord (partColumns part) l → l′ ≡ normalRecord (columnsDue due l) l
+  unfolding columnsDue
+  sheet-written part h e = e ∙ rw h
 
-pub copy-written : (due : Due) (source target l′ : List ℕ) → target ≡ source → l′ ≡ normalRecord (columnsDue due target) target → l′ ≡ normalRecord (columnsDue due source) source
+  pub index-written : (part : Due) → due ≡ Index part → l′ ≡ normalRecord (partColumns part) l → l′ ≡ normalRecord (columnsDue due l) l
+  unfolding columnsDue
+  index-written part h e = e ∙ rw h
+
+  pub entry-written : due ≡ Entry → l′ ≡ normalRecord (letterColumns l) l → l′ ≡ normalRecord (columnsDue due l) l
+  unfolding columnsDue
+  entry-written h e = e ∙ rw h
+
+  pub data-written : (held : Held) (behind : ℕ) → due ≡ Data held behind → l′ ≡ normalRecord (dataColumns (toData held) behind) l → l′ ≡ normalRecord (columnsDue due l) l
+  unfolding columnsDue
+  data-written held behind h e = e ∙ rw h
+
+pub copy-written : (due : FileDue) (source target l′ : List ℕ) → target ≡ source → l′ ≡ normalRecord (columnsDue due target) target → l′ ≡ normalRecord (columnsDue due source) source
 copy-written due source target l′ e h = h ∙ rw e

@@ -6,12 +6,11 @@ use Prim.Native.Nat.{ℕ, zero, suc, _+_, _-_, _*_, _/_, _%_, _≤_, _<_}
 use native.Mathlib.Omega.{arith}
 use borrow.Author.Tests.{eqb-true, leb-true, le-leb, lt-leb}
 use lib.Dec.{eqb, leb, ltb}
-use lib.IntN.{ℤ}
-use lib.ListN.{length, take, drop, getD}
+use lib.ListN.{length, take, drop}
 use Rattle.format.specs.Basics.{Answer, given, refused, Outcome, first, unless, Fault, none, fault, chunks, flat, stageOneOk}
 use Rattle.format.specs.Text.{bytes, begins}
-use Rattle.format.specs.Layout.{Col, header, element, gridHeader, netHeader, numberAt, indexA, sheetA, sheetD}
-use Rattle.format.specs.Record.{RecordType, H, E1, E2, E3, E4, E5, E6, E7, E8, G, T, other, typeOf, typeColumns, countIndex, Data, nothing, dataColumns, View, view, viewAs, headerView, elementView, gridView, netView, otherView}
+use Rattle.format.specs.Layout.{header, element}
+use Rattle.format.specs.Record.{RecordType, H, E1, E2, E3, E4, E5, E6, E7, E8, G, T, other, typeOf, typeColumns, countIndex, Data, nothing, dataColumns, view, viewAs, headerView, elementView, gridView, netView, otherView}
 use Rattle.format.specs.Part.{partFrom}
 use Rattle.format.specs.Sheet as Sheet
 use Rattle.format.specs.Index as Index
@@ -27,94 +26,58 @@ use Rattle.format.proofs.JudgeWalks.{Passes}
 use Rattle.format.proofs.JudgeAccepted.{accepted-ok}
 use Rattle.records.specs.declared.Held.{Held}
 use Rattle.records.specs.declared.Held.the-variants as Held
-use Rattle.records.specs.declared.items.Entry as Declared
 use Rattle.records.specs.Entry.{toData, entryOf}
 use Rattle.records.proofs.Laws.{entry-counted, entry-data-records, entry-held, fault-at}
-use Rattle.normal.specs.declared.due.Due.{Due}
-use Rattle.normal.specs.declared.due.Due.the-variants as Due
-use Rattle.normal.specs.Due.{dueSets, dueFs, dueData, dueBs, dueCs, behindEntry, dueAfter, letterColumns, columnsDue, rewritten, writtenTo}
+use Rattle.part_and_index.specs.declared.due.Due.the-variants.{SheetA, IndexA}
+use Rattle.part_and_index.specs.Due as Part
+use Rattle.part_and_index.specs.Due.{dueIn, dueAt}
+use Rattle.part_and_index.proofs.DueLaws.{phase-after, stage-after}
+use Rattle.normal.specs.declared.due.FileDue.the-variants as Due
+use Rattle.normal.specs.Due.{behindPart, dueData, behindEntry, dueAfter, letterColumns, partColumns, columnsDue, rewritten, writtenTo}
 
 -- ---- an index
 
-stageDue : Index.Stage → Due
-stageDue Index.due-a = Due.IndexA
-stageDue (Index.due-b bs cs) = Due.IndexB bs cs
-stageDue (Index.due-c cs) = Due.IndexC cs
-stageDue Index.over = Due.Nothing
+stage-columns : (p : Index.Stage) → partColumns (dueAt p) ≡ Index.stageColumns p
+unfolding partColumns
+stage-columns Index.due-a = refl
+stage-columns (Index.due-b bs cs) = refl
+stage-columns (Index.due-c cs) = refl
+stage-columns Index.over = refl
 
-stage-c : (cs : ℕ) → dueCs cs ≡ stageDue (Index.dueCs cs)
-unfolding dueCs stageDue
-stage-c zero = refl
-stage-c (suc cs) = refl
-
-stage-b : (bs cs : ℕ) → dueBs bs cs ≡ stageDue (Index.dueBs bs cs)
-unfolding dueBs stageDue
-stage-b zero cs = stage-c cs
-stage-b (suc bs) cs = refl
-
-stage-after : (p : Index.Stage) (r : List ℕ) → dueAfter (stageDue p) r ≡ stageDue (Index.after p r)
-unfolding dueAfter stageDue
-stage-after Index.due-a r = stage-b (numberAt indexA "b records" r) (numberAt indexA "c records" r)
-stage-after (Index.due-b bs cs) r = stage-b bs cs
-stage-after (Index.due-c cs) r = stage-c cs
-stage-after Index.over r = refl
-
-stage-columns : (p : Index.Stage) (r : List ℕ) → columnsDue (stageDue p) r ≡ Index.stageColumns p
-unfolding columnsDue stageDue
-stage-columns Index.due-a r = refl
-stage-columns (Index.due-b bs cs) r = refl
-stage-columns (Index.due-c cs) r = refl
-stage-columns Index.over r = refl
-
-stage-form : (p : Index.Stage) (rs : List (List ℕ)) → rewritten (stageDue p) rs ≡ normalStage p rs
-unfolding rewritten
-stage-form p [] = refl
-stage-form p (r ∷ rs) = rw (stage-columns p r, stage-after p r, stage-form (Index.after p r) rs)
+stage-form : (p : Index.Stage) (rs : List (List ℕ)) → Wide rs → rewritten (Due.Index (dueAt p)) rs ≡ normalStage p rs
+unfolding rewritten columnsDue dueAfter Wide
+stage-form p [] w = refl
+stage-form p (r ∷ rs) w = rw (stage-columns p, stage-after r (w .0) p, stage-form (Index.after p r) rs (w .1))
 
 -- ---- a sheet part, and what is behind it
 
-phaseDue : Sheet.Phase → Due
-phaseDue Sheet.due-a = Due.SheetA
-phaseDue (Sheet.due-b level more) = Due.SheetB more
-phaseDue (Sheet.due-c unit wholes more) = Due.SheetC more
-phaseDue (Sheet.due-d unit wholes more) = Due.SheetD more
-phaseDue (Sheet.due-e unit wholes more fs) = Due.SheetE fs more
-phaseDue (Sheet.due-f unit wholes more fs) = Due.SheetF fs more
-phaseDue Sheet.body = Due.Entry
+phase-columns : (p : Sheet.Phase) → partColumns (dueIn p) ≡ Sheet.phaseColumns p
+unfolding partColumns
+phase-columns Sheet.due-a = refl
+phase-columns (Sheet.due-b level more) = refl
+phase-columns (Sheet.due-c unit wholes more) = refl
+phase-columns (Sheet.due-d unit wholes more) = refl
+phase-columns (Sheet.due-e unit wholes more fs) = refl
+phase-columns (Sheet.due-f unit wholes more fs) = refl
+phase-columns Sheet.body = refl
 
-phase-set : (unit : ℕ) (wholes : List ℤ) (more : ℕ) → dueSets more ≡ phaseDue (Sheet.afterSet unit wholes more)
-unfolding dueSets phaseDue
-phase-set unit wholes zero = refl
-phase-set unit wholes (suc more) = refl
+phase-over : (p : Sheet.Phase) → Part.isOver (dueIn p) ≡ Sheet.isOver p
+phase-over Sheet.due-a = refl
+phase-over (Sheet.due-b level more) = refl
+phase-over (Sheet.due-c unit wholes more) = refl
+phase-over (Sheet.due-d unit wholes more) = refl
+phase-over (Sheet.due-e unit wholes more fs) = refl
+phase-over (Sheet.due-f unit wholes more fs) = refl
+phase-over Sheet.body = refl
 
-phase-f : (unit : ℕ) (wholes : List ℤ) (more fs : ℕ) → dueFs fs more ≡ phaseDue (Sheet.dueFs unit wholes more fs)
-unfolding dueFs phaseDue
-phase-f unit wholes more zero = phase-set unit wholes more
-phase-f unit wholes more (suc fs) = refl
-
--- a record of the part: its columns, and what is due behind it
-module _ (r : List ℕ) (rs : List (List ℕ)) where
-  behind-part : Sheet.Phase → List (List ℕ)
-  behind-part p = normalPart p (take (partFrom Sheet.sheetMachine p rs) rs) ++ rewritten Due.Entry (drop (partFrom Sheet.sheetMachine p rs) rs)
-
-  one-more : (p : Sheet.Phase) → Sheet.isOver p ≡ false → columnsDue (phaseDue p) r ≡ Sheet.phaseColumns p → dueAfter (phaseDue p) r ≡ phaseDue (Sheet.after p r) → rewritten (phaseDue (Sheet.after p r)) rs ≡ behind-part (Sheet.after p r) → rewritten (phaseDue p) (r ∷ rs) ≡ normalPart p (take (partFrom Sheet.sheetMachine p (r ∷ rs)) (r ∷ rs)) ++ rewritten Due.Entry (drop (partFrom Sheet.sheetMachine p (r ∷ rs)) (r ∷ rs))
-  unfolding rewritten behind-part
-  one-more p o c a ih = rw (o, c, a, ih)
-
-  phase-step : (p : Sheet.Phase) → rewritten (phaseDue (Sheet.after p r)) rs ≡ behind-part (Sheet.after p r) → rewritten (phaseDue p) (r ∷ rs) ≡ normalPart p (take (partFrom Sheet.sheetMachine p (r ∷ rs)) (r ∷ rs)) ++ rewritten Due.Entry (drop (partFrom Sheet.sheetMachine p (r ∷ rs)) (r ∷ rs))
-  unfolding phaseDue columnsDue dueAfter
-  phase-step Sheet.due-a ih = one-more Sheet.due-a refl refl refl ih
-  phase-step (Sheet.due-b level more) ih = one-more (Sheet.due-b level more) refl refl refl ih
-  phase-step (Sheet.due-c unit wholes more) ih = one-more (Sheet.due-c unit wholes more) refl refl refl ih
-  phase-step (Sheet.due-d unit wholes more) ih = one-more (Sheet.due-d unit wholes more) refl refl refl ih
-  phase-step (Sheet.due-e unit wholes more fs) ih = one-more (Sheet.due-e unit wholes more fs) refl refl (phase-f unit wholes more fs) ih
-  phase-step (Sheet.due-f unit wholes more fs) ih = one-more (Sheet.due-f unit wholes more fs) refl refl (phase-f unit wholes more fs) ih
-  phase-step Sheet.body ih = refl
-
-part-form : (p : Sheet.Phase) (rs : List (List ℕ)) → rewritten (phaseDue p) rs ≡ normalPart p (take (partFrom Sheet.sheetMachine p rs) rs) ++ rewritten Due.Entry (drop (partFrom Sheet.sheetMachine p rs) rs)
-unfolding rewritten behind-part
-part-form p [] = refl
-part-form p (r ∷ rs) = phase-step r rs p (part-form (Sheet.after p r) rs)
+part-form : (p : Sheet.Phase) (rs : List (List ℕ)) → Wide rs → rewritten (behindPart (dueIn p)) rs ≡ normalPart p (take (partFrom Sheet.sheetMachine p rs) rs) ++ rewritten Due.Entry (drop (partFrom Sheet.sheetMachine p rs) rs)
+unfolding rewritten behindPart columnsDue dueAfter Wide
+part-form p [] w = refl
+part-form p (r ∷ rs) w = go (Sheet.isOver p) refl (part-form (Sheet.after p r) rs (w .1))
+  where
+    go : (t : Bool) → Sheet.isOver p ≡ t → rewritten (behindPart (dueIn (Sheet.after p r))) rs ≡ normalPart (Sheet.after p r) (take (partFrom Sheet.sheetMachine (Sheet.after p r) rs) rs) ++ rewritten Due.Entry (drop (partFrom Sheet.sheetMachine (Sheet.after p r) rs) rs) → rewritten (behindPart (dueIn p)) (r ∷ rs) ≡ normalPart p (take (partFrom Sheet.sheetMachine p (r ∷ rs)) (r ∷ rs)) ++ rewritten Due.Entry (drop (partFrom Sheet.sheetMachine p (r ∷ rs)) (r ∷ rs))
+    go true e ih = rw (phase-over p, e)
+    go false e ih = rw (phase-over p, e, phase-columns p, phase-after r (w .0) p, ih)
 
 -- ---- a header or an item: its first byte tells its layout, where its type is known
 
@@ -220,8 +183,8 @@ stage-one used buffer h =
 accepted-room : (used : ℕ) (buffer : List ℕ) (a : Answer Judge.Counts) (counts : Judge.Counts) → Judge.afterStageOne (stageOneOk used buffer) a ≡ given counts → (used ≤ length buffer) × (used % 84 ≡ 0)
 accepted-room used buffer a counts e = stage-one used buffer (accepted-twice (stageOneOk used buffer) a counts e .0)
 
-sheet-form : (used : ℕ) (buffer : List ℕ) (counts : Judge.Counts) → Judge.judgeSheet used buffer ≡ given counts → rewritten Due.SheetA (chunks (used / 84) buffer) ≡ normalSheetRecords (chunks (used / 84) buffer)
-unfolding Judge.judgeSheet Judge.judgeRecords normalSheetRecords Sheet.partLength phaseDue dueData
+sheet-form : (used : ℕ) (buffer : List ℕ) (counts : Judge.Counts) → Judge.judgeSheet used buffer ≡ given counts → rewritten (Due.Sheet SheetA) (chunks (used / 84) buffer) ≡ normalSheetRecords (chunks (used / 84) buffer)
+unfolding Judge.judgeSheet Judge.judgeRecords normalSheetRecords Sheet.partLength behindPart dueData
 sheet-form used buffer counts e =
     let rs = chunks (used / 84) buffer in
     let one = accepted-twice (stageOneOk used buffer) (Judge.judgeRecords rs) counts e in
@@ -229,12 +192,13 @@ sheet-form used buffer counts e =
     let ok = accepted-ok (Judge.fileOf rs) (counts .records) (counts .items) two in
     let room = stage-one used buffer (one .0) in
     let n = partFrom Sheet.sheetMachine Sheet.due-a rs in
-    part-form Sheet.due-a rs
-    ∙ ap (λ (x : List (List ℕ)). normalPart Sheet.due-a (take n rs) ++ x) (body-form (drop n rs) 0 0 Held.Nothing (wide-drop n rs (wide-chunks (used / 84) buffer (omega (arith, room .0)))) (ok .walks .0))
+    let wide : Wide rs = wide-chunks (used / 84) buffer (omega (arith, room .0)) in
+    part-form Sheet.due-a rs wide
+    ∙ ap (λ (x : List (List ℕ)). normalPart Sheet.due-a (take n rs) ++ x) (body-form (drop n rs) 0 0 Held.Nothing (wide-drop n rs wide) (ok .walks .0))
 
-index-form : (rs : List (List ℕ)) → rewritten Due.IndexA rs ≡ normalIndexRecords rs
-unfolding normalIndexRecords stageDue
-index-form rs = stage-form Index.due-a rs
+index-form : (rs : List (List ℕ)) → Wide rs → rewritten (Due.Index IndexA) rs ≡ normalIndexRecords rs
+unfolding normalIndexRecords
+index-form rs wide = stage-form Index.due-a rs wide
 
 -- ---- `write_file`
 
@@ -275,7 +239,7 @@ module _ (used : ℕ) (buffer : List ℕ) (j : Judged) where
       unfolding Judge.judgeSheet
       sheet-room = accepted-room used buffer (Judge.judgeRecords (chunks (used / 84) buffer)) _ (given-counts used j (Judge.judgeSheet used buffer) told n m e)
 
-      pub sheet-written : (second : List ℕ) (r : Outcome ℕ) → r ≡ writtenTo used (rewritten Due.SheetA (chunks (used / 84) buffer)) second → r ≡ normalSheet used buffer second
+      pub sheet-written : (second : List ℕ) (r : Outcome ℕ) → r ≡ writtenTo used (rewritten (Due.Sheet SheetA) (chunks (used / 84) buffer)) second → r ≡ normalSheet used buffer second
       unfolding normalSheet
       sheet-written second r h =
           h ∙ rw (sheet-form used buffer _ (given-counts used j (Judge.judgeSheet used buffer) told n m e)) (accepted-form used j (Judge.judgeSheet used buffer) told n m e (normalSheetRecords (chunks (used / 84) buffer)) second)
@@ -290,7 +254,7 @@ module _ (used : ℕ) (buffer : List ℕ) (j : Judged) where
       unfolding Judge.judgeIndex
       index-room = accepted-room used buffer (Judge.judgeIndexRecords (chunks (used / 84) buffer)) _ (given-counts used j (Judge.judgeIndex used buffer) told n m e)
 
-      pub index-written : (second : List ℕ) (r : Outcome ℕ) → r ≡ writtenTo used (rewritten Due.IndexA (chunks (used / 84) buffer)) second → r ≡ normalIndex used buffer second
+      pub index-written : (second : List ℕ) (r : Outcome ℕ) → r ≡ writtenTo used (rewritten (Due.Index IndexA) (chunks (used / 84) buffer)) second → r ≡ normalIndex used buffer second
       unfolding normalIndex
       index-written second r h =
-          h ∙ rw (index-form (chunks (used / 84) buffer)) (accepted-form used j (Judge.judgeIndex used buffer) told n m e (normalIndexRecords (chunks (used / 84) buffer)) second)
+          h ∙ rw (index-form (chunks (used / 84) buffer) (wide-chunks (used / 84) buffer (omega (arith, index-room .0)))) (accepted-form used j (Judge.judgeIndex used buffer) told n m e (normalIndexRecords (chunks (used / 84) buffer)) second)

@@ -1,60 +1,41 @@
--- Which record is due, as the code follows it: the phases of a sheet part, what is due behind it, and the stages of an index, without what only
--- judging asks of them. Private functions cite it; that it ends in the normal form of an accepted file is shown in proofs/Files. Assumes nothing.
+-- Which record of a file is due, as the code follows it: the records of a sheet part or of an index in the order of crate part_and_index, and those behind a
+-- sheet part. Private functions cite it; that it ends in the normal form of an accepted file is shown in proofs/Files. Assumes nothing.
 use mathlib.Core.Bool.{cond}
 use mathlib.Core.List.{List, [], _∷_, _++_}
 use Prim.Native.Nat.{ℕ, zero, suc}
 use lib.Dec.{eqb, leb}
 use lib.ListN.{length, drop, getD}
 use Rattle.format.specs.Basics.{given, refused, Outcome, flat}
-use Rattle.format.specs.Layout.{Col, numberAt, indexA, indexB, indexC, sheetA, sheetB, sheetC, sheetD, sheetE, sheetF, header, element, gridHeader, netHeader}
+use Rattle.format.specs.Layout.{Col, indexA, indexB, indexC, sheetA, sheetB, sheetC, sheetD, sheetE, sheetF, header, element, gridHeader, netHeader}
 use Rattle.format.specs.Record.{dataColumns}
 use Rattle.format.specs.Normal.{normalRecord}
 use Rattle.records.specs.declared.Held.{Held}
 use Rattle.records.specs.Entry.{toData, entryOf}
-use Rattle.normal.specs.declared.due.Due.{Due}
-use Rattle.normal.specs.declared.due.Due.the-variants.{SheetA, SheetB, SheetC, SheetD, SheetE, SheetF, Entry, Data, IndexA, IndexB, IndexC, Nothing}
+use Rattle.part_and_index.specs.declared.due.Due.{Due}
+use Rattle.part_and_index.specs.declared.due.Due.the-variants.{SheetA, SheetB, SheetC, SheetD, SheetE, SheetF, IndexA, IndexB, IndexC, Over}
+use Rattle.part_and_index.specs.Due as Part
+use Rattle.normal.specs.declared.due.FileDue.{FileDue}
+use Rattle.normal.specs.declared.due.FileDue.the-variants.{Sheet, Index, Entry, Data}
 
--- ---- where so many records of a sort are left, the first of them is due, with one less behind it; where none is left, what comes next
-abbrev pub whenLeft : ℕ → (next : Due) → (due : ℕ → Due) → Due
-whenLeft zero next due = next
-whenLeft (suc behind) next due = due behind
+-- still in the sheet part, or behind it
+unfoldable pub behindPart : Due → FileDue
+behindPart due = cond (Part.isOver due) Entry (Sheet due)
 
--- sets of d, e and f records; the f records of a set
-unfoldable pub dueSets : (sets : ℕ) → Due
-dueSets sets = whenLeft sets Entry SheetD
-
-unfoldable pub dueFs : (fs sets : ℕ) → Due
-dueFs fs sets = whenLeft fs (dueSets sets) (λ behind. SheetF behind sets)
-
--- the data records of an item
-unfoldable pub dueData : Held → (dataRecords : ℕ) → Due
-dueData held dataRecords = whenLeft dataRecords Entry (Data held)
-
--- the c records of an index; its b records
-unfoldable pub dueCs : (cs : ℕ) → Due
-dueCs cs = whenLeft cs Nothing IndexC
-
-unfoldable pub dueBs : (bs cs : ℕ) → Due
-dueBs bs cs = whenLeft bs (dueCs cs) (λ behind. IndexB behind cs)
+-- where so many data records of an item are left, the first of them is due, with one less behind it
+unfoldable pub dueData : Held → (dataRecords : ℕ) → FileDue
+dueData held zero = Entry
+dueData held (suc behind) = Data held behind
 
 -- behind a header or an item
-unfoldable pub behindEntry : List ℕ → Due
+unfoldable pub behindEntry : List ℕ → FileDue
 behindEntry r = dueData ((entryOf r) .held) ((entryOf r) .«data_records»)
 
 -- ---- behind a record, whatever was due there
-unfoldable pub dueAfter : Due → List ℕ → Due
-dueAfter SheetA r = SheetB (numberAt sheetA "revisions" r)
-dueAfter (SheetB sets) r = SheetC sets
-dueAfter (SheetC sets) r = SheetD sets
-dueAfter (SheetD sets) r = SheetE (numberAt sheetD "f records" r) sets
-dueAfter (SheetE fs sets) r = dueFs fs sets
-dueAfter (SheetF fs sets) r = dueFs fs sets
+unfoldable pub dueAfter : FileDue → List ℕ → FileDue
+dueAfter (Sheet due) r = behindPart (Part.dueAfter due r)
+dueAfter (Index due) r = Index (Part.dueAfter due r)
 dueAfter Entry r = behindEntry r
 dueAfter (Data held behind) r = dueData held behind
-dueAfter IndexA r = dueBs (numberAt indexA "b records" r) (numberAt indexA "c records" r)
-dueAfter (IndexB bs cs) r = dueBs bs cs
-dueAfter (IndexC cs) r = dueCs cs
-dueAfter Nothing r = Nothing
 
 -- ---- the columns of the record that is due
 -- a header or an item, by its first byte: 'H' is 72, 'E' 69, 'G' 71, 'T' 84
@@ -65,22 +46,27 @@ letterColumns r =
     cond (eqb (getD r 0 0) 71) gridHeader (
     cond (eqb (getD r 0 0) 84) netHeader [])))
 
-unfoldable pub columnsDue : Due → List ℕ → List Col
-columnsDue SheetA r = sheetA
-columnsDue (SheetB sets) r = sheetB
-columnsDue (SheetC sets) r = sheetC
-columnsDue (SheetD sets) r = sheetD
-columnsDue (SheetE fs sets) r = sheetE
-columnsDue (SheetF fs sets) r = sheetF
+-- of a sheet part or of an index: format's `phaseColumns` and `stageColumns`
+unfoldable pub partColumns : Due → List Col
+partColumns SheetA = sheetA
+partColumns (SheetB sets) = sheetB
+partColumns (SheetC sets) = sheetC
+partColumns (SheetD sets) = sheetD
+partColumns (SheetE fs sets) = sheetE
+partColumns (SheetF fs sets) = sheetF
+partColumns IndexA = indexA
+partColumns (IndexB bs cs) = indexB
+partColumns (IndexC cs) = indexC
+partColumns Over = []
+
+unfoldable pub columnsDue : FileDue → List ℕ → List Col
+columnsDue (Sheet due) r = partColumns due
+columnsDue (Index due) r = partColumns due
 columnsDue Entry r = letterColumns r
 columnsDue (Data held behind) r = dataColumns (toData held) behind
-columnsDue IndexA r = indexA
-columnsDue (IndexB bs cs) r = indexB
-columnsDue (IndexC cs) r = indexC
-columnsDue Nothing r = []
 
 -- ---- the records of a file, from the record that is due first
-unfoldable pub rewritten : Due → List (List ℕ) → List (List ℕ)
+unfoldable pub rewritten : FileDue → List (List ℕ) → List (List ℕ)
 rewritten due [] = []
 rewritten due (r ∷ rs) = normalRecord (columnsDue due r) r ∷ rewritten (dueAfter due r) rs
 

@@ -6,18 +6,16 @@ ghost use lib.ListN.{length, drop};
 ghost use Rattle.format.specs.Basics.{chunks, flat};
 ghost use Rattle.format.specs.Normal.{normalRecord, normalSheet, normalIndex};
 ghost use Rattle.format.specs.Answers.{writtenAnswer};
-ghost use Rattle.normal.specs.Due.{letterColumns, columnsDue, rewritten, writtenTo};
-use due::Due;
+ghost use Rattle.normal.specs.Due.{letterColumns, partColumns, columnsDue, rewritten, writtenTo};
+use due::FileDue;
 use format::Judged;
 use format::Written;
+use part_and_index::Due;
 
 mod by_layout;
 mod data;
 mod due;
 mod rewriting;
-
-// Bytes of a record.
-const RECORD: usize = 84;
 
 // A header or an item, by the letter that its type begins with.
 fn rewrite_entry(record: &mut [u8])
@@ -33,10 +31,10 @@ fn rewrite_entry(record: &mut [u8])
     }
 }
 
-// The record that is due, by its layout.
-fn rewrite_due(record: &mut [u8], due: Due)
+// A record of a sheet part or of an index, by its layout.
+fn rewrite_part(record: &mut [u8], due: Due)
     requires { ⌜ length (now «record») ≡ 84 ⌝ }
-    ensures { λ r. ⌜ now («record» .exit) ≡ normalRecord (columnsDue due (now («record» .entry))) (now («record» .entry)) ⌝ }
+    ensures { λ r. ⌜ now («record» .exit) ≡ normalRecord (partColumns due) (now («record» .entry)) ⌝ }
 {
     match due {
         Due::SheetA => by_layout::sheet_a(record),
@@ -45,12 +43,23 @@ fn rewrite_due(record: &mut [u8], due: Due)
         Due::SheetD(_) => by_layout::sheet_d(record),
         Due::SheetE(_, _) => by_layout::sheet_e(record),
         Due::SheetF(_, _) => by_layout::sheet_f(record),
-        Due::Entry => rewrite_entry(record),
-        Due::Data(held, behind) => data::data(record, held, behind),
         Due::IndexA => by_layout::index_a(record),
         Due::IndexB(_, _) => {}
         Due::IndexC(_) => by_layout::index_c(record),
-        Due::Nothing => {}
+        Due::Over => {}
+    }
+}
+
+// The record that is due, by its layout.
+fn rewrite_due(record: &mut [u8], due: FileDue)
+    requires { ⌜ length (now «record») ≡ 84 ⌝ }
+    ensures { λ r. ⌜ now («record» .exit) ≡ normalRecord (columnsDue due (now («record» .entry))) (now («record» .entry)) ⌝ }
+{
+    match due {
+        FileDue::Sheet(part) => rewrite_part(record, part),
+        FileDue::Index(part) => rewrite_part(record, part),
+        FileDue::Entry => rewrite_entry(record),
+        FileDue::Data(held, behind) => data::data(record, held, behind),
     }
 }
 
@@ -66,15 +75,15 @@ fn copy(source: &[u8], target: &mut [u8])
 }
 
 // The records of the buffer, n of them, to the second one, from the record that is due first.
-fn write_records(buffer: &[u8], n: usize, first: Due, second: &mut [u8])
+fn write_records(buffer: &[u8], n: usize, first: FileDue, second: &mut [u8])
     requires { ⌜ (84 * n ≤ length (now buffer)) × (84 * n ≤ length (now second)) ⌝ }
     ensures { λ r. ⌜ now (second .exit) ≡ flat (rewritten first (chunks n (now (buffer .entry)))) ++ drop (84 * n) (now (second .entry)) ⌝ }
 {
     let mut due = first;
     let mut k = 0;
     while k < n {
-        let start = RECORD * k;
-        let end = start + RECORD;
+        let start = files::RECORD * k;
+        let end = start + files::RECORD;
         let record = &buffer[start..end];
         write_record(record, due, &mut second[start..end]);
         due = due::due_after(due, record);
@@ -83,7 +92,7 @@ fn write_records(buffer: &[u8], n: usize, first: Due, second: &mut [u8])
 }
 
 // One record, copied and then written again.
-fn write_record(source: &[u8], due: Due, target: &mut [u8])
+fn write_record(source: &[u8], due: FileDue, target: &mut [u8])
     requires { ⌜ (length (now source) ≡ 84) × (length (now target) ≡ 84) ⌝ }
     ensures { λ r. ⌜ now (target .exit) ≡ normalRecord (columnsDue due (now (source .entry))) (now (source .entry)) ⌝ }
 {
@@ -92,14 +101,14 @@ fn write_record(source: &[u8], due: Due, target: &mut [u8])
 }
 
 // An accepted file: "writes to a second buffer (else 15)".
-fn write_file(buffer: &[u8], used: usize, first: Due, second: &mut [u8]) -> Written
+fn write_file(buffer: &[u8], used: usize, first: FileDue, second: &mut [u8]) -> Written
     requires { ⌜ (used ≤ length (now buffer)) × (used % 84 ≡ 0) ⌝ }
     ensures { λ r. ⌜ record { answer = writtenAnswer r; bytes = now (second .exit) } ≡ writtenTo used (rewritten first (chunks (used / 84) (now (buffer .entry)))) (now (second .entry)) ⌝ }
 {
     if second.len() < used {
         return Written::Refused(15, 0);
     }
-    write_records(buffer, used / RECORD, first, second);
+    write_records(buffer, used / files::RECORD, first, second);
     Written::Bytes(used)
 }
 
@@ -110,7 +119,7 @@ pub fn normal_sheet(buffer: &[u8], used: usize, second: &mut [u8]) -> Written
     let judged = judge::judge_sheet(buffer, used);
     match judged {
         Judged::Refused(number, at) => Written::Refused(number, at),
-        Judged::Accepted(_, _) => write_file(buffer, used, Due::SheetA, second),
+        Judged::Accepted(_, _) => write_file(buffer, used, FileDue::Sheet(Due::SheetA), second),
     }
 }
 
@@ -121,6 +130,6 @@ pub fn normal_index(buffer: &[u8], used: usize, second: &mut [u8]) -> Written
     let judged = judge::judge_index(buffer, used);
     match judged {
         Judged::Refused(number, at) => Written::Refused(number, at),
-        Judged::Accepted(_, _) => write_file(buffer, used, Due::IndexA, second),
+        Judged::Accepted(_, _) => write_file(buffer, used, FileDue::Index(Due::IndexA), second),
     }
 }

@@ -54,7 +54,7 @@ write-record-requires c κs =
     (length-here (a .buffer .now) (a .n) (k .k) (search needs) (search needs), length-here (k .second) (a .n) (k .k) (search needs) (search needs))
 
 due-after-requires : tie.Need-due-after-requires Inv-loop μ-loop
-due-after-requires c κs = search length-here
+due-after-requires c κs = search needs
 
 add-k : tie.Need-add-k Inv-loop μ-loop
 add-k c = search needs

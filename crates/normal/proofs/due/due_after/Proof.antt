@@ -1,150 +1,62 @@
 -- `normal::due::due_after` meets its contract, by what was due. Assumes nothing.
-use Rattle.normal.proofs.DueSteps.{after-a, after-b, after-c, after-d, after-e, after-f, after-entry, after-data, after-index-a, after-index-b, after-index-c, after-nothing}
+use Rattle.normal.proofs.DueSteps.{after-sheet, after-index, after-entry, after-data}
 use borrow.Author.Needs.{needs}
 use Rattle.normal.proofs.due.due_after.Statement.{statement}
 use Rattle.normal.proofs.due.due_after.Tie as tie
 
-enum-told : tie.Need-enum-told
-enum-told c = search needs
-
-number-at-requires : tie.Need-number-at-requires
-number-at-requires c κs = search needs
-
 enum-known-due : tie.Need-enum-known-due
 enum-known-due c = search needs
+
+due-after-requires : tie.Need-due-after-requires
+due-after-requires c κs = search needs
+
+behind-part-requires : tie.Need-behind-part-requires
+behind-part-requires c κs = search needs
 
 enum-known-due-2 : tie.Need-enum-known-due-2
 enum-known-due-2 c = search needs
 
-enum-known-due-3 : tie.Need-enum-known-due-3
-enum-known-due-3 c = search needs
+due-after-requires-2 : tie.Need-due-after-requires-2
+due-after-requires-2 c κs = search needs
 
-number-at-requires-2 : tie.Need-number-at-requires-2
-number-at-requires-2 c κs = search needs
-
-enum-known-due-4 : tie.Need-enum-known-due-4
-enum-known-due-4 c = search needs
-
-due-f-requires : tie.Need-due-f-requires
-due-f-requires c κs = search needs
-
-enum-known-due-5 : tie.Need-enum-known-due-5
-enum-known-due-5 c = search needs
-
-due-f-requires-2 : tie.Need-due-f-requires-2
-due-f-requires-2 c κs = search needs
-
-enum-told-2 : tie.Need-enum-told-2
-enum-told-2 c = search needs
+enum-told : tie.Need-enum-told
+enum-told c = search needs
 
 behind-entry-requires : tie.Need-behind-entry-requires
 behind-entry-requires c κs = search needs
 
-enum-known-due-6 : tie.Need-enum-known-due-6
-enum-known-due-6 c = search needs
+enum-known-due-3 : tie.Need-enum-known-due-3
+enum-known-due-3 c = search needs
 
 due-data-requires : tie.Need-due-data-requires
 due-data-requires c κs = search needs
 
-enum-told-3 : tie.Need-enum-told-3
-enum-told-3 c = search needs
-
-number-at-requires-3 : tie.Need-number-at-requires-3
-number-at-requires-3 c κs = search needs
-
-number-at-requires-4 : tie.Need-number-at-requires-4
-number-at-requires-4 c κs = search needs
-
-due-b-requires : tie.Need-due-b-requires
-due-b-requires c κs = search needs
-
-enum-known-due-7 : tie.Need-enum-known-due-7
-enum-known-due-7 c = search needs
-
-due-b-requires-2 : tie.Need-due-b-requires-2
-due-b-requires-2 c κs = search needs
-
-enum-known-due-8 : tie.Need-enum-known-due-8
-enum-known-due-8 c = search needs
-
-due-c-requires : tie.Need-due-c-requires
-due-c-requires c κs = search needs
-
-enum-told-4 : tie.Need-enum-told-4
-enum-told-4 c = search needs
-
 returns : tie.Need-returns
-returns c = search after-a
+returns c = search after-sheet
 
 returns-2 : tie.Need-returns-2
-returns-2 c = search after-b
+returns-2 c = search after-index
 
 returns-3 : tie.Need-returns-3
-returns-3 c = search after-c
+returns-3 c = search after-entry
 
 returns-4 : tie.Need-returns-4
-returns-4 c = search after-d
-
-returns-5 : tie.Need-returns-5
-returns-5 c = search after-e
-
-returns-6 : tie.Need-returns-6
-returns-6 c = search after-f
-
-returns-7 : tie.Need-returns-7
-returns-7 c = search after-entry
-
-returns-8 : tie.Need-returns-8
-returns-8 c = search after-data
-
-returns-9 : tie.Need-returns-9
-returns-9 c = search after-index-a
-
-returns-10 : tie.Need-returns-10
-returns-10 c = search after-index-b
-
-returns-11 : tie.Need-returns-11
-returns-11 c = search after-index-c
-
-returns-12 : tie.Need-returns-12
-returns-12 c = search after-nothing
+returns-4 c = search after-data
 
 pub due-after-spec : {M : Type 1} → statement M
 due-after-spec =
     tie.close
     (tie.spec
-    enum-told
-    number-at-requires
     enum-known-due
+    due-after-requires
+    behind-part-requires
     enum-known-due-2
-    enum-known-due-3
-    number-at-requires-2
-    enum-known-due-4
-    due-f-requires
-    enum-known-due-5
-    due-f-requires-2
-    enum-told-2
+    due-after-requires-2
+    enum-told
     behind-entry-requires
-    enum-known-due-6
+    enum-known-due-3
     due-data-requires
-    enum-told-3
-    number-at-requires-3
-    number-at-requires-4
-    due-b-requires
-    enum-known-due-7
-    due-b-requires-2
-    enum-known-due-8
-    due-c-requires
-    enum-told-4
     returns
     returns-2
     returns-3
-    returns-4
-    returns-5
-    returns-6
-    returns-7
-    returns-8
-    returns-9
-    returns-10
-    returns-11
-    returns-12)
+    returns-4)
