@@ -9,7 +9,7 @@ use mir.Syntax.{w64}
 use mir.Val.{Fits}
 use types.Run.{OneOf}
 use borrow.Author.Tests.{eq-eqb, ne-eqb, not-true, not-false}
-use lib.Dec.{eqb}
+use lib.Dec.{T, leb, leb→le, eqb}
 use lib.IntN.{ℤ}
 use lib.ListN.{length, take, getD}
 use Rattle.format.specs.Basics.{first, unless}
@@ -37,8 +37,8 @@ module _ (r : List ℕ) (start width : ℕ) (wide : length r ≡ 84) (inside : s
 pub one-digit : (r : List ℕ) (start n : ℕ) → n ≡ numberIn r start 1 → n < 2 ^ 63
 one-digit r start n e = rw e (omega (arith, number-in-below r start 1))
 
-pub nine-more : (r : List ℕ) (start n : ℕ) → n ≡ numberIn r start 3 → Fits w64 (n + 9)
-nine-more r start n e = record { fits = rw e (omega (arith, number-in-below r start 3)) }
+pub three-digits-more : (r : List ℕ) (start n k : ℕ) → T (leb k 1000) → n ≡ numberIn r start 3 → Fits w64 (n + k)
+three-digits-more r start n k h e = record { fits = rw e (omega (arith, number-in-below r start 3, leb→le k 1000 h)) }
 
 -- ---- the type of a record: a letter and a space
 two-bytes : (r : List ℕ) (letter : ℕ) → length r ≡ 84 → same (take 2 r) (letter ∷ 32 ∷ []) ≡ eqb (getD r 0 0) letter && (eqb (getD r 1 0) 32 && true)

@@ -1,6 +1,6 @@
 -- `fault_of_index_a` tests the type, the columns, then the b count. Assumes nothing.
 use borrow.Author.Needs.{needs}
-use Rattle.part_and_index.proofs.FaultLaws.{nine-more, index-other-type, index-columns, index-count, index-other-count}
+use Rattle.part_and_index.proofs.FaultLaws.{three-digits-more, index-other-type, index-columns, index-count, index-other-count}
 use Rattle.part_and_index.proofs.faults.fault_of_index_a.Statement.{statement}
 use Rattle.part_and_index.proofs.faults.fault_of_index_a.Tie as tie
 
@@ -23,7 +23,7 @@ number-at-requires-2 : tie.Need-number-at-requires-2
 number-at-requires-2 c κs = search needs
 
 add-if3 : tie.Need-add-if3
-add-if3 c = search nine-more
+add-if3 c = search three-digits-more
 
 returns-3 : tie.Need-returns-3
 returns-3 c = search index-count
