@@ -1,42 +1,60 @@
--- What judging answers, from what the walk of the body ensures. Assumes nothing.
-use mathlib.Core.Path.{_≡_, refl, sym, ap, _∙_}
+-- What opening answers of a body, from what its walk ensures. Assumes nothing.
+use mathlib.Core.Path.{_≡_, refl, sym, ap, subst, _∙_}
 use mathlib.Core.Bool.{Bool, true, false, cond, _&&_}
-use mathlib.Core.List.{List, []}
-use Prim.Native.Nat.{ℕ, zero, suc, _+_, _-_, _*_, _≤_}
+use mathlib.Core.List.{List, [], _∷_}
+use Prim.Native.Nat.{ℕ, zero, suc, _+_, _-_, _≤_, _<_}
 use native.Mathlib.Omega.{arith}
-use native.Mathlib.Nat.{add-zero}
-use borrow.Author.Tests.{eq-eqb, ne-eqb}
+use native.Mathlib.Nat.{zero-add, add-zero}
+use native.Mathlib.Numerals.{add-one}
 use lib.Dec.{eqb}
-use lib.ListN.{length, drop, length-map}
-use Rattle.format.specs.Basics.{Answer, refused, Fault, none, orElse, toFault, first, unless, chunks}
-use Rattle.format.specs.Record.{View, view}
-use Rattle.format.specs.Judge.{Counts, items, countFault, bodyFault, verdict, judge}
-use Rattle.format.specs.Answers.{judgedAnswer}
-use Rattle.format.specs.declared.Judged.the-variants.{Accepted, Refused}
-use Rattle.format.proofs.Lists.{length-chunks}
+use lib.ListN.{length, take, getD, replicate}
+use lib.Seq.{ext-getD}
+use Rattle.format.specs.Basics.{Answer, refused, Fault, none, orElse, toFault, first, unless}
+use Rattle.format.specs.Record.{View}
+use Rattle.format.specs.Judge.{Counts, File, items, accepted, countFault, bodyFault, verdict, judge, dueAfter, isHeaderAt}
+use Rattle.format.specs.Edit.{lastHeader}
+use Rattle.format.specs.Above.{lastStart}
 use Rattle.part_and_index.specs.declared.SheetPart.{SheetPart}
+use Rattle.judge.specs.declared.Extent.{Extent}
+use Rattle.judge.specs.declared.Seen.{Seen}
+use Rattle.judge.specs.declared.Sheet.{Sheet}
 use Rattle.judge.specs.declared.WalkedBody.{WalkedBody}
-use Rattle.judge.specs.Walks.{viewsFrom, faultFrom, entries, wrongAt, Body, bodyOf, wrongSheetOf}
+use Rattle.judge.specs.Walks.{Room, viewsFrom, faultFrom, entries, wrongAt, upTo, seenNone, SeenUpTo, Body, bodyOf, wrongSheetOf, Stands}
+use Rattle.judge.specs.Sheet.{values, startBefore, headerBefore, refusedSheet, acceptedSheet, sheetFor}
 use Rattle.judge.proofs.Steps.{views-end}
+use Rattle.judge.proofs.PlaceLaws.{length-views}
 
-length-views : (file : List ℕ) (n k : ℕ) → length (viewsFrom file n k) ≡ n - k
-unfolding viewsFrom
-length-views file n k = length-map (chunks (n - k) (drop (84 * k) file)) view ∙ length-chunks (n - k) (drop (84 * k) file)
+-- ---- the folds with all numbers so many higher
+one-more : (m number : ℕ) → suc (m + number) ≡ m + suc number
+one-more m number = omega arith
 
--- ---- the sheet's two counts
-module _ (part : SheetPart) (found records : ℕ) where
-  pub elements-differ : (part .elements ≡ found → ⊥) → 2 ≡ wrongSheetOf part found records
-  unfolding wrongSheetOf
-  elements-differ ne = rw (ne-eqb (part .elements) found ne)
+start-shift : (m due number latest : ℕ) (rs : List View) → lastStart due (m + number) (m + latest) rs ≡ m + lastStart due number latest rs
+start-shift m due number latest [] = refl
+start-shift m zero number latest (r ∷ rs) = ap (λ (n : ℕ). lastStart (dueAfter 0 r) n (m + number) rs) (one-more m number) ∙ start-shift m (dueAfter 0 r) (suc number) number rs
+start-shift m (suc due) number latest (r ∷ rs) = ap (λ (n : ℕ). lastStart due n (m + latest) rs) (one-more m number) ∙ start-shift m due (suc number) latest rs
 
-  module _ (same : part .elements ≡ found) where
-    pub records-differ : (part .records ≡ records → ⊥) → 2 ≡ wrongSheetOf part found records
-    unfolding wrongSheetOf
-    records-differ ne = rw (eq-eqb (part .elements) found same, ne-eqb (part .records) records ne)
+header-shift : (m level due number latest : ℕ) (rs : List View) → lastHeader level due (m + number) (m + latest) rs ≡ m + lastHeader level due number latest rs
+header-shift m level due number latest [] = refl
+header-shift m level zero number latest (r ∷ rs) = ap (λ (n : ℕ). lastHeader level (dueAfter 0 r) n (cond (isHeaderAt level r) (m + number) (m + latest)) rs) (one-more m number) ∙ ap (λ (n : ℕ). lastHeader level (dueAfter 0 r) (m + suc number) n rs) (either (isHeaderAt level r)) ∙ header-shift m level (dueAfter 0 r) (suc number) (cond (isHeaderAt level r) number latest) rs
+  where
+    either : (t : Bool) → cond t (m + number) (m + latest) ≡ m + cond t number latest
+    either true = refl
+    either false = refl
+header-shift m level (suc due) number latest (r ∷ rs) = ap (λ (n : ℕ). lastHeader level due n (m + latest) rs) (one-more m number) ∙ header-shift m level due (suc number) latest rs
 
-    pub both-agree : part .records ≡ records → 0 ≡ wrongSheetOf part found records
-    unfolding wrongSheetOf
-    both-agree e = rw (eq-eqb (part .elements) found same, eq-eqb (part .records) records e)
+up-empty : (n : ℕ) (rs : List View) → rs ≡ [] → take n rs ≡ []
+up-empty zero rs e = refl
+up-empty (suc n) rs e = rw e
+
+pub getD-values : (count from : ℕ) (f : ℕ → ℕ) (i : ℕ) → i < count → getD (values count from f) i 0 ≡ f (from + i)
+getD-values zero from f i h = absurd (omega arith)
+getD-values (suc count) from f zero h = ap f (let e : from ≡ from + 0 = omega arith in e)
+getD-values (suc count) from f (suc i) h = getD-values count (suc from) f i (omega arith) ∙ ap f (let e : suc from + i ≡ from + suc i = omega arith in e)
+
+all-same : (m v level : ℕ) → level < m → getD (replicate m v) level 0 ≡ v
+all-same zero v level h = absurd (omega arith)
+all-same (suc m) v zero h = refl
+all-same (suc m) v (suc level) h = all-same m v level (omega arith)
 
 -- ---- stage three: the first of two wrong counts
 wrong-first : (a b : ℕ) → orElse (wrongAt a) (wrongAt b) ≡ wrongAt (first a b)
@@ -51,47 +69,87 @@ or-none : (low : ℕ) → orElse (wrongAt low) none ≡ wrongAt low
 or-none zero = refl
 or-none (suc low) = refl
 
-module _ (file : List ℕ) (n : ℕ) (part : SheetPart) (w : WalkedBody) (begun : ℕ) (begins : begun ≡ part .length) (walked : Body file n begun 0 w) where
-  b : Body file n (part .length) 0 w
-  b = rw begins at walked
+pub begin-seen : (s : Seen) (k : ℕ) → s ≡ seenNone k → SeenUpTo k s
+begin-seen s k e = rw e (record { few = omega arith; nine = refl })
+
+pub begun-body : (file : List ℕ) (x : Extent) (k begun : ℕ) (s : Seen) (w : WalkedBody) → begun ≡ k → s ≡ seenNone begun → Body file x begun 0 s w → Body file x k 0 (seenNone k) w
+begun-body file x k begun s w begins none-seen walked = rw begins at (subst (λ (s : Seen). Body file x begun 0 s w) none-seen walked)
+
+module _ (file : List ℕ) (x : Extent) (room : Room file x) (part : SheetPart) (w : WalkedBody) (b : Body file x (part .length) 0 (seenNone (part .length)) w) where
+  abbrev f : File
+  f = bodyOf file x part
 
   abbrev body : List View
-  body = viewsFrom file n (part .length)
+  body = viewsFrom file x (part .length)
 
-  pub answers-fault : (w .number ≡ 0 → ⊥) → judgedAnswer (Refused (w .number) (w .at)) ≡ judge (bodyOf file n part)
-  unfolding judge judgedAnswer
-  answers-fault ne = rw (b .fails ne)
+  pub answers-fault : (r : Sheet) → (w .number ≡ 0 → ⊥) → r ≡ refusedSheet (w .number) (w .at) → r ≡ sheetFor (judge f) (part .unit) (part .corners) f (x .before)
+  unfolding judge
+  answers-fault r ne e = e ∙ rw (b .fails ne)
 
   module _ (z : w .number ≡ 0) where
-    over : viewsFrom file n (w .next) ≡ []
-    over = views-end file n (w .next) (omega (arith, b .whole z refl))
+    over : viewsFrom file x (w .next) ≡ []
+    over = views-end file x room (w .next) (omega (arith, b .whole z refl))
 
     no-fault : faultFrom 0 (suc (part .length)) body ≡ none
     no-fault = b .passes z .same ∙ ap (faultFrom 0 (suc (w .next))) over
 
-    items-are : items (entries body) ≡ w .items
-    items-are = b .passes z .holds ∙ ap (λ (l : List View). w .items + items (entries l)) over ∙ add-zero (w .items)
+    items-are : items (entries body) ≡ w .seen .items
+    items-are = omega (arith, b .sees z .all, ap (λ (l : List View). items (entries l)) over)
 
     wrong-is : countFault 0 (suc (part .length)) body ≡ wrongAt (w .low)
     wrong-is = b .passes z .wrong (ap (faultFrom 0 (suc (w .next))) over) ∙ ap (λ (l : List View). orElse (wrongAt (w .low)) (countFault 0 (suc (w .next)) l)) over ∙ or-none (w .low)
 
-    module _ (sheet low : ℕ) (of : sheet ≡ wrongSheetOf part (w .items) (n - part .length)) (first-is : low ≡ first sheet (w .low)) where
-      body-fault : bodyFault (bodyOf file n part) ≡ wrongAt low
+    -- what stands before the place
+    none-left : upTo (x .before) (suc (w .next)) (viewsFrom file x (w .next)) ≡ []
+    none-left = up-empty (suc (x .before) - suc (w .next)) (viewsFrom file x (w .next)) over
+
+    same-front : upTo (x .before) (suc (part .length)) body ≡ take (x .before - part .length) body
+    same-front = let e : suc (x .before) - suc (part .length) ≡ x .before - part .length = omega arith in ap (λ (n : ℕ). take n body) e
+
+    start-found : w .seen .start ≡ startBefore f (x .before)
+    start-found =
+        sym (b .sees z .last ∙ ap (lastStart 0 (suc (w .next)) (w .seen .start)) none-left)
+        ∙ ap (lastStart 0 (suc (part .length)) (part .length)) same-front
+        ∙ ap (λ (n : ℕ). lastStart 0 n (part .length) (take (x .before - part .length) body)) (sym (add-one (part .length)))
+        ∙ ap (λ (n : ℕ). lastStart 0 (part .length + 1) n (take (x .before - part .length) body)) (sym (add-zero (part .length)))
+        ∙ start-shift (part .length) 0 1 0 (take (x .before - part .length) body)
+
+    header-found : (level : ℕ) → level ≤ 8 → getD (w .seen .headers) level 0 ≡ headerBefore f (x .before) level
+    header-found level h =
+        sym (b .sees z .above level h ∙ ap (lastHeader level 0 (suc (w .next)) (getD (w .seen .headers) level 0)) none-left)
+        ∙ ap (λ (n : ℕ). lastHeader level 0 (suc (part .length)) n (upTo (x .before) (suc (part .length)) body)) (all-same 9 (part .length) level (omega arith))
+        ∙ ap (lastHeader level 0 (suc (part .length)) (part .length)) same-front
+        ∙ ap (λ (n : ℕ). lastHeader level 0 n (part .length) (take (x .before - part .length) body)) (sym (add-one (part .length)))
+        ∙ ap (λ (n : ℕ). lastHeader level 0 (part .length + 1) n (take (x .before - part .length) body)) (sym (add-zero (part .length)))
+        ∙ header-shift (part .length) level 0 1 0 (take (x .before - part .length) body)
+
+    headers-found : w .seen .headers ≡ values 9 0 (headerBefore f (x .before))
+    headers-found = sym (ext-getD 0 (values 9 0 (headerBefore f (x .before))) (w .seen .headers) (sym (b .seen-then z .nine)) (λ level h. getD-values 9 0 (headerBefore f (x .before)) level h ∙ ap (headerBefore f (x .before)) (zero-add level) ∙ sym (header-found level (omega arith))))
+
+    module _ (sheet low : ℕ) (of : sheet ≡ wrongSheetOf part (w .seen .items) (x .records - part .length)) (first-is : low ≡ first sheet (w .low)) where
+      body-fault : bodyFault f ≡ wrongAt low
       unfolding wrongSheetOf
       body-fault =
-          rw (no-fault, items-are, length-views file n (part .length), wrong-is)
-          (ap (λ (f : Fault). orElse f (wrongAt (w .low))) (wrong-sheet (eqb (part .elements) (w .items) && eqb (part .records) (n - part .length)) ∙ ap wrongAt (sym of)) ∙ wrong-first sheet (w .low) ∙ ap wrongAt (sym first-is))
+          rw (no-fault, items-are, length-views file x room (part .length), wrong-is)
+          (ap (λ (f : Fault). orElse f (wrongAt (w .low))) (wrong-sheet (eqb (part .elements) (w .seen .items) && eqb (part .records) (x .records - part .length)) ∙ ap wrongAt (sym of)) ∙ wrong-first sheet (w .low) ∙ ap wrongAt (sym first-is))
 
-      pub answers-count : (low ≡ 0 → ⊥) → judgedAnswer (Refused 10 low) ≡ judge (bodyOf file n part)
-      unfolding judge judgedAnswer
-      answers-count ne = rw body-fault (there low ne)
+      pub answers-count : (r : Sheet) → (low ≡ 0 → ⊥) → r ≡ refusedSheet 10 low → r ≡ sheetFor (judge f) (part .unit) (part .corners) f (x .before)
+      unfolding judge
+      answers-count r ne e = e ∙ rw body-fault (there low ne)
         where
-          there : (x : ℕ) → (x ≡ 0 → ⊥) → _≡_ {A = Answer Counts} (refused 10 x) (verdict (wrongAt x) (part .length + length body) (items (entries body)))
+          there : (n : ℕ) → (n ≡ 0 → ⊥) → refusedSheet 10 n ≡ sheetFor (verdict (wrongAt n) (part .length + length body) (items (entries body))) (part .unit) (part .corners) f (x .before)
           there zero l = absurd (l refl)
-          there (suc x) l = refl
+          there (suc n) l = refl
 
-      pub answers-accepted : part .length ≤ n → low ≡ 0 → judgedAnswer (Accepted n (w .items)) ≡ judge (bodyOf file n part)
-      unfolding judge judgedAnswer
-      answers-accepted le e =
-          let whole : part .length + (n - part .length) ≡ n = omega arith in
-          rw (body-fault, e, length-views file n (part .length), items-are, whole)
+      module _ (inside : part .length ≤ x .records) (right : low ≡ 0) where
+        judged : judge f ≡ accepted (x .records) (w .seen .items)
+        unfolding judge
+        judged =
+            let whole : part .length + (x .records - part .length) ≡ x .records = omega arith in
+            rw (body-fault, right, length-views file x room (part .length), items-are, whole)
+
+        pub stands : Stands file x part (w .seen)
+        stands = record { judged = judged; start-is = start-found; headers-are = headers-found }
+
+        pub answers-sheet : (r : Sheet) → r ≡ acceptedSheet (w .seen .items) (part .unit) (part .corners) f (x .before) → r ≡ sheetFor (judge f) (part .unit) (part .corners) f (x .before)
+        answers-sheet r e = e ∙ rw judged

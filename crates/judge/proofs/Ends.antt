@@ -10,7 +10,7 @@ use Rattle.format.proofs.JudgeWalks.{good, good-faultAt, walk-passes}
 use Rattle.format.proofs.JudgeSteps.{walk-step, countUnder-low}
 use Rattle.judge.specs.Walks.{faultFrom, entries}
 
-from-one : (k : Kind) → 1 ≤ lowestLevel k
+pub from-one : (k : Kind) → 1 ≤ lowestLevel k
 from-one head = omega arith
 from-one (item k) = omega arith
 from-one neither = omega arith

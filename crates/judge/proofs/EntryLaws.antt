@@ -2,13 +2,12 @@
 use mathlib.Core.Path.{_≡_, refl, sym, _∙_}
 use mathlib.Core.Bool.{Bool, true, false, not}
 use mathlib.Core.List.{List}
-use Prim.Native.Nat.{ℕ, zero, suc, _+_, _*_, _≤_, _<_}
+use Prim.Native.Nat.{ℕ, zero, suc, _+_, _≤_, _<_}
 use native.Mathlib.Omega.{arith}
 use native.Mathlib.Numerals.{add-one}
 use borrow.Author.Tests.{not-true, not-false, le-leb, lt-leb, ne-eqb}
 use lib.Dec.{leb}
-use lib.ListN.{length, drop, length-drop}
-use lib.Seq.{length-take-le}
+use lib.ListN.{length}
 use Rattle.format.specs.Basics.{first, unless}
 use Rattle.records.specs.declared.items.Entry.{Entry}
 use Rattle.format.specs.Record.{nothing, Kind, head, item, neither, isHead, countIndex, view}
@@ -17,6 +16,8 @@ use Rattle.format.proofs.Basics.{first-zero}
 use Rattle.format.proofs.JudgeWalks.{good}
 use Rattle.records.proofs.Laws.{entry-kind, entry-level, entry-data-records, entry-held, entry-rule, fault-at}
 use Rattle.records.specs.Entry.{toData, entryOf}
+use Rattle.judge.specs.declared.Extent.{Extent}
+use Rattle.judge.proofs.Steps.{wide-at}
 use Rattle.judge.specs.Walks.{Room, recordAt, lowestOf, highestOf, levelFits, entryFault}
 
 -- ---- the first of two numbers that is not 0
@@ -101,33 +102,30 @@ module _ (l : List ℕ) (whole : length l ≡ 84) (opened : ℕ) where
       ∙ sym (fault-at l whole opened nothing)
 
 -- ---- the same of a record of a file, whose entry and fault are what the code has
-pub wide-at : (file : List ℕ) (n k : ℕ) → Room file n → k < n → length (recordAt file k) ≡ 84
-wide-at file n k room here = length-take-le 84 (drop (84 * k) file) (rw (length-drop (84 * k) file) (omega arith))
-
 -- a header or an item that passes
-pub record Sound (file : List ℕ) (k opened : ℕ) (e : Entry) : Type 0 where
-  pub well : faultAt opened 0 nothing (view (recordAt file k)) ≡ 0
-  pub kind-is : e .kind ≡ countIndex ((view (recordAt file k)) .kind)
+pub record Sound (file : List ℕ) (x : Extent) (k opened : ℕ) (e : Entry) : Type 0 where
+  pub well : faultAt opened 0 nothing (view (recordAt file x k)) ≡ 0
+  pub kind-is : e .kind ≡ countIndex ((view (recordAt file x k)) .kind)
   pub kind-small : e .kind ≤ 9
-  pub level-is : (view (recordAt file k)) .level ≡ e .level
+  pub level-is : (view (recordAt file x k)) .level ≡ e .level
   pub near : e .level ≤ suc opened
-  pub header : e .kind ≡ 0 → isHead ((view (recordAt file k)) .kind) ≡ true
+  pub header : e .kind ≡ 0 → isHead ((view (recordAt file x k)) .kind) ≡ true
   pub header-high : e .kind ≡ 0 → e .level ≤ 8
-  pub no-header : (e .kind ≡ 0 → ⊥) → isHead ((view (recordAt file k)) .kind) ≡ false
-  pub records-are : e .«data_records» ≡ (view (recordAt file k)) .dataRecords
-  pub held-is : toData (e .held) ≡ (view (recordAt file k)) .dataHeld
+  pub no-header : (e .kind ≡ 0 → ⊥) → isHead ((view (recordAt file x k)) .kind) ≡ false
+  pub records-are : e .«data_records» ≡ (view (recordAt file x k)) .dataRecords
+  pub held-is : toData (e .held) ≡ (view (recordAt file x k)) .dataHeld
 
-module _ (file : List ℕ) (n k opened : ℕ) (e : Entry) (fault : ℕ) (room : Room file n) (here : k < n) (is : e ≡ entryOf (recordAt file k)) (of : fault ≡ entryFault e opened) where
+module _ (file : List ℕ) (x : Extent) (k opened : ℕ) (e : Entry) (fault : ℕ) (room : Room file x) (here : k < x .records) (is : e ≡ entryOf (recordAt file x k)) (of : fault ≡ entryFault e opened) where
   abbrev one : List ℕ
-  one = recordAt file k
+  one = recordAt file x k
 
   whole : length one ≡ 84
-  whole = wide-at file n k room here
+  whole = wide-at file x room k here
 
   pub fault-is : fault ≡ faultAt opened 0 nothing (view one)
   fault-is = of ∙ rw is (entry-faults one whole opened)
 
-  pub sound : fault ≡ 0 → Sound file k opened e
+  pub sound : fault ≡ 0 → Sound file x k opened e
   sound z =
       let v = view one in
       let well : faultAt opened 0 nothing v ≡ 0 = sym fault-is ∙ z in

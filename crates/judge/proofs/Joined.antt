@@ -7,27 +7,58 @@ use native.Mathlib.Omega.{arith}
 use native.Mathlib.Nat.{zero-add}
 use borrow.Author.Tests.{eq-eqb, ne-eqb}
 use lib.Dec.{eqb}
+use lib.ListN.{length, getD}
 use Rattle.format.specs.Basics.{Fault, none, fault, orElse, toFault, unless, first}
 use Rattle.format.specs.Record.{nothing, head, item, isHead, countIndex, View}
-use Rattle.format.specs.Judge.{walk, faultAt, headersAndItems, countUnder, countsAgree, countFault, openAfter, dueAfter}
+use Rattle.format.specs.Judge.{walk, faultAt, headersAndItems, items, countUnder, countsAgree, countFault, openAfter, dueAfter}
 use Rattle.format.proofs.JudgeSteps.{walk-step}
-use Rattle.judge.specs.Walks.{faultFrom, entries, wrongAt, Through, Joins}
+use Rattle.judge.specs.declared.Seen.{Seen}
+use Rattle.judge.specs.Walks.{faultFrom, entries, wrongAt, lastBefore, withItem, withHeader, Through, Joins, Sees}
 use Rattle.judge.proofs.Steps.{any-owner}
+use Rattle.judge.proofs.SeenLaws.{start-step, header-step, header-set}
 
-pub joins-none : (opened i : ℕ) (rs : List View) → Joins opened i rs opened i rs 0 0
-joins-none opened i rs = record { same = refl; holds = sym (zero-add _); wrong = λ h. refl; deeper = λ level kind h. refl }
+pub joins-none : (opened i : ℕ) (rs : List View) → Joins opened i rs opened i rs 0
+joins-none opened i rs = record { same = refl; wrong = λ h. refl; deeper = λ level kind h. refl }
 
 wrong-first : (a b : ℕ) (f : Fault) → orElse (wrongAt a) (orElse (wrongAt b) f) ≡ orElse (wrongAt (first a b)) f
 wrong-first zero b f = refl
 wrong-first (suc a) b f = refl
 
-pub joins-more : (opened i : ℕ) (rs : List View) (j : ℕ) (ss : List View) (after k : ℕ) (ts : List View) (found found′ low low′ : ℕ) → Joins opened i rs opened j ss found low → Joins opened j ss after k ts found′ low′ → Joins opened i rs after k ts (found + found′) (first low low′)
-joins-more opened i rs j ss after k ts found found′ low low′ f g = record {
+pub joins-more : (opened i : ℕ) (rs : List View) (j : ℕ) (ss : List View) (after k : ℕ) (ts : List View) (low low′ : ℕ) → Joins opened i rs opened j ss low → Joins opened j ss after k ts low′ → Joins opened i rs after k ts (first low low′)
+joins-more opened i rs j ss after k ts low low′ f g = record {
   same = f .same ∙ g .same;
-  holds = omega (arith, f .holds, g .holds);
   wrong = λ h. f .wrong (g .same ∙ h) ∙ ap (orElse (wrongAt low)) (g .wrong h) ∙ wrong-first low low′ _;
   deeper = λ level kind h. f .deeper level kind h ∙ g .deeper level kind h;
 }
+
+-- ---- what is seen
+pub sees-none : (before i : ℕ) (rs : List View) (s : Seen) → Sees before i rs s i rs s
+sees-none before i rs s = record { all = refl; last = refl; above = λ level h. refl }
+
+pub sees-more : (before i : ℕ) (rs : List View) (s : Seen) (j : ℕ) (ss : List View) (s′ : Seen) (k : ℕ) (ts : List View) (s″ : Seen) → Sees before i rs s j ss s′ → Sees before j ss s′ k ts s″ → Sees before i rs s k ts s″
+sees-more before i rs s j ss s′ k ts s″ f g = record { all = f .all ∙ g .all; last = f .last ∙ g .last; above = λ level h. f .above level h ∙ g .above level h }
+
+-- an item at record k, and its data records; a header there, and what stands behind it
+module _ (before k : ℕ) (r : View) (rs : List View) (s : Seen) (i′ : ℕ) (rs′ : List View) where
+  pub sees-item : (j : ℕ) → r .kind ≡ item j → Through (r .dataHeld) (suc k) (r .dataRecords) (suc (suc k)) rs 0 i′ rs′ → Sees before (suc k) (r ∷ rs) s i′ rs′ (withItem s k before)
+  sees-item j is t = record {
+    all = omega (arith, one);
+    last = start-step before k r rs (s .start) ∙ rw is (t .start before (lastBefore k before (s .start)));
+    above = λ level h. header-step before k r rs level (getD (s .headers) level 0) ∙ rw is (t .header before level (getD (s .headers) level 0));
+  }
+    where
+      one : items (entries (r ∷ rs)) ≡ 1 + items (entries rs′)
+      one = rw (is, t .behind)
+
+  pub sees-header : (own : ℕ) (s′ : Seen) → r .kind ≡ head → r .level ≡ own → length (s .headers) ≡ 9 → Sees before (suc (suc k)) rs (withHeader s k before own) i′ rs′ s′ → Sees before (suc k) (r ∷ rs) s i′ rs′ s′
+  sees-header own s′ is deep nine b = record {
+    all = omega (arith, none-more, b .all);
+    last = start-step before k r rs (s .start) ∙ rw is (b .last);
+    above = λ level h. header-step before k r rs level (getD (s .headers) level 0) ∙ rw (is, deep) (rw (header-set (s .headers) own level (lastBefore k before) nine h) at (b .above level h));
+  }
+    where
+      none-more : items (entries (r ∷ rs)) ≡ items (entries rs)
+      none-more = rw is (zero-add _)
 
 -- a record that passes, one level below the open one
 module _ (opened i : ℕ) (r : View) (rs : List View) (well : faultAt opened 0 nothing r ≡ 0) (deep : r .level ≡ suc opened) where
@@ -66,10 +97,9 @@ module _ (opened i : ℕ) (r : View) (rs : List View) (well : faultAt opened 0 n
       behind-item : headersAndItems (dueAfter 0 r) rs ≡ entries rs′
       behind-item = ap (λ (x : ℕ). headersAndItems x rs) due-item ∙ t .behind
 
-      pub joins-item : Joins opened i (r ∷ rs) opened i′ rs′ 1 0
+      pub joins-item : Joins opened i (r ∷ rs) opened i′ rs′ 0
       joins-item = record {
         same = step-item ∙ t .same opened ∙ any-owner opened (r .dataHeld) nothing i 0 i′ rs′;
-        holds = rw (is, t .behind);
         wrong = λ h. rw is (t .wrong);
         deeper = λ level kind h. one-deeper level kind h ∙ ap (countUnder level kind) behind-item;
       }
@@ -88,19 +118,18 @@ module _ (opened i : ℕ) (r : View) (rs : List View) (well : faultAt opened 0 n
     counts-header : countFault 0 i (r ∷ rs) ≡ orElse (toFault (unless (countsAgree r (entries rs)) 10) i) (countFault 0 (suc i) rs)
     counts-header = rw is
 
-    module _ (i′ : ℕ) (rs′ : List View) (found low : ℕ) (b : Joins (suc opened) (suc i) rs opened i′ rs′ found low) where
-      joined : (low′ : ℕ) → (faultFrom opened i′ rs′ ≡ none → countFault 0 i (r ∷ rs) ≡ orElse (wrongAt low′) (countFault 0 i′ rs′)) → Joins opened i (r ∷ rs) opened i′ rs′ found low′
+    module _ (i′ : ℕ) (rs′ : List View) (low : ℕ) (b : Joins (suc opened) (suc i) rs opened i′ rs′ low) where
+      joined : (low′ : ℕ) → (faultFrom opened i′ rs′ ≡ none → countFault 0 i (r ∷ rs) ≡ orElse (wrongAt low′) (countFault 0 i′ rs′)) → Joins opened i (r ∷ rs) opened i′ rs′ low′
       joined low′ wrong = record {
         same = step-header ∙ b .same;
-        holds = rw is (zero-add _ ∙ b .holds);
         wrong = wrong;
         deeper = λ level kind h. one-deeper level kind h ∙ ap (countUnder level kind) behind-header ∙ b .deeper level kind (omega arith);
       }
 
-      pub joins-agreed : (faultFrom opened i′ rs′ ≡ none → countsAgree r (entries rs) ≡ true) → Joins opened i (r ∷ rs) opened i′ rs′ found low
+      pub joins-agreed : (faultFrom opened i′ rs′ ≡ none → countsAgree r (entries rs) ≡ true) → Joins opened i (r ∷ rs) opened i′ rs′ low
       joins-agreed agree = joined low (λ h. counts-header ∙ rw (agree h) (b .wrong h))
 
-      pub joins-differing : 0 < i → (faultFrom opened i′ rs′ ≡ none → countsAgree r (entries rs) ≡ false) → Joins opened i (r ∷ rs) opened i′ rs′ found i
+      pub joins-differing : 0 < i → (faultFrom opened i′ rs′ ≡ none → countsAgree r (entries rs) ≡ false) → Joins opened i (r ∷ rs) opened i′ rs′ i
       joins-differing some differ = joined i (λ h. counts-header ∙ rw (differ h) (there i some))
         where
           there : (x : ℕ) → 0 < x → fault 10 x ≡ orElse (wrongAt x) (countFault 0 i′ rs′)

@@ -1,10 +1,14 @@
 -- Laws that the proofs of several functions use.
 mod Steps
 mod EntryLaws
+mod SeenLaws
 mod Joined
 mod Ends
 mod ChildLaws
 mod BodyLaws
 mod ItemLaws
+mod SheetLaws
+mod PlaceLaws
 mod AnswerLaws
 mod FileLaws
+pub mod Opened

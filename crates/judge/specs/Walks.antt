@@ -1,29 +1,39 @@
--- What the private functions of the walk ensure, over the flat walk of format's Judge. Public functions cite nothing of this. Assumes nothing.
+-- What the private functions of the walk ensure, over the flat walk of format's Judge and the folds of its Edit and Above. Public functions cite nothing
+-- of this. Assumes nothing.
 use mathlib.Core.Path.{_≡_}
 use mathlib.Core.Bool.{Bool, true, cond, _&&_}
-use mathlib.Core.List.{List, map}
+use mathlib.Core.List.{List, [], map}
 use Prim.Native.Nat.{ℕ, zero, suc, _+_, _-_, _*_, _≤_, _<_}
-use lib.Dec.{leb, eqb}
-use lib.ListN.{length, take, drop, getD}
-use Rattle.format.specs.Basics.{Fault, none, fault, orElse, first, unless, chunks}
+use lib.Dec.{leb, ltb, eqb}
+use lib.ListN.{length, take, drop, getD, set, replicate}
+use Rattle.format.specs.Basics.{Fault, none, fault, orElse, first, unless}
 use Rattle.format.specs.Record.{Data, nothing, View, view, isHead, countIndex}
-use Rattle.format.specs.Judge.{walk, faultAt, headersAndItems, items, countUnder, countFault, File}
+use Rattle.format.specs.Judge.{walk, faultAt, headersAndItems, items, countUnder, countFault, File, accepted, judge}
+use Rattle.format.specs.Edit.{lastHeader}
+use Rattle.format.specs.Above.{lastStart}
+use Rattle.files.specs.Records.{recordsOf}
 use Rattle.records.specs.declared.items.Entry.{Entry}
 use Rattle.part_and_index.specs.declared.SheetPart.{SheetPart}
+use Rattle.judge.specs.declared.Extent.{Extent}
+use Rattle.judge.specs.declared.Seen.{Seen}
 use Rattle.judge.specs.declared.Walked.{Walked}
+use Rattle.judge.specs.declared.WalkedGroup.{WalkedGroup}
 use Rattle.judge.specs.declared.WalkedBody.{WalkedBody}
+use Rattle.judge.specs.declared.Sheet.{Sheet}
+use Rattle.judge.specs.Sheet.{values, startBefore, headerBefore}
 
 -- ---- The records of a file, which count from 0 here; record k has number k + 1
--- n records stand in the file
-abbrev pub Room : List ℕ → ℕ → Type 0
-Room file n = 84 * n ≤ length file
+-- the file has as many records as the walk is told
+pub record Room (file : List ℕ) (x : Extent) : Type 0 where
+  pub counted : x .records ≡ length (recordsOf (x .stride) file)
+  pub few : 84 * x .records ≤ length file
 
-abbrev pub recordAt : List ℕ → ℕ → List ℕ
-recordAt file k = take 84 (drop (84 * k) file)
+abbrev pub recordAt : List ℕ → Extent → ℕ → List ℕ
+recordAt file x k = getD (recordsOf (x .stride) file) k []
 
--- the views of the records from k on, up to the n-th
-unfoldable pub viewsFrom : List ℕ → (n k : ℕ) → List View
-viewsFrom file n k = map view (chunks (n - k) (drop (84 * k) file))
+-- the views of the records from k on
+unfoldable pub viewsFrom : List ℕ → Extent → ℕ → List View
+viewsFrom file x k = map view (drop k (recordsOf (x .stride) file))
 
 -- the first fault of a walk from here, where no data is due; the first record has number i
 abbrev pub faultFrom : (opened i : ℕ) → List View → Fault
@@ -52,78 +62,136 @@ levelFits kind level opened = leb (lowestOf kind) level && leb level (highestOf 
 unfoldable pub entryFault : Entry → (opened : ℕ) → ℕ
 entryFault e opened = first (e .fault) (first (unless (levelFits (e .kind) (e .level) opened) 7) (e .«rule_fault»))
 
+-- ---- What stands before a place, behind `before` records of the file: those of a list whose first record has number i
+abbrev pub upTo : (before i : ℕ) → List View → List View
+upTo before i rs = take (suc before - i) rs
+
+-- the number of record k where that stands before the place, else `latest`
+unfoldable pub lastBefore : (k before latest : ℕ) → ℕ
+lastBefore k before latest = cond (ltb k before) (suc k) latest
+
+-- what is seen with one more item at record k, and with a header of a level there
+abbrev pub withItem : Seen → (k before : ℕ) → Seen
+withItem s k before = record { items = s .items + 1; start = lastBefore k before (s .start); headers = s .headers }
+
+abbrev pub withHeader : Seen → (k before level : ℕ) → Seen
+withHeader s k before level = record { items = s .items; start = lastBefore k before (s .start); headers = set (s .headers) level (lastBefore k before (getD (s .headers) level 0)) }
+
+-- where the walk begins, behind a sheet part
+abbrev pub seenNone : (part : ℕ) → Seen
+seenNone part = record { items = 0; start = part; headers = replicate 9 part }
+
+-- no more items than records so far
+pub record SeenUpTo (k : ℕ) (s : Seen) : Type 0 where
+  pub few : s .items ≤ k
+  pub nine : length (s .headers) ≡ 9
+
 -- ---- Data records: of those due at rs, so many are left at rs′, and none between them is wrong
 pub record Through (held : Data) (owner due i : ℕ) (rs : List View) (left i′ : ℕ) (rs′ : List View) : Type 0 where
   pub same : (opened : ℕ) → walk opened due held owner i rs ≡ walk opened left held owner i′ rs′
   pub behind : headersAndItems due rs ≡ headersAndItems left rs′
   pub wrong : countFault due i rs ≡ countFault left i′ rs′
+  pub start : (before latest : ℕ) → lastStart due i latest (upTo before i rs) ≡ lastStart left i′ latest (upTo before i′ rs′)
+  pub header : (before level latest : ℕ) → lastHeader level due i latest (upTo before i rs) ≡ lastHeader level left i′ latest (upTo before i′ rs′)
 
--- ---- Headers and items: from rs at one open level to rs′ at another nothing is wrong; between them stand `found` items, and `low` is the first
--- header among them whose counts differ, 0 for none. Counts are those of a file in which stage two finds nothing: that is the premise of `wrong`.
--- What stands between counts for no header of a level lower than the open one
-pub record Joins (opened i : ℕ) (rs : List View) (opened′ i′ : ℕ) (rs′ : List View) (found low : ℕ) : Type 0 where
+-- ---- Headers and items: from rs at one open level to rs′ at another nothing is wrong; `low` is the first header between them whose counts differ, 0 for
+-- none. Counts are those of a file in which stage two finds nothing: that is the premise of `wrong`. What stands between counts for no header of a level
+-- lower than the open one
+pub record Joins (opened i : ℕ) (rs : List View) (opened′ i′ : ℕ) (rs′ : List View) (low : ℕ) : Type 0 where
   pub same : faultFrom opened i rs ≡ faultFrom opened′ i′ rs′
-  pub holds : items (entries rs) ≡ found + items (entries rs′)
   pub wrong : faultFrom opened′ i′ rs′ ≡ none → countFault 0 i rs ≡ orElse (wrongAt low) (countFault 0 i′ rs′)
   pub deeper : (level kind : ℕ) → level < opened → countUnder level kind (entries rs) ≡ countUnder level kind (entries rs′)
 
+-- what is seen at rs, and what is seen then at rs′: how many items, the last header or item before the place, the last header of each level
+pub record Sees (before i : ℕ) (rs : List View) (s : Seen) (i′ : ℕ) (rs′ : List View) (s′ : Seen) : Type 0 where
+  pub all : s .items + items (entries rs) ≡ s′ .items + items (entries rs′)
+  pub last : lastStart 0 i (s .start) (upTo before i rs) ≡ lastStart 0 i′ (s′ .start) (upTo before i′ rs′)
+  pub above : (level : ℕ) → level ≤ 8 → lastHeader level 0 i (getD (s .headers) level 0) (upTo before i rs) ≡ lastHeader level 0 i′ (getD (s′ .headers) level 0) (upTo before i′ rs′)
+
 -- ---- Contracts
 -- a walk that came to the record `next` without a fault
-abbrev pub passedOf : (next found low : ℕ) → Walked
-passedOf next found low = record { number = 0; at = 0; next = next; items = found; low = low }
+abbrev pub passedOf : (next : ℕ) → Walked
+passedOf next = record { number = 0; at = 0; next = next }
 
-abbrev pub passedBodyOf : (next found low : ℕ) → List ℕ → WalkedBody
-passedBodyOf next found low tally = record { number = 0; at = 0; next = next; items = found; low = low; tally = tally }
+abbrev pub passedGroupOf : (next low : ℕ) → Seen → WalkedGroup
+passedGroupOf next low seen = record { number = 0; at = 0; next = next; low = low; seen = seen }
+
+abbrev pub passedBodyOf : (next low : ℕ) → (tally : List ℕ) → Seen → WalkedBody
+passedBodyOf next low tally seen = record { number = 0; at = 0; next = next; low = low; tally = tally; seen = seen }
+
+-- the walk of an item, as that of a group
+abbrev pub itemAsGroup : Walked → Seen → WalkedGroup
+itemAsGroup w seen = record { number = w .number; at = w .at; next = w .next; low = 0; seen = seen }
 
 -- the walk from record k at an open level, to record `next` at another
-abbrev pub JoinsTo : List ℕ → (n k opened next after found low : ℕ) → Type 0
-JoinsTo file n k opened next after found low = Joins opened (suc k) (viewsFrom file n k) after (suc next) (viewsFrom file n next) found low
+abbrev pub JoinsTo : List ℕ → Extent → (k opened next after low : ℕ) → Type 0
+JoinsTo file x k opened next after low = Joins opened (suc k) (viewsFrom file x k) after (suc next) (viewsFrom file x next) low
 
-abbrev pub Fails : List ℕ → (n k opened number at : ℕ) → Type 0
-Fails file n k opened number at = faultFrom opened (suc k) (viewsFrom file n k) ≡ fault number at
+abbrev pub SeesTo : List ℕ → Extent → (k : ℕ) → Seen → (next : ℕ) → Seen → Type 0
+SeesTo file x k s next s′ = Sees (x .before) (suc k) (viewsFrom file x k) s (suc next) (viewsFrom file x next) s′
 
--- a walk goes on from k to `next`, which is no further than n, over at least as many records as items
-pub record Onward (k n next found : ℕ) : Type 0 where
-  pub start : k ≤ next
-  pub within : next ≤ n
-  pub few : k + found ≤ next
+abbrev pub Fails : List ℕ → Extent → (k opened number at : ℕ) → Type 0
+Fails file x k opened number at = faultFrom opened (suc k) (viewsFrom file x k) ≡ fault number at
 
 -- what `walk_item` ensures of the data records behind the item at record k
-pub record Item (file : List ℕ) (n k due : ℕ) (held : Data) (w : Walked) : Type 0 where
-  pub fails : (w .number ≡ 0 → ⊥) → (opened : ℕ) → walk opened due held (suc k) (suc (suc k)) (viewsFrom file n (k + 1)) ≡ fault (w .number) (w .at)
-  pub passes : w .number ≡ 0 → Through held (suc k) due (suc (suc k)) (viewsFrom file n (k + 1)) 0 (suc (w .next)) (viewsFrom file n (w .next))
+pub record Item (file : List ℕ) (x : Extent) (k due : ℕ) (held : Data) (w : Walked) : Type 0 where
+  pub fails : (w .number ≡ 0 → ⊥) → (opened : ℕ) → walk opened due held (suc k) (suc (suc k)) (viewsFrom file x (k + 1)) ≡ fault (w .number) (w .at)
+  pub passes : w .number ≡ 0 → Through held (suc k) due (suc (suc k)) (viewsFrom file x (k + 1)) 0 (suc (w .next)) (viewsFrom file x (w .next))
   pub start : w .number ≡ 0 → k < w .next
-  pub within : w .number ≡ 0 → w .next ≤ n
-  pub one : w .number ≡ 0 → w .items ≡ 1
-  pub none-wrong : w .number ≡ 0 → w .low ≡ 0
+  pub within : w .number ≡ 0 → w .next ≤ x .records
 
 -- record k is a header that passes, one level below the open one
-pub record HeaderAt (file : List ℕ) (k opened : ℕ) : Type 0 where
-  pub well : faultAt opened 0 nothing (view (recordAt file k)) ≡ 0
-  pub header : isHead ((view (recordAt file k)) .kind) ≡ true
-  pub deep : (view (recordAt file k)) .level ≡ suc opened
+pub record HeaderAt (file : List ℕ) (x : Extent) (k opened : ℕ) : Type 0 where
+  pub well : faultAt opened 0 nothing (view (recordAt file x k)) ≡ 0
+  pub header : isHead ((view (recordAt file x k)) .kind) ≡ true
+  pub deep : (view (recordAt file x k)) .level ≡ suc opened
 
 -- one header or item a level below the open one, at record k, with all that belongs to it
-pub record Child (file : List ℕ) (n k opened : ℕ) (w : Walked) : Type 0 where
-  pub fails : (w .number ≡ 0 → ⊥) → Fails file n k opened (w .number) (w .at)
-  pub passes : w .number ≡ 0 → JoinsTo file n k opened (w .next) opened (w .items) (w .low)
-  pub onward : w .number ≡ 0 → Onward k n (w .next) (w .items)
+pub record Child (file : List ℕ) (x : Extent) (k opened : ℕ) (s : Seen) (w : WalkedGroup) : Type 0 where
+  pub fails : (w .number ≡ 0 → ⊥) → Fails file x k opened (w .number) (w .at)
+  pub passes : w .number ≡ 0 → JoinsTo file x k opened (w .next) opened (w .low)
+  pub sees : w .number ≡ 0 → SeesTo file x k s (w .next) (w .seen)
+  pub seen-then : w .number ≡ 0 → SeenUpTo (w .next) (w .seen)
   pub further : w .number ≡ 0 → k < w .next
-  pub counts : w .number ≡ 0 → (kind : ℕ) → countUnder opened kind (entries (viewsFrom file n k)) ≡ cond (eqb (countIndex ((view (recordAt file k)) .kind)) kind) 1 0 + countUnder opened kind (entries (viewsFrom file n (w .next)))
+  pub within : w .number ≡ 0 → w .next ≤ x .records
+  pub counts : w .number ≡ 0 → (kind : ℕ) → countUnder opened kind (entries (viewsFrom file x k)) ≡ cond (eqb (countIndex ((view (recordAt file x k)) .kind)) kind) 1 0 + countUnder opened kind (entries (viewsFrom file x (w .next)))
 
 -- what `walk_body` ensures: all that stands below the open level from record k on. It stops at a record that the level above may hold, or
 -- at the end
-pub record Body (file : List ℕ) (n k opened : ℕ) (w : WalkedBody) : Type 0 where
-  pub fails : (w .number ≡ 0 → ⊥) → Fails file n k opened (w .number) (w .at)
-  pub passes : w .number ≡ 0 → JoinsTo file n k opened (w .next) (opened - 1) (w .items) (w .low)
-  pub onward : w .number ≡ 0 → Onward k n (w .next) (w .items)
-  pub counts : w .number ≡ 0 → faultFrom (opened - 1) (suc (w .next)) (viewsFrom file n (w .next)) ≡ none → (kind : ℕ) → countUnder opened kind (entries (viewsFrom file n k)) ≡ getD (w .tally) kind 0
-  pub whole : w .number ≡ 0 → opened ≡ 0 → w .next ≡ n
+pub record Body (file : List ℕ) (x : Extent) (k opened : ℕ) (s : Seen) (w : WalkedBody) : Type 0 where
+  pub fails : (w .number ≡ 0 → ⊥) → Fails file x k opened (w .number) (w .at)
+  pub passes : w .number ≡ 0 → JoinsTo file x k opened (w .next) (opened - 1) (w .low)
+  pub sees : w .number ≡ 0 → SeesTo file x k s (w .next) (w .seen)
+  pub seen-then : w .number ≡ 0 → SeenUpTo (w .next) (w .seen)
+  pub onward : w .number ≡ 0 → k ≤ w .next
+  pub within : w .number ≡ 0 → w .next ≤ x .records
+  pub counts : w .number ≡ 0 → faultFrom (opened - 1) (suc (w .next)) (viewsFrom file x (w .next)) ≡ none → (kind : ℕ) → countUnder opened kind (entries (viewsFrom file x k)) ≡ getD (w .tally) kind 0
+  pub whole : w .number ≡ 0 → opened ≡ 0 → w .next ≡ x .records
 
--- a sheet of n records, by what its sheet part came to
-abbrev pub bodyOf : List ℕ → (n : ℕ) → SheetPart → File
-bodyOf file n part = record { partLength = part .length; statedElements = part .elements; statedRecords = part .records; body = viewsFrom file n (part .length) }
+-- a sheet, by what its sheet part came to
+abbrev pub bodyOf : List ℕ → Extent → SheetPart → File
+bodyOf file x part = record { partLength = part .length; statedElements = part .elements; statedRecords = part .records; body = viewsFrom file x (part .length) }
 
 -- the record of its two counts where they differ, else 0
 unfoldable pub wrongSheetOf : SheetPart → (found records : ℕ) → ℕ
 wrongSheetOf part found records = cond (eqb (part .elements) found && eqb (part .records) records) 0 2
+
+-- ---- What stands before the place, by the last header or item there: that it has so many data records, and what it opens
+unfoldable pub dueOfEntry : Entry → ℕ
+dueOfEntry e = cond (eqb (e .kind) 0) 0 (e .«data_records»)
+
+unfoldable pub openOfEntry : Entry → ℕ
+openOfEntry e = cond (eqb (e .kind) 0) (e .level) (e .level - 1)
+
+-- how many records stand before the place, or before the end where that comes first
+unfoldable pub placeIn : Extent → ℕ
+placeIn x = cond (ltb (x .before) (x .records)) (x .before) (x .records)
+
+abbrev pub sheetWith : SheetPart → (due opened : ℕ) → Seen → Sheet
+sheetWith part due opened seen = record { fault = 0; at = 0; items = seen .items; part = part .length; unit = part .unit; corners = part .corners; due = due; opened = opened; start = seen .start; headers = seen .headers }
+
+-- what the walk of a body that nothing is wrong with leaves to say
+pub record Stands (file : List ℕ) (x : Extent) (part : SheetPart) (s : Seen) : Type 0 where
+  pub judged : judge (bodyOf file x part) ≡ accepted (x .records) (s .items)
+  pub start-is : s .start ≡ startBefore (bodyOf file x part) (x .before)
+  pub headers-are : s .headers ≡ values 9 0 (headerBefore (bodyOf file x part) (x .before))

@@ -1,147 +1,130 @@
--- The way up in the code's own words. Assumes nothing.
+-- The way up in the code's own words, from an opened sheet. Assumes nothing.
 use mathlib.Core.Path.{_≡_, refl, ap, sym, _∙_}
-use mathlib.Core.List.{List, [], map}
+use mathlib.Core.List.{List, []}
 use Prim.Native.Nat.{ℕ, zero, suc, pred, _+_, _-_, _/_, _^_, _≤_, _<_}
 use native.Mathlib.Omega.{arith}
 use mathlib.Core.Bool.{cond}
 use lib.Dec.{eqb}
 use borrow.Author.Tests.{le-ltb, lt-ltb, lt-leb, le-leb, ne-eqb}
-use lib.ListN.{length, take, drop, getD}
-use Rattle.format.specs.Basics.{Answer, given, Fault, none, fault}
+use lib.ListN.{length, take, getD}
+use Rattle.format.specs.Basics.{Answer, given}
 use Rattle.format.specs.Record.{View, view, nothing}
-use Rattle.format.specs.Sheet.{sheetFault}
-use Rattle.format.specs.Judge.{Counts, File, fileOf, judge, judgeRecords, afterPart}
+use Rattle.format.specs.Judge.{Counts, File}
 use Rattle.format.specs.Edit.{absent, lastHeader}
-use Rattle.format.specs.Above.{own, levelAt, aboveAt, noHeader, toHeader, upFrom}
+use Rattle.format.specs.Above.{own, levelAt, aboveAt, noHeader, toHeader, afterJudging, upFrom, up}
 use Rattle.format.specs.Answers.{wayUpAnswer}
 use Rattle.format.specs.declared.WayUp.the-variants.{Header, LayerHeader, Refused}
 use Rattle.format.proofs.JudgeWalks.{Passes}
-use Rattle.format.proofs.JudgeAccepted.{accepted-ok}
 use Rattle.format.proofs.AboveWayUp.{Climbs, climbs}
+use Rattle.files.specs.declared.Stride.the-variants.{Plain}
+use Rattle.files.specs.Records.{recordsOf}
 use Rattle.records.specs.declared.items.Entry.{Entry}
 use Rattle.records.specs.Entry.{viewFault, entryOf}
 use Rattle.records.proofs.Laws.{entry-fault, entry-level}
-use Rattle.part_and_index.specs.declared.SheetPart.{SheetPart}
-use Rattle.part_and_index.specs.Result as Part
-use Rattle.part_and_index.specs.Result.{sheetPartOf}
-use Rattle.part_and_index.proofs.Laws.{SoundPart, sound-part}
-use Rattle.places.specs.declared.Place.{Place}
-use Rattle.places.specs.Place.{recordsOf, bodyOf, placeOf}
-use Rattle.places.proofs.Reading.{length-body, body-at, record-wide}
-use Rattle.places.proofs.Laws.{place-start, place-header}
-use Rattle.way_up.specs.Sheet.{AcceptedSheet, wayIn}
+use Rattle.judge.specs.declared.Sheet.{Sheet}
+use Rattle.judge.specs.Sheet.{sheetOf}
+use Rattle.judge.proofs.Opened as Opened
+use Rattle.judge.proofs.Opened.{Opened, opened-sheet, sheet-refused-is, file-records, body-at, record-wide}
 use Rattle.way_up.proofs.Own.{OwnRecord, own-record}
 
--- what is accepted has no fault in its sheet part
-part-given : (f : Fault) (answer : Answer Counts) (counts : Counts) → afterPart f answer ≡ given counts → (f ≡ none) × (answer ≡ given counts)
-part-given none answer counts e = (refl, e)
-part-given (fault number at) answer counts e = let z : _≡_ {A = ℕ} 0 1 = cc in absurd (omega arith)
+module _ (used : ℕ) (buffer : List ℕ) (number : ℕ) (s : Sheet) (is : s ≡ sheetOf used buffer number) where
+  pub way-refused : (s .fault ≡ 0 → ⊥) → wayUpAnswer (Refused (s .fault) (s .at)) ≡ up used buffer number
+  unfolding wayUpAnswer up
+  way-refused ne = rw (sheet-refused-is used buffer number s is ne)
 
--- a header that there is has a record number
-module _ (file : List ℕ) (number : ℕ) (accepted : AcceptedSheet file) (part : SheetPart) (found : part ≡ sheetPartOf file) where
-  -- ---- the sheet
-  both : (sheetFault (Part.recordsOf file) ≡ none) × (judge (fileOf (Part.recordsOf file)) ≡ given (accepted .counts))
-  unfolding judgeRecords
-  both = part-given (sheetFault (Part.recordsOf file)) (judge (fileOf (Part.recordsOf file))) (accepted .counts) (accepted .judged)
+  module _ (accepted : s .fault ≡ 0) where
+    o : Opened used buffer number s
+    o = opened-sheet used buffer number s is accepted
 
-  no-fault : part .fault ≡ 0
-  unfolding sheetPartOf
-  no-fault = ap (λ (p : SheetPart). p .fault) found ∙ rw (both .0)
+    pub used-length : used ≡ length (take used buffer)
+    used-length = Opened.used-length used buffer number s is o
 
-  sound : SoundPart file part
-  sound = sound-part file part found no-fault
+    abbrev sheet : File
+    sheet = Opened.sheet used buffer
 
-  abbrev body : List View
-  body = bodyOf file (part .length)
+    abbrev part : ℕ
+    part = (Opened.sheet used buffer) .partLength
 
-  abbrev sheet : File
-  sheet = record { partLength = part .length; statedElements = part .elements; statedRecords = part .records; body = bodyOf file (part .length) }
+    abbrev body : List View
+    body = (Opened.sheet used buffer) .body
 
-  sheet-is : sheet ≡ fileOf (Part.recordsOf file)
-  unfolding bodyOf recordsOf Part.recordsOf
-  sheet-is = λ i. record { partLength = sound .length-is i; statedElements = sound .elements-is i; statedRecords = sound .records-is i; body = map view (drop (sound .length-is i) (Part.recordsOf file)) }
+    passes : Passes 0 0 nothing body
+    passes = o .ok .walks .0
 
-  judged : judge sheet ≡ given (accepted .counts)
-  judged = ap judge sheet-is ∙ both .1
+    -- ---- 17
+    way-is : up used buffer number ≡ upFrom sheet number
+    unfolding up
+    way-is = ap (λ (answer : Answer Counts). afterJudging answer (upFrom sheet number)) (o .judged)
 
-  passes : Passes 0 0 nothing body
-  passes = (accepted-ok sheet (accepted .counts .records) (accepted .counts .items) judged) .walks .0
+    pub in-part : number ≤ s .part → wayUpAnswer (Refused 17 0) ≡ up used buffer number
+    unfolding wayUpAnswer
+    in-part h = sym (way-is ∙ rw (le-ltb part number (omega (arith, o .part-is))))
 
-  -- ---- 17
-  way-is : wayIn file number ≡ upFrom sheet number
-  unfolding wayIn
-  way-is = ap (λ (f : File). upFrom f number) (sym sheet-is)
+    pub past-end : s .part < number → used / 84 < number → wayUpAnswer (Refused 17 0) ≡ up used buffer number
+    unfolding wayUpAnswer
+    past-end l h = sym (way-is ∙ rw (lt-ltb part number (omega (arith, o .part-is)), lt-leb number (part + length body) (omega (arith, o .part-is, o .body-length, o .inside))))
 
-  pub in-part : number ≤ part .length → wayUpAnswer (Refused 17 0) ≡ wayIn file number
-  unfolding wayUpAnswer
-  in-part h = sym (way-is ∙ rw (le-ltb (part .length) number h))
+    -- ---- a record behind the sheet part
+    module _ (behind : s .part < number) (inside : number ≤ used / 84) where
+      abbrev at : ℕ
+      at = number - (Opened.sheet used buffer) .partLength
 
-  pub past-end : part .length < number → length file / 84 < number → wayUpAnswer (Refused 17 0) ≡ wayIn file number
-  unfolding wayUpAnswer
-  past-end l h = sym (way-is ∙ rw (lt-ltb (part .length) number l, lt-leb number (part .length + length body) (omega (arith, length-body file (part .length), sound .inside))))
+      low : 0 < at
+      low = omega (arith, o .part-is)
 
-  -- ---- a record behind the sheet part
-  module _ (behind : part .length < number) (inside : number ≤ length file / 84) where
-    abbrev at : ℕ
-    at = number - part .length
+      high : at ≤ length body
+      high = omega (arith, o .part-is, o .body-length, o .inside)
 
-    within : number ≤ part .length + length body
-    within = omega (arith, length-body file (part .length), sound .inside)
+      answer : up used buffer number ≡ given (cond (eqb (aboveAt body at) 0) noHeader (toHeader (part + aboveAt body at) (levelAt body at - 1)))
+      answer = way-is ∙ rw (lt-ltb part number (omega (arith, o .part-is)), le-leb number (part + length body) (omega (arith, high, low)), c .passed number (omega (arith, c .within)))
+        where
+          c : Climbs body at
+          c = climbs body passes at low high
 
-    answer : wayIn file number ≡ given (cond (eqb (aboveAt body at) 0) noHeader (toHeader (part .length + aboveAt body at) (levelAt body at - 1)))
-    answer = way-is ∙ rw (lt-ltb (part .length) number behind, le-leb number (part .length + length body) within, c .passed number (omega (arith, c .within)))
-      where
-        c : Climbs body at
-        c = climbs body passes at (omega arith) (omega (arith, within))
+      w : OwnRecord body at
+      w = own-record body passes at low high
 
-    o : OwnRecord body at
-    o = own-record body passes at (omega arith) (omega (arith, within))
+      start-is : s .start ≡ part + own body at
+      start-is = o .start-is
 
-    module _ (place : Place) (located : place ≡ placeOf file (part .length) (number - part .length)) where
-      start-is : place .start ≡ own body at
-      start-is = place-start place file (part .length) at located
+      pub own-some : 1 ≤ s .start
+      own-some = omega (arith, start-is, w .some)
 
-      pub own-some : 1 ≤ part .length + place .start
-      own-some = omega (arith, start-is, o .some)
+      module _ (r : List ℕ) (read : r ≡ getD (recordsOf Plain (take used buffer)) (s .start - 1) []) (e : Entry) (of : e ≡ entryOf r) where
+        index-is : s .start - 1 ≡ s .part + pred (own body at)
+        index-is = omega (arith, start-is, w .some, o .part-is)
 
-      pub own-fits : length file < 2 ^ 64 → part .length + place .start < 2 ^ 64
-      own-fits long = omega (arith, start-is, o .inside)
+        index-inside : s .start - 1 < used / 84
+        index-inside = omega (arith, start-is, w .some, w .inside, o .part-is)
 
-      module _ (r : List ℕ) (read : r ≡ getD (recordsOf file) (part .length + place .start - 1) []) (e : Entry) (is : e ≡ entryOf r) where
-        index-is : part .length + place .start - 1 ≡ part .length + pred (own body at)
-        index-is = omega (arith, start-is, o .some)
-
-        index-inside : part .length + place .start - 1 < length file / 84
-        index-inside = omega (arith, start-is, o .some, o .inside)
+        read-is : r ≡ getD (Opened.records used buffer) (s .start - 1) []
+        read-is = read ∙ ap (λ (rs : List (List ℕ)). getD rs (s .start - 1) []) (file-records used buffer number s is o)
 
         view-is : getD body (pred (own body at)) absent ≡ view r
-        view-is = body-at file (part .length) (pred (own body at)) (omega (arith, index-is, index-inside)) ∙ ap view (sym (read ∙ ap (λ (i : ℕ). getD (recordsOf file) i []) index-is))
+        view-is = body-at used buffer number s is o (pred (own body at)) (omega (arith, index-is, index-inside)) ∙ ap view (sym (read-is ∙ ap (λ (i : ℕ). getD (Opened.records used buffer) i []) index-is))
 
         wide : length r ≡ 84
-        wide = record-wide file r (part .length + place .start - 1) read index-inside
+        wide = ap length read-is ∙ record-wide used buffer number s is o (s .start - 1) index-inside
 
         level-is : e .level ≡ levelAt body at
-        level-is = ap (λ (x : Entry). x .level) is ∙ entry-level r wide (entry-fault r wide ∙ ap viewFault (sym view-is) ∙ o .reads) ∙ ap (λ (v : View). v .level) (sym view-is)
+        level-is = ap (λ (q : Entry). q .level) of ∙ entry-level r wide (entry-fault r wide ∙ ap viewFault (sym view-is) ∙ w .reads) ∙ ap (λ (v : View). v .level) (sym view-is)
 
         pub level-least : 1 ≤ e .level
-        level-least = omega (arith, level-is, o .least)
+        level-least = omega (arith, level-is, w .least)
 
         pub level-most : e .level ≤ 9
-        level-most = omega (arith, level-is, o .most)
+        level-most = omega (arith, level-is, w .most)
 
-        pub layer-header : e .level - 1 ≡ 0 → wayUpAnswer LayerHeader ≡ wayIn file number
+        pub layer-header : e .level - 1 ≡ 0 → wayUpAnswer LayerHeader ≡ up used buffer number
         unfolding wayUpAnswer
-        layer-header z = sym (answer ∙ rw (o .none-above (omega (arith, level-is, o .least))))
+        layer-header z = sym (answer ∙ rw (w .none-above (omega (arith, level-is, w .least))))
 
-        header-is : getD (place .headers) (e .level - 1) 0 ≡ aboveAt body at
-        header-is = place-header place file (part .length) at located (e .level - 1) (omega (arith, level-most)) ∙ ap (λ (level : ℕ). lastHeader level 0 1 0 (take at body)) less ∙ sym (o .above)
+        header-is : getD (s .headers) (e .level - 1) 0 ≡ part + aboveAt body at
+        header-is = o .header-is (e .level - 1) (omega (arith, level-most)) ∙ ap (λ (level : ℕ). part + lastHeader level 0 1 0 (take at body)) less ∙ ap (λ (n : ℕ). part + n) (sym (w .above))
           where
             less : e .level - 1 ≡ pred (levelAt body at)
             less = omega (arith, level-is)
 
-        pub header-fits : length file < 2 ^ 64 → part .length + getD (place .headers) (e .level - 1) 0 < 2 ^ 64
-        header-fits long = omega (arith, header-is, o .low-above)
-
-        pub header-above : (e .level - 1 ≡ 0 → ⊥) → wayUpAnswer (Header (part .length + getD (place .headers) (e .level - 1) 0) (e .level - 1)) ≡ wayIn file number
+        pub header-above : (e .level - 1 ≡ 0 → ⊥) → wayUpAnswer (Header (getD (s .headers) (e .level - 1) 0) (e .level - 1)) ≡ up used buffer number
         unfolding wayUpAnswer
-        header-above some = sym (answer ∙ rw (ne-eqb (aboveAt body at) 0 (λ z. omega (arith, z, o .one-above (omega (arith, level-is)))), ← header-is, ← level-is))
+        header-above some = sym (answer ∙ rw (ne-eqb (aboveAt body at) 0 (λ z. omega (arith, z, w .one-above (omega (arith, level-is)))), ← header-is, ← level-is))

@@ -5,10 +5,10 @@ use Rattle.judge.proofs.walk_item.Statement.{statement}
 use Rattle.judge.proofs.walk_item.Tie as tie
 
 abbrev Inv-loop : tie.InvT-loop
-Inv-loop file n k held at₀ left₀ at left = Walking file n k left₀ held at left
+Inv-loop file extent k held at₀ left₀ at left = Walking file extent k left₀ held at left
 
 abbrev μ-loop : tie.MeasureT-loop
-μ-loop file n k held at₀ left₀ at left = left
+μ-loop file extent k held at₀ left₀ at left = left
 
 next-requires : tie.Need-next-requires Inv-loop μ-loop
 next-requires c κs = search needs

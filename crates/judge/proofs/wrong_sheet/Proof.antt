@@ -1,5 +1,5 @@
 -- `wrong_sheet` compares both counts. Assumes nothing.
-use Rattle.judge.proofs.AnswerLaws.{elements-differ, records-differ, both-agree}
+use Rattle.judge.proofs.SheetLaws.{elements-differ, records-differ, both-agree}
 use Rattle.judge.proofs.wrong_sheet.Statement.{statement}
 use Rattle.judge.proofs.wrong_sheet.Tie as tie
 
