@@ -18,8 +18,9 @@ use Rattle.format.specs.Record.{countName, countIn}
 use Rattle.format.proofs.Columns.{length-column, number-below, length-splice, length-written}
 use Rattle.format.proofs.ColumnFits.{fits-plus}
 use Rattle.format.proofs.RecordHeaders.{number-total, number-count}
-use Rattle.columns.specs.InRecord.{writeAt}
-use Rattle.columns.proofs.Laws.{write-at-bytes}
+use Rattle.columns.specs.InRecord.{numberIn, writeAt}
+use Rattle.columns.proofs.Laws.{column-at-inside, write-at-bytes}
+use Rattle.columns.proofs.NumberIn.{number-in-below}
 use Rattle.edit.specs.declared.counts.Change.{Change}
 use Rattle.edit.specs.Counts.{countStart, countWidth, withCounts, Fitting}
 
@@ -65,31 +66,27 @@ module _ (kind : ℕ) where
 
 -- ---- reading
 
-pub column-below : (r : List ℕ) (start width n : ℕ) → n ≡ numberOf (columnOf (column start width r)) → start + width ≤ length r → width ≤ 5 → n < 100000
-column-below r start width n e h k = omega (arith, e, rw (length-column start width r h) at (number-below (column start width r)), pow-le-pow-right {n = 10} (omega arith) {i = width} {j = 5} k)
+in-column : (r : List ℕ) (start width : ℕ) → start + width ≤ length r → width ≤ 18 → numberIn r start width ≡ numberOf (columnOf (column start width r))
+unfolding numberIn
+in-column r start width h k = ap numberOf (column-at-inside r start width h k)
+
+small-column : (r : List ℕ) (start width : ℕ) → width ≤ 5 → numberIn r start width < 100000
+small-column r start width h = omega (arith, number-in-below r start width, pow-le-pow-right {n = 10} (omega arith) {i = width} {j = 5} h)
 
 module _ (r : List ℕ) (n : ℕ) (wide : length r ≡ 84) where
-  pub total-read : n ≡ numberOf (columnOf (column 18 5 r)) → n ≡ numberAt header "total" r
-  total-read e = e ∙ sym (number-total r)
+  pub total-read : n ≡ numberIn r 18 5 → n ≡ numberAt header "total" r
+  total-read e = e ∙ in-column r 18 5 (omega arith) (omega arith) ∙ sym (number-total r)
 
-  pub total-small : n ≡ numberOf (columnOf (column 18 5 r)) → n < 100000
-  total-small e = column-below r 18 5 n e (omega arith) (omega arith)
+  pub total-small : n ≡ numberIn r 18 5 → n < 100000
+  total-small e = omega (arith, small-column r 18 5 (omega arith))
 
-module _ (kind start width : ℕ) (h : kind ≤ 9) (s : start ≡ countStart kind) (w : width ≡ countWidth kind) where
-  -- the column of a count lies inside the record
-  pub count-inside : start + width ≤ 84
-  count-inside = omega (arith, (count-place kind h) .0)
+module _ (kind start width : ℕ) (h : kind ≤ 9) (s : start ≡ countStart kind) (w : width ≡ countWidth kind) (r : List ℕ) (n : ℕ) (wide : length r ≡ 84) (e : n ≡ numberIn r start width) where
+  pub count-read : n ≡ countIn r kind
+  unfolding countStart countWidth
+  count-read = e ∙ in-column r start width (omega (arith, (count-place kind h) .0)) (omega (arith, (count-place kind h) .2)) ∙ rw (s, w) (sym (number-count kind r))
 
-  pub count-narrow : width ≤ 18
-  count-narrow = omega (arith, (count-place kind h) .2)
-
-  module _ (r : List ℕ) (n : ℕ) (wide : length r ≡ 84) (e : n ≡ numberOf (columnOf (column start width r))) where
-    pub count-read : n ≡ countIn r kind
-    unfolding countStart countWidth
-    count-read = e ∙ rw (s, w) (sym (number-count kind r))
-
-    pub count-small : n < 100000
-    count-small = column-below r start width n e (omega (arith, count-inside)) (omega (arith, (count-place kind h) .2))
+  pub count-small : n < 100000
+  count-small = omega (arith, small-column r start width (omega (arith, (count-place kind h) .2)))
 
 -- ---- writing
 

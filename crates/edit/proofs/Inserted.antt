@@ -9,7 +9,7 @@ use Rattle.format.specs.Basics.{chunks, flat}
 use Rattle.format.specs.Layout.{numberAt, header}
 use Rattle.format.specs.Record.{countIndex, countName, View, view, countIn, rewrite, raise}
 use Rattle.format.specs.Sheet.{partLength, statedElements, statedRecords, writeCounts}
-use Rattle.format.specs.Judge.{File, fileOf}
+use Rattle.format.specs.Judge.{File, fileOf, AcceptedSheet}
 use Rattle.format.specs.Edit.{insertFault, aboveBlock, inserted, blockOf, alterAt, absent, aboveIn, openBehind, before, bodyPlace}
 use Rattle.format.specs.Calls.{insert, plain}
 use Rattle.format.specs.Run.{listOf, call}
@@ -18,12 +18,12 @@ use Rattle.format.proofs.Lists.{Wide, block-wide, wide-append, wide-take, wide-
 use Rattle.format.proofs.EditMoves.{as-records}
 use Rattle.edit.specs.declared.counts.Change.{Change}
 use Rattle.edit.specs.Counts.{withCounts}
-use Rattle.edit.specs.Plans.{Accepts, storedStep, putIn}
+use Rattle.edit.specs.Plans.{storedStep, putIn}
 use Rattle.edit.proofs.Rewrites.{getD-front, as-records-changed, put-moved}
-use Rattle.edit.proofs.Accepted.{held, length-records, whole, bytes-are, call-is, length-body, sheet-two, sheet-inside}
+use Rattle.format.proofs.AcceptedSheet.{held, length-records, whole, bytes-are, call-is, length-body, sheet-two, sheet-inside}
 use Rattle.edit.proofs.AtPlace.{above-low, above-high}
 
-module _ (l : List ℕ) (used place : ℕ) (a : Accepts l used) where
+module _ (l : List ℕ) (used place : ℕ) (a : AcceptedSheet used l) where
   abbrev rs : List (List ℕ)
   rs = chunks (used / 84) l
 
@@ -42,7 +42,7 @@ module _ (l : List ℕ) (used place : ℕ) (a : Accepts l used) where
   -- the header's own count is at most its total
   pub count-of-total : (views : List View) → insertFault file place tail views 200000 ≡ 0 → (aboveBlock file place views) .count (countIndex ((getD views 0 absent) .kind)) ≤ (aboveBlock file place views) .total
   count-of-total [] e = absurd (empty-refused file tail place e)
-  count-of-total (b ∷ ds) e = rw (above-is (b .level) pre (sp file place b ds (held l used a .ok) (fits file tail place b ds e))) (above-counts file place b ds (held l used a .ok) (fits file tail place b ds e))
+  count-of-total (b ∷ ds) e = rw (above-is (b .level) pre (sp file place b ds (held a .ok) (fits file tail place b ds e))) (above-counts file place b ds (held a .ok) (fits file tail place b ds e))
 
   module _ (block : List ℕ) (bytes-block : flat (blockOf block) ≡ block) (c : Change) (fault : insertFault file place tail (map view (blockOf block)) 200000 ≡ 0) (k : q ≤ length (file .body)) where
     abbrev item : View
@@ -56,19 +56,19 @@ module _ (l : List ℕ) (used place : ℕ) (a : Accepts l used) where
 
     module _ (low : 2 ≤ item .level) (near : pred (item .level) ≤ openBehind 0 0 pre) (kind-most : countIndex (item .kind) ≤ 9) (header-is : c .header ≡ index) (kind-is : c .kind ≡ countIndex (item .kind)) (total-is : c .total ≡ numberAt header "total" (getD rs index []) + 1) (count-is : c .count ≡ countIn (getD rs index []) (countIndex (item .kind)) + 1) (elements-is : c .elements ≡ statedElements (getD rs 1 []) + 1) (records-is : c .records ≡ statedRecords (getD rs 1 []) + length (blockOf block)) (start-is : c .start ≡ 84 * (partLength rs + q)) where
       place-inside : partLength rs + q ≤ length rs
-      place-inside = omega (arith, k, length-body l used a, length-records l used a, sheet-inside l used a)
+      place-inside = omega (arith, k, length-body a, length-records a, sheet-inside a)
 
       index-inside : pred (aboveIn (item .level) pre) < q
-      index-inside = omega (arith, above-low l used place a (item .level) k low near, above-high l used place a (item .level) k low near)
+      index-inside = omega (arith, above-low a place (item .level) k low near, above-high a place (item .level) k low near)
 
       moved : putIn l used (c .start) block ≡ flat between ++ drop (84 * length (blockOf block)) tail
-      moved = rw start-is (put-moved l used rs (held l used a .wide) (bytes-are l used a) (whole l used a) (partLength rs + q) (blockOf block) block place-inside (block-wide block) bytes-block)
+      moved = rw start-is (put-moved l used rs (held a .wide) (bytes-are a) (whole a) (partLength rs + q) (blockOf block) block place-inside (block-wide block) bytes-block)
 
       length-between : length between ≡ length rs + length (blockOf block)
       length-between = simp (length-append, length-drop) (omega (arith, place-inside, length-take-le (partLength rs + q) rs place-inside))
 
       wide-between : Wide between
-      wide-between = wide-append _ _ (wide-take (partLength rs + q) rs (held l used a .wide)) (wide-append _ _ (block-wide block) (wide-drop (partLength rs + q) rs (held l used a .wide)))
+      wide-between = wide-append _ _ (wide-take (partLength rs + q) rs (held a .wide)) (wide-append _ _ (block-wide block) (wide-drop (partLength rs + q) rs (held a .wide)))
 
       header-there : getD between (c .header) [] ≡ getD rs index []
       header-there = ap (λ (i : ℕ). getD between i []) header-is ∙ getD-front (partLength rs + q) index rs (blockOf block ++ drop (partLength rs + q) rs) place-inside (omega (arith, index-inside))
@@ -78,14 +78,14 @@ module _ (l : List ℕ) (used place : ℕ) (a : Accepts l used) where
       raised-there = rw (header-there, kind-is, count-is, total-is)
 
       rewritten : withCounts c (flat between ++ drop (84 * length (blockOf block)) tail) ≡ flat (alterAt (writeCounts (c .elements) (c .records)) 1 (alterAt (raise (countIndex (item .kind))) (c .header) between)) ++ drop (84 * length (blockOf block)) tail
-      rewritten = as-records-changed c between (drop (84 * length (blockOf block)) tail) wide-between (rw kind-is kind-most) (omega (arith, header-is, index-inside, place-inside, length-between)) (omega (arith, sheet-two l used a, sheet-inside l used a, length-between)) (raise (countIndex (item .kind))) raised-there
+      rewritten = as-records-changed c between (drop (84 * length (blockOf block)) tail) wide-between (rw kind-is kind-most) (omega (arith, header-is, index-inside, place-inside, length-between)) (omega (arith, sheet-two a, sheet-inside a, length-between)) (raise (countIndex (item .kind))) raised-there
 
       records-are : (inserted (listOf (record { bytes = l; used = used })) place (blockOf block)) .records ≡ alterAt (writeCounts (c .elements) (c .records)) 1 (alterAt (raise (countIndex (item .kind))) (c .header) between)
-      records-are = as-records rs (blockOf block) (partLength rs) q 0 (pred (aboveIn (item .level) pre)) (writeCounts (statedElements (getD rs 1 []) + 1) (statedRecords (getD rs 1 []) + length (blockOf block))) (raise (countIndex (item .kind))) (sheet-two l used a) place-inside index-inside ∙ rw (header-is, elements-is, records-is)
+      records-are = as-records rs (blockOf block) (partLength rs) q 0 (pred (aboveIn (item .level) pre)) (writeCounts (statedElements (getD rs 1 []) + 1) (statedRecords (getD rs 1 []) + length (blockOf block))) (raise (countIndex (item .kind))) (sheet-two a) place-inside index-inside ∙ rw (header-is, elements-is, records-is)
 
       length-inserted : length ((inserted (listOf (record { bytes = l; used = used })) place (blockOf block)) .records) ≡ length rs + length (blockOf block)
       length-inserted = ap length records-are ∙ length-alterAt (writeCounts (c .elements) (c .records)) 1 (alterAt (raise (countIndex (item .kind))) (c .header) between) ∙ length-alterAt (raise (countIndex (item .kind))) (c .header) between ∙ length-between
 
       pub insert-stored : 84 * length (blockOf block) ≡ length block → call (insert place block) (record { bytes = l; used = used }) ≡ storedStep (withCounts c (putIn l used (c .start) block)) (used + length block)
       unfolding plain
-      insert-stored long = call-is l used a (insert place block) ∙ rw fault (ap₂ storedStep (ap (λ (x : List (List ℕ)). flat x ++ drop (84 * length (blockOf block)) tail) records-are ∙ sym (ap (withCounts c) moved ∙ rewritten)) (omega (arith, length-inserted, whole l used a)))
+      insert-stored long = call-is a (insert place block) ∙ rw fault (ap₂ storedStep (ap (λ (x : List (List ℕ)). flat x ++ drop (84 * length (blockOf block)) tail) records-are ∙ sym (ap (withCounts c) moved ∙ rewritten)) (omega (arith, length-inserted, whole a)))

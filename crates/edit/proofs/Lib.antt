@@ -1,9 +1,10 @@
 pub mod Bytes
 pub mod Columns
 pub mod Rewrites
-pub mod Targets
-pub mod Accepted
+pub mod Tested
+pub mod Refused
 pub mod AtPlace
+pub mod Sites
 pub mod Inserted
 pub mod Insertion
 pub mod Removed

@@ -13,25 +13,25 @@ use Rattle.format.specs.declared.Judged.{Judged}
 use Rattle.format.specs.declared.Judged.the-variants as Judged
 use Rattle.format.specs.declared.Edited.the-variants as Edited
 use Rattle.format.specs.Answers.{judgedAnswer, editedAnswer}
-use Rattle.format.specs.Judge.{judgeSheet}
+use Rattle.format.specs.Judge.{judgeSheet, AcceptedSheet}
 use Rattle.format.specs.Calls.{insert, remove}
 use Rattle.format.specs.Run.{call}
 use Rattle.edit.specs.declared.counts.Change.{Change}
 use Rattle.edit.specs.declared.plans.Plan.{Plan}
 use Rattle.edit.specs.declared.plans.Plan.the-variants.{Refuse, Store}
 use Rattle.edit.specs.Counts.{withCounts}
-use Rattle.edit.specs.Plans.{Accepts, storedStep, putIn, CanPut, InsertionReady, InsertionPlanned, takenOut, CanTake, RemovalReady, RemovalPlanned}
+use Rattle.edit.specs.Plans.{storedStep, putIn, CanPut, InsertionReady, InsertionPlanned, takenOut, CanTake, RemovalReady, RemovalPlanned}
 use Rattle.format.specs.Answers.{stepFor}
-use Rattle.edit.proofs.Accepted.{not-accepted}
+use Rattle.edit.proofs.Refused.{not-accepted}
 
 -- ---- judging
 module _ (l : List ℕ) (used : ℕ) (r : Judged) (e : judgedAnswer r ≡ judgeSheet used l) where
-  pub accepts : OneOf (0 ∷ []) (tagOf the-type r) → Accepts l used
+  pub accepts : OneOf (0 ∷ []) (tagOf the-type r) → AcceptedSheet used l
   unfolding judgedAnswer
   accepts h = go r h e
     where
-      go : (r : Judged) → OneOf (0 ∷ []) (tagOf the-type r) → judgedAnswer r ≡ judgeSheet used l → Accepts l used
-      go (Judged.Accepted n m) h e = record { records = n; items = m; judged = sym e }
+      go : (r : Judged) → OneOf (0 ∷ []) (tagOf the-type r) → judgedAnswer r ≡ judgeSheet used l → AcceptedSheet used l
+      go (Judged.Accepted n m) h e = record { counts = record { records = n; items = m }; judged = sym e }
       go (Judged.Refused n m) h e = absurd (miss (0 ∷ []) 1 tt h)
 
   module _ (number at : ℕ) (is : r ≡ Judged.Refused number at) where

@@ -1,223 +1,172 @@
--- A removal from an accepted sheet: each refusal in the code's own words, and the counts and moves of one that is accepted. Assumes nothing.
-use mathlib.Core.Path.{_≡_, ap, ap₂, sym, _∙_}
-use mathlib.Core.Bool.{true, false}
+-- A removal from an accepted sheet: its refusals in the code's own words, and the counts and moves of one that is accepted. Assumes nothing.
+use mathlib.Core.Path.{_≡_, ap, sym, _∙_}
+use mathlib.Core.Bool.{Bool, true, false, not}
 use mathlib.Core.List.{List, []}
 use Prim.Native.Nat.{ℕ, suc, pred, _+_, _-_, _*_, _/_, _≤_, _<_}
 use native.Mathlib.Omega.{arith}
-use borrow.Author.Tests.{le-ltb, lt-ltb, eq-eqb, ne-eqb}
-use lib.Dec.{ltb, eqb}
-use lib.ListN.{length, take, drop, getD, length-drop}
-use mir.Syntax.{w64}
-use mir.Val.{Fits}
+use borrow.Author.Tests.{eq-eqb, ne-eqb, not-true, not-false}
+use lib.Dec.{eqb}
+use lib.ListN.{length, take, getD, length-drop}
 use Rattle.format.specs.Basics.{chunks}
 use Rattle.format.specs.Layout.{numberAt, header}
 use Rattle.format.specs.Record.{isHead, countIndex, View, countIn}
 use Rattle.format.specs.Sheet.{partLength}
-use Rattle.format.specs.Judge.{File, fileOf}
-use Rattle.format.specs.Edit.{remove11, absent, aboveIn, dueBehind, openBehind, before, bodyPlace}
+use Rattle.format.specs.Judge.{File, sheetIn}
+use Rattle.format.specs.Edit.{remove11, absent, aboveIn, openBehind, before, bodyPlace}
+use Rattle.format.proofs.AcceptedSheet.{held, sheet-two, records-are}
 use Rattle.format.proofs.EditItems.{item-low}
-use Rattle.format.proofs.RecordHeaders.{number-total}
-use Rattle.format.proofs.EditRemove.{cuts, enough}
+use Rattle.format.proofs.EditRemove.{cuts, enough, b-good}
 use Rattle.records.specs.declared.items.Entry.{Entry}
 use Rattle.records.specs.Entry.{entryOf}
-use Rattle.records.proofs.Laws.{entry-kind, entry-level, entry-data-records, entry-head, kind-most}
-use Rattle.part_and_index.specs.declared.SheetPart.{SheetPart}
-use Rattle.part_and_index.specs.Result as Parts
-use Rattle.places.specs.declared.Place.{Place}
-use Rattle.places.specs.Place.{recordsOf, placeOf}
+use Rattle.records.proofs.Laws.{entry-kind, entry-level, entry-data-records, entry-head}
+use Rattle.files.specs.Records as Files
+use Rattle.files.specs.declared.Stride.the-variants.{Plain}
 use Rattle.edit_block.proofs.Items.{item-high}
-use Rattle.edit.specs.declared.counts.Change.{Change}
-use Rattle.edit.specs.declared.plans.Plan.{Plan}
-use Rattle.edit.specs.declared.plans.Plan.the-variants.{Refuse}
-use Rattle.edit.specs.declared.plans.Target.{Target}
-use Rattle.edit.specs.Plans.{AboveIn, targetAt, Targeted, loweredPlan, Accepts, RemovalReady, RemovalPlanned}
-use Rattle.edit.proofs.Columns.{column-below, one-less-fits}
-use Rattle.edit.proofs.Accepted.{held, length-records, inside, used-length, remove-refused, length-is, elements-is, records-is, part-inside, part-two, length-body, elements-few, records-few, file-records}
-use Rattle.edit.proofs.AtPlace.{Start, starts, above-low, above-high, above-wide, index-is, due-is, header-is, record-is}
+use Rattle.edit.specs.declared.plans.Plan.the-variants.{Refuse, Store}
+use Rattle.edit.specs.declared.plans.Site.{Site}
+use Rattle.edit.specs.declared.plans.Above.{Above}
+use Rattle.edit.specs.Plans.{Sited, isPlace, HasAbove, headerRecord, AboveRead, Removable, RemovalPlanned}
+use Rattle.edit.proofs.Columns.{one-less-fits}
+use Rattle.edit.proofs.Refused.{remove-refused}
+use Rattle.edit.proofs.AtPlace.{Start, starts, above-wide}
+use Rattle.edit.proofs.Sites.{body-long, remove-place, AtStart, at-start, plain-file, at-inside, has-above, index-is, index-inside, record-is}
 use Rattle.edit.proofs.Removed.{remove-stored}
 
--- what `removal_in_sheet` hands on: a target in the sheet, and what its counts come to
-pub record HandsOn (l : List ℕ) (used place : ℕ) (part : SheetPart) (headers : List ℕ) (item : Entry) : Type 0 where
-  pub above-in : AboveIn part headers (item .level) (part .length + (place - part .length - 1))
-  pub records-fit : Fits w64 (item .«data_records» + 1)
-  pub length-fits : Fits w64 (84 * (item .«data_records» + 1))
-  pub targeted : (t : Target) → t ≡ targetAt part headers (item .level) (item .kind) (part .length + (place - part .length - 1)) (84 * (item .«data_records» + 1)) → Targeted l used t
-  pub planned : (t : Target) → t ≡ targetAt part headers (item .level) (item .kind) (part .length + (place - part .length - 1)) (84 * (item .«data_records» + 1)) → (p : Plan) → p ≡ loweredPlan l used t → RemovalPlanned l used place p
-
-module _ (l : List ℕ) (used place : ℕ) (a : Accepts l used) (part : SheetPart) (part-is : part ≡ Parts.sheetPartOf (take used l)) where
-  abbrev rs : List (List ℕ)
-  rs = chunks (used / 84) l
-
+-- ---- 11
+module _ (l : List ℕ) (used place : ℕ) (site : Site) (s : Sited l used place site) where
   abbrev file : File
-  file = fileOf (chunks (used / 84) l)
-
-  abbrev tail : List ℕ
-  tail = drop used l
-
-  abbrev pre : List View
-  pre = before (fileOf (chunks (used / 84) l)) place
-
-  abbrev q : ℕ
-  q = bodyPlace (fileOf (chunks (used / 84) l)) place
+  file = sheetIn used l
 
   abbrev gone : View
-  gone = getD ((fileOf (chunks (used / 84) l)) .body) q absent
+  gone = getD ((sheetIn used l) .body) (bodyPlace (sheetIn used l) place) absent
 
-  refusal : remove11 file place ≡ 11 → RemovalPlanned l used place (Refuse 11 0)
+  refusal : remove11 (sheetIn used l) place ≡ 11 → RemovalPlanned l used place (Refuse 11 0)
   unfolding RemovalPlanned
-  refusal e = remove-refused l used a place 10 e
+  refusal e = remove-refused (s .accepted) place 10 e
 
-  pub in-part : place ≤ part .length → RemovalPlanned l used place (Refuse 11 0)
-  in-part h = refusal (rw (le-ltb (partLength rs) place (omega (arith, length-is l used a part part-is))))
+  module _ (is-place : Bool) (place-is : is-place ≡ isPlace (site .part) (used / 84) (site .due) place) where
+    pub no-place : not is-place ≡ true → RemovalPlanned l used place (Refuse 11 0)
+    no-place h = refusal (rw (remove-place l used place site s, ← place-is, not-true is-place h))
 
-  module _ (h : part .length < place) where
-    behind-part : ltb (partLength rs) place ≡ true
-    behind-part = lt-ltb (partLength rs) place (omega (arith, length-is l used a part part-is))
+    module _ (h : not is-place ≡ false) where
+      start : AtStart l used place site s (used / 84)
+      start = at-start l used place site s (used / 84) (sym place-is ∙ not-false is-place h)
 
-    pub past-end : length (take used l) / 84 - part .length ≤ place - part .length - 1 → RemovalPlanned l used place (Refuse 11 0)
-    past-end k = refusal (rw (behind-part, le-ltb q (length (file .body)) (omega (arith, k, used-length l used a, length-is l used a part part-is, length-body l used a))))
+      pub place-some : 1 ≤ place
+      place-some = omega (arith, start .follows)
 
-    module _ (k : place - part .length - 1 < length (take used l) / 84 - part .length) (here : Place) (here-is : here ≡ placeOf (take used l) (part .length) (place - part .length - 1)) where
-      at-inside : q < length (file .body)
-      at-inside = omega (arith, k, used-length l used a, length-is l used a part part-is, length-body l used a)
+      inside : bodyPlace file place < length (file .body)
+      inside = omega (arith, start .follows, start .up-to, body-long l used place site s, s .part-is)
 
-      pub no-start : (here .due ≡ 0 → ⊥) → RemovalPlanned l used place (Refuse 11 0)
-      no-start d = refusal (rw (behind-part, lt-ltb q (length (file .body)) at-inside, ne-eqb (dueBehind 0 pre) 0 (λ z. d (due-is l used place a part part-is h here here-is ∙ z))))
+      module _ (item : Entry) (item-is : item ≡ entryOf (getD (Files.recordsOf Plain (take used l)) (place - 1) [])) where
+        follows : partLength (chunks (used / 84) l) < place
+        follows = omega (arith, start .follows, s .part-is)
 
-      module _ (d : here .due ≡ 0) (r : List ℕ) (read : r ≡ getD (recordsOf (take used l)) (part .length + (place - part .length - 1)) []) (item : Entry) (item-is : item ≡ entryOf r) where
-        closed : dueBehind 0 pre ≡ 0
-        closed = sym (due-is l used place a part part-is h here here-is) ∙ d
+        abbrev here : List ℕ
+        here = getD (chunks (used / 84) l) (place - 1) []
 
-        abbrev here-record : List ℕ
-        here-record = getD (chunks (used / 84) l) (partLength (chunks (used / 84) l) + q) []
+        there : Start (s .accepted) place follows (start .closed)
+        there = starts (s .accepted) place follows (start .closed) inside
 
-        start : Start l used place a closed
-        start = starts l used place a closed at-inside
-
-        is : item ≡ entryOf here-record
-        is = item-is ∙ ap entryOf (read ∙ record-is l used place a part part-is h here here-is)
+        is : item ≡ entryOf here
+        is = item-is ∙ ap (λ (rs : List (List ℕ)). entryOf (getD rs (place - 1) [])) (plain-file l used place site s)
 
         head-is : isHead (gone .kind) ≡ eqb (item .kind) 0
-        head-is = ap (λ (v : View). isHead (v .kind)) (start .seen) ∙ entry-head here-record (start .wide) (start .sound) ∙ rw is
+        head-is = ap (λ (v : View). isHead (v .kind)) (there .seen) ∙ entry-head here (there .wide) (there .sound) ∙ rw is
 
         pub at-header : item .kind ≡ 0 → RemovalPlanned l used place (Refuse 11 0)
-        at-header z = refusal (rw (behind-part, lt-ltb q (length (file .body)) at-inside, eq-eqb (dueBehind 0 pre) 0 closed, head-is, eq-eqb (item .kind) 0 z))
+        at-header z = refusal (rw (remove-place l used place site s, ← place-is, not-false is-place h, head-is, eq-eqb (item .kind) 0 z))
 
         module _ (some : item .kind ≡ 0 → ⊥) where
           is-item : isHead (gone .kind) ≡ false
           is-item = head-is ∙ ne-eqb (item .kind) 0 some
 
           eleven : remove11 file place ≡ 0
-          eleven = rw (behind-part, lt-ltb q (length (file .body)) at-inside, eq-eqb (dueBehind 0 pre) 0 closed, is-item)
+          eleven = rw (remove-place l used place site s, ← place-is, not-false is-place h, is-item)
 
           kind-is : item .kind ≡ countIndex (gone .kind)
-          kind-is = ap (λ (e : Entry). e .kind) is ∙ entry-kind here-record (start .wide) (start .sound) ∙ ap (λ (v : View). countIndex (v .kind)) (sym (start .seen))
+          kind-is = ap (λ (e : Entry). e .kind) is ∙ entry-kind here (there .wide) (there .sound) ∙ ap (λ (v : View). countIndex (v .kind)) (sym (there .seen))
 
           level-is : item .level ≡ gone .level
-          level-is = ap (λ (e : Entry). e .level) is ∙ entry-level here-record (start .wide) (start .sound) ∙ ap (λ (v : View). v .level) (sym (start .seen))
+          level-is = ap (λ (e : Entry). e .level) is ∙ entry-level here (there .wide) (there .sound) ∙ ap (λ (v : View). v .level) (sym (there .seen))
 
           data-is : item .«data_records» ≡ gone .dataRecords
-          data-is = ap (λ (e : Entry). e .«data_records») is ∙ entry-data-records here-record (start .wide) (start .sound) ∙ ap (λ (v : View). v .dataRecords) (sym (start .seen))
+          data-is = ap (λ (e : Entry). e .«data_records») is ∙ entry-data-records here (there .wide) (there .sound) ∙ ap (λ (v : View). v .dataRecords) (sym (there .seen))
 
           low : 2 ≤ gone .level
-          low = rw (item-low gone is-item) at (start .good-here .low)
+          low = rw (item-low gone is-item) at (there .good-here .low)
 
           high : gone .level ≤ 9
-          high = rw (item-high (gone .kind) is-item) at (start .good-here .high)
+          high = rw (item-high (gone .kind) is-item) at (there .good-here .high)
 
-          near : pred (gone .level) ≤ openBehind 0 0 pre
-          near = omega (arith, start .good-here .near)
-
-          data-there : q + suc (gone .dataRecords) ≤ length (file .body)
-          data-there = omega (arith, enough file place (held l used a .ok) (cuts file place eleven), length-drop q (file .body), at-inside)
-
-          pub level-low : 1 ≤ item .level
-          level-low = omega (arith, level-is, low)
-
-          pub level-high : item .level - 1 < 9
-          level-high = omega (arith, level-is, high)
-
-          number : getD (here .headers) (item .level - 1) 0 ≡ aboveIn (gone .level) pre
-          number = header-is l used place a part part-is h here here-is (item .level) level-low (omega (arith, level-high)) ∙ ap (λ (n : ℕ). aboveIn n pre) level-is
-
-          number-low : 1 ≤ aboveIn (gone .level) pre
-          number-low = above-low l used place a (gone .level) (omega (arith, at-inside)) low near
-
-          number-high : aboveIn (gone .level) pre ≤ q
-          number-high = above-high l used place a (gone .level) (omega (arith, at-inside)) low near
-
-          pub header-low : 1 ≤ part .length + getD (here .headers) (item .level - 1) 0
-          header-low = omega (arith, number, number-low)
-
-          header-high : part .length + getD (here .headers) (item .level - 1) 0 ≤ used / 84
-          header-high = omega (arith, number, number-high, at-inside, length-body l used a, length-is l used a part part-is, part-inside l used a part part-is)
-
-          start-is : 84 * (part .length + (place - part .length - 1)) ≡ 84 * (partLength rs + q)
-          start-is = ap (λ (z : ℕ). 84 * z) (index-is l used place a part part-is h here here-is)
-
-          -- what the code computes stays small
-          few : used / 84 ≤ 200000
-          few = omega (arith, held l used a .few, length-records l used a)
-
-          in-headers : AboveIn part (here .headers) (item .level) (part .length + (place - part .length - 1))
-          in-headers = record { level-low = level-low; level-high = level-high; header-low = header-low; header-high = omega (arith, header-high, few); index-high = omega (arith, few, index-is l used place a part part-is h here here-is, at-inside, length-body l used a, length-is l used a part part-is, part-inside l used a part part-is) }
-
-          few-records : Fits w64 (item .«data_records» + 1)
-          few-records = record { fits = omega (arith, data-is, data-there, length-body l used a, length-records l used a, held l used a .few) }
-
-          few-bytes : Fits w64 (84 * (item .«data_records» + 1))
-          few-bytes = record { fits = omega (arith, data-is, data-there, length-body l used a, length-records l used a, held l used a .few) }
-
-          kind-small : item .kind ≤ 9
-          kind-small = omega (arith, kind-is, start .good-here .known)
-
-          -- the record of the header above, as the target names it
-          abbrev above : List ℕ
-          above = getD (recordsOf (take used l)) (part .length + getD (here .headers) (item .level - 1) 0 - 1) []
-
-          index-header : part .length + getD (here .headers) (item .level - 1) 0 - 1 ≡ partLength rs + pred (aboveIn (gone .level) pre)
-          index-header = omega (arith, number, number-low, length-is l used a part part-is)
-
-          above-record : above ≡ getD rs (partLength rs + pred (aboveIn (gone .level) pre)) []
-          above-record = rw (file-records l used (inside l used a), index-header)
-
-          wide : length above ≡ 84
-          wide = ap length above-record ∙ above-wide l used place a (gone .level) (omega (arith, at-inside)) low near
-
-          abbrev change : Change
-          change = record { header = part .length + getD (here .headers) (item .level - 1) 0 - 1; kind = item .kind; total = numberAt header "total" above - 1; count = countIn above (item .kind) - 1; elements = part .elements - 1; records = part .records - 84 * (item .«data_records» + 1) / 84; start = 84 * (part .length + (place - part .length - 1)); length = 84 * (item .«data_records» + 1) }
-
-          ready : RemovalReady l used place change
-          ready = record {
-            can = record {
-              inside = omega (arith, start-is, data-is, data-there, length-body l used a, length-is l used a part part-is, part-inside l used a part part-is);
-              room = inside l used a;
-              fitting = record {
-                header-in = omega (arith, header-low, header-high, inside l used a);
-                two-in = omega (arith, part-two l used a part part-is, part-inside l used a part part-is, inside l used a);
-                kind-most = kind-small;
-                total-fits = omega (arith, column-below above 18 5 (numberAt header "total" above) (number-total above) (omega (arith, wide)) (omega arith));
-                count-fits = one-less-fits above (item .kind) wide kind-small;
-                elements-fit = omega (arith, elements-is l used a part part-is, elements-few l used a);
-                records-fit = omega (arith, records-is l used a part part-is, records-few l used a);
-              };
-            };
-            outcome = remove-stored l used place a change eleven data-there low near (start .good-here .known) index-header kind-is (ap (λ (z : List ℕ). numberAt header "total" z - 1) above-record) (ap₂ (λ (z : List ℕ) (j : ℕ). countIn z j - 1) above-record kind-is) (ap (λ (z : ℕ). z - 1) (elements-is l used a part part-is)) (ap₂ _-_ (records-is l used a part part-is) gone-is) start-is (ap (λ (z : ℕ). 84 * z) bytes-gone);
+          pub removable : Removable l used place site item
+          removable = record {
+            sited = s;
+            eleven = eleven;
+            kind-is = kind-is;
+            level-is = level-is;
+            data-is = data-is;
+            kind-most = omega (arith, kind-is, there .good-here .known);
+            level-low = omega (arith, level-is, low);
+            level-high = omega (arith, level-is, high);
+            behind = start .follows;
+            data-inside = omega (arith, data-is, enough file place (held (s .accepted) .ok) (cuts file place eleven), length-drop (bodyPlace file place) (file .body), body-long l used place site s, s .part-is, start .follows);
           }
-            where
-              bytes-gone : item .«data_records» + 1 ≡ suc (gone .dataRecords)
-              bytes-gone = omega (arith, data-is)
 
-              gone-is : 84 * (item .«data_records» + 1) / 84 ≡ suc (gone .dataRecords)
-              gone-is = omega (arith, data-is)
+-- ---- the counts
+module _ (l : List ℕ) (used place : ℕ) (site : Site) (item : Entry) (m : Removable l used place site item) where
+  abbrev lost : View
+  lost = getD ((sheetIn used l) .body) (bodyPlace (sheetIn used l) place) absent
 
-          module _ (target : Target) (target-is : target ≡ targetAt part (here .headers) (item .level) (item .kind) (part .length + (place - part .length - 1)) (84 * (item .«data_records» + 1))) where
-            aimed : Targeted l used target
-            aimed = rw target-is (record { inside = inside l used a; header-in = omega (arith, header-low, header-high); kind-most = kind-small; elements-small = omega (arith, elements-is l used a part part-is, elements-few l used a); records-small = omega (arith, records-is l used a part part-is, records-few l used a) })
+  abbrev pre : List View
+  pre = before (sheetIn used l) place
 
-            counted : (p : Plan) → p ≡ loweredPlan l used target → RemovalPlanned l used place p
-            unfolding loweredPlan RemovalPlanned
-            counted p e = rw (e, target-is) ready
+  near : pred (item .level) ≤ openBehind 0 0 pre
+  near = omega (arith, m .level-is, b-good (sheetIn used l) place (held (m .sited .accepted) .ok) (cuts (sheetIn used l) place (m .eleven)) .near)
 
-          pub hands-on : HandsOn l used place part (here .headers) item
-          hands-on = record { above-in = in-headers; records-fit = few-records; length-fits = few-bytes; targeted = aimed; planned = counted }
+  up-to : place ≤ used / 84 + 1
+  up-to = omega (arith, m .data-inside)
+
+  pub above-there : HasAbove (take used l) site (item .level) (item .kind)
+  above-there = has-above l used place site (m .sited) (m .behind) up-to (item .level) (m .level-low) (m .level-high) near (item .kind) (m .kind-most)
+
+  module _ (above : Above) (read : AboveRead (take used l) site (item .level) (item .kind) above) where
+    abbrev index : ℕ
+    index = partLength (chunks (used / 84) l) + pred (aboveIn (lost .level) pre)
+
+    header-is : above .header ≡ index
+    header-is = rw (← (m .level-is)) (read .index-is ∙ index-is l used place site (m .sited) (m .behind) up-to (item .level) (m .level-low) (m .level-high) near)
+
+    record-there : headerRecord (take used l) site (item .level) ≡ getD (chunks (used / 84) l) index []
+    record-there = rw (← (m .level-is)) (record-is l used place site (m .sited) (m .behind) up-to (item .level) (m .level-low) (m .level-high) near)
+
+    inside-there : bodyPlace (sheetIn used l) place ≤ length ((sheetIn used l) .body)
+    inside-there = at-inside l used place site (m .sited) (m .behind) up-to (item .level) (m .level-low) (m .level-high) near
+
+    wide : length (headerRecord (take used l) site (item .level)) ≡ 84
+    wide = ap length (record-is l used place site (m .sited) (m .behind) up-to (item .level) (m .level-low) (m .level-high) near) ∙ above-wide (m .sited .accepted) place (item .level) inside-there (m .level-low) near
+
+    out-is : 84 * (item .«data_records» + 1) ≡ 84 * suc (lost .dataRecords)
+    out-is = omega (arith, m .data-is)
+
+    start-is : 84 * (place - 1) ≡ 84 * (partLength (chunks (used / 84) l) + bodyPlace (sheetIn used l) place)
+    start-is = ap (λ (i : ℕ). 84 * i) (let e : place - 1 ≡ partLength (chunks (used / 84) l) + bodyPlace (sheetIn used l) place = omega (arith, m .behind, m .sited .part-is) in e)
+
+    pub stored : (total count elements : ℕ) → total ≡ above .total - 1 → count ≡ above .count - 1 → elements ≡ site .items - 1 → RemovalPlanned l used place (Store (record { header = above .header; kind = item .kind; total = total; count = count; elements = elements; records = used / 84 - site .part - (item .«data_records» + 1); start = 84 * (place - 1); length = 84 * (item .«data_records» + 1) }))
+    unfolding RemovalPlanned
+    stored total count elements total-is count-is elements-is = record {
+      can = record {
+        inside = omega (arith, m .data-inside, m .behind);
+        room = m .sited .inside;
+        fitting = record {
+          header-in = omega (arith, read .index-is, index-inside l used place site (m .sited) (m .behind) up-to (item .level) (m .level-low) (m .level-high) near, m .sited .inside);
+          two-in = omega (arith, sheet-two (m .sited .accepted), m .sited .part-is, m .sited .part-inside, m .sited .inside);
+          kind-most = m .kind-most;
+          total-fits = omega (arith, total-is, read .total-small);
+          count-fits = rw (count-is ∙ ap (λ (n : ℕ). n - 1) (read .count-is)) (one-less-fits (headerRecord (take used l) site (item .level)) (item .kind) wide (m .kind-most));
+          elements-fit = omega (arith, elements-is, m .sited .items-few);
+          records-fit = omega (arith, m .sited .few);
+        };
+      };
+      outcome = remove-stored l used place (m .sited .accepted) _ (m .eleven) (omega (arith, m .data-inside, m .data-is, m .behind, body-long l used place site (m .sited), m .sited .part-is)) (omega (arith, m .level-low, m .level-is)) (omega (arith, near, m .level-is)) (omega (arith, m .kind-most, m .kind-is)) header-is (m .kind-is) (total-is ∙ ap (λ (n : ℕ). n - 1) (read .total-is ∙ ap (numberAt header "total") record-there)) (count-is ∙ ap (λ (n : ℕ). n - 1) (read .count-is ∙ ap (λ (r : List ℕ). countIn r (item .kind)) record-there ∙ ap (countIn (getD (chunks (used / 84) l) index [])) (m .kind-is))) (elements-is ∙ ap (λ (n : ℕ). n - 1) (m .sited .items-are)) (omega (arith, records-are (m .sited .accepted), m .sited .part-is, m .data-is)) start-is out-is;
+    }

@@ -1,96 +1,76 @@
--- What a plan says, and what it owes to the call that stores it. Private functions alone cite these. Assumes nothing.
+-- What a plan starts from, what it says, and what it owes to the call that stores it. Private functions alone cite these. Assumes nothing.
 use mathlib.Core.Path.{_≡_}
-use mathlib.Core.Bool.{Bool, cond, not, _&&_, _||_}
-use mathlib.Core.List.{List, [], _++_}
-use Prim.Native.Nat.{ℕ, _+_, _-_, _*_, _/_, _≤_, _<_}
-use lib.Dec.{leb, eqb}
+use mathlib.Core.Bool.{Bool, _&&_}
+use mathlib.Core.List.{List, [], _++_, map}
+use Prim.Native.Nat.{ℕ, suc, _+_, _-_, _/_, _≤_, _<_}
+use lib.Dec.{leb, ltb, eqb}
 use lib.ListN.{length, take, drop, getD, replicate}
 use lib.Seq.{slice}
-use Rattle.format.specs.Basics.{given, refused}
+use Rattle.format.specs.Basics.{given, refused, first, unless, chunks}
 use Rattle.format.specs.Layout.{numberAt, header}
-use Rattle.format.specs.Record.{countIn}
-use Rattle.format.specs.Judge.{accepted, judgeSheet}
+use Rattle.format.specs.Record.{view, countIndex, countIn}
+use Rattle.format.specs.Judge.{sheetIn, AcceptedSheet}
+use Rattle.format.specs.Edit.{dueBehind, openBehind, aboveIn, absent, bodyPlace, before, hasRoom, insert11, fault12, insert13, remove11, blockOf}
 use Rattle.format.specs.Calls.{insert, remove}
 use Rattle.format.specs.Run.{Step, call}
-use Rattle.part_and_index.specs.declared.SheetPart.{SheetPart}
-use Rattle.places.specs.Place.{recordsOf}
+use Rattle.records.specs.declared.items.Entry.{Entry}
 use Rattle.edit.specs.declared.counts.Change.{Change}
 use Rattle.edit.specs.declared.plans.Plan.{Plan}
 use Rattle.edit.specs.declared.plans.Plan.the-variants.{Refuse, Store}
-use Rattle.edit.specs.declared.plans.Target.{Target}
+use Rattle.edit.specs.declared.plans.Site.{Site}
+use Rattle.edit.specs.declared.plans.Above.{Above}
 use Rattle.edit.specs.Counts.{Fitting, withCounts}
 
--- an item's level has its header above among the last headers of the levels; no sum is too large
-pub record AboveIn (part : SheetPart) (headers : List ℕ) (level index : ℕ) : Type 0 where
+-- ---- the numbers that a plan starts from
+
+-- those of an accepted sheet at a place
+pub record Sited (bytes : List ℕ) (used place : ℕ) (site : Site) : Type 0 where
+  pub accepted : AcceptedSheet used bytes
+  pub part-is : site .part ≡ (sheetIn used bytes) .partLength
+  pub items-are : site .items ≡ (sheetIn used bytes) .statedElements
+  pub due-is : site .due ≡ dueBehind 0 (before (sheetIn used bytes) place)
+  pub opened-is : site .opened ≡ openBehind 0 0 (before (sheetIn used bytes) place)
+  pub header-is : (level : ℕ) → 1 ≤ level → level ≤ 9 → getD (site .headers) (level - 1) 0 ≡ aboveIn level (before (sheetIn used bytes) place)
+  -- no sum of them is too large
+  pub inside : used ≤ length bytes
+  pub few : used / 84 ≤ 200000
+  pub part-inside : site .part ≤ used / 84
+  pub items-few : site .items ≤ 200000
+
+-- "edit place is no item or header start, nor (insertion) one past the end": behind the sheet part, `last` at most, and no data record due there
+unfoldable pub isPlace : (part last due place : ℕ) → Bool
+isPlace part last due place = ltb part place && leb place last && eqb due 0
+
+-- "block level above the open level plus 1 at that place, or below the level of the record now there"
+unfoldable pub nestsIn : (opened level next : ℕ) → Bool
+nestsIn opened level next = leb level (suc opened) && leb next level
+
+-- 14, then 15: "a buffer is too short for the result", with so many bytes free in it
+unfoldable pub roomFault : Above → (kind records limit free length : ℕ) → ℕ
+roomFault above kind records limit free length = first (unless (hasRoom (above .total) kind (above .count) records limit) 14) (unless (leb length free) 15)
+
+-- ---- the header above an item
+
+-- its level has one among the last headers of the levels, and that stands in the file
+pub record HasAbove (file : List ℕ) (site : Site) (level kind : ℕ) : Type 0 where
   pub level-low : 1 ≤ level
   pub level-high : level - 1 < 9
-  pub header-low : 1 ≤ part .length + getD headers (level - 1) 0
-  pub header-high : part .length + getD headers (level - 1) 0 ≤ 200000
-  pub index-high : index ≤ 200000
+  pub header-low : 1 ≤ site .part + getD (site .headers) (level - 1) 0
+  pub header-high : site .part + getD (site .headers) (level - 1) 0 ≤ length file / 84
+  pub kind-most : kind ≤ 9
 
--- the target of an item at an index
-abbrev pub targetAt : SheetPart → (headers : List ℕ) → (level kind index length : ℕ) → Target
-targetAt part headers level kind index length = record {
-  header = part .length + getD headers (level - 1) 0 - 1;
-  kind = kind;
-  elements = part .elements;
-  records = part .records;
-  start = 84 * index;
-  length = length;
-}
+abbrev pub headerRecord : (file : List ℕ) → Site → (level : ℕ) → List ℕ
+headerRecord file site level = getD (chunks (length file / 84) file) (site .part + getD (site .headers) (level - 1) 0 - 1) []
 
--- "header total would pass 99,999, its grid and net count 9, or the file 200,000 records"
-unfoldable pub hasRoom : (total kind count records : ℕ) → Bool
-hasRoom total kind count records = leb (total + 1) 99999 && (not (eqb kind 9) || leb (count + 1) 9) && leb records 200000
+-- as it was read
+pub record AboveRead (file : List ℕ) (site : Site) (level kind : ℕ) (above : Above) : Type 0 where
+  pub index-is : above .header ≡ site .part + getD (site .headers) (level - 1) 0 - 1
+  pub total-is : above .total ≡ numberAt header "total" (headerRecord file site level)
+  pub count-is : above .count ≡ countIn (headerRecord file site level) kind
+  pub total-small : above .total < 100000
+  pub count-small : above .count < 100000
 
--- the header stands in the file, and no sum of the numbers is too large
-pub record Targeted (bytes : List ℕ) (used : ℕ) (t : Target) : Type 0 where
-  pub inside : used ≤ length bytes
-  pub header-in : t .header < used / 84
-  pub kind-most : t .kind ≤ 9
-  pub elements-small : t .elements < 1000000
-  pub records-small : t .records < 10000000
-
--- the record of the header above
-abbrev pub targetRecord : (bytes : List ℕ) → (used : ℕ) → Target → List ℕ
-targetRecord bytes used t = getD (recordsOf (take used bytes)) (t .header) []
-
--- one item more: 14, 15, or the counts raised
-unfoldable pub raisedPlan : (bytes : List ℕ) → (used : ℕ) → Target → Plan
-raisedPlan bytes used t =
-    cond (hasRoom (numberAt header "total" (targetRecord bytes used t)) (t .kind) (countIn (targetRecord bytes used t) (t .kind)) (used / 84 + t .length / 84))
-    (cond (leb (t .length) (length bytes - used))
-    (Store (record {
-      header = t .header;
-      kind = t .kind;
-      total = numberAt header "total" (targetRecord bytes used t) + 1;
-      count = countIn (targetRecord bytes used t) (t .kind) + 1;
-      elements = t .elements + 1;
-      records = t .records + t .length / 84;
-      start = t .start;
-      length = t .length;
-    }))
-    (Refuse 15 0))
-    (Refuse 14 0)
-
--- one item less
-unfoldable pub loweredPlan : (bytes : List ℕ) → (used : ℕ) → Target → Plan
-loweredPlan bytes used t = Store (record {
-  header = t .header;
-  kind = t .kind;
-  total = numberAt header "total" (targetRecord bytes used t) - 1;
-  count = countIn (targetRecord bytes used t) (t .kind) - 1;
-  elements = t .elements - 1;
-  records = t .records - t .length / 84;
-  start = t .start;
-  length = t .length;
-})
-
--- a sheet that is accepted
-pub record Accepts (bytes : List ℕ) (used : ℕ) : Type 0 where
-  pub records : ℕ
-  pub items : ℕ
-  pub judged : judgeSheet used bytes ≡ accepted records items
+-- ---- what a plan says
 
 -- a refusal leaves all as it was
 abbrev pub refusedStep : (bytes : List ℕ) → (used number at : ℕ) → Step
@@ -111,6 +91,20 @@ pub record CanPut (bytes : List ℕ) (used : ℕ) (block : List ℕ) (c : Change
   pub room : used + length block ≤ length bytes
   pub fitting : Fitting c (length bytes)
 
+-- a block that no 11 to 13 refuses there: an item of this kind and level
+pub record Nested (bytes : List ℕ) (used place : ℕ) (block : List ℕ) (site : Site) (kind level : ℕ) : Type 0 where
+  pub sited : Sited bytes used place site
+  pub eleven : insert11 (sheetIn used bytes) place ≡ 0
+  pub twelve : fault12 (map view (blockOf block)) ≡ 0
+  pub thirteen : insert13 (sheetIn used bytes) place (map view (blockOf block)) ≡ 0
+  pub kind-is : kind ≡ countIndex ((getD (map view (blockOf block)) 0 absent) .kind)
+  pub level-is : level ≡ (getD (map view (blockOf block)) 0 absent) .level
+  pub kind-most : kind ≤ 9
+  pub level-low : 2 ≤ level
+  pub level-high : level ≤ 9
+  pub behind : site .part < place
+  pub place-high : place ≤ used / 84 + 1
+
 pub record InsertionReady (bytes : List ℕ) (used place : ℕ) (block : List ℕ) (c : Change) : Type 0 where
   pub can : CanPut bytes used block c
   pub outcome : call (insert place block) (record { bytes = bytes; used = used }) ≡ storedStep (withCounts c (putIn bytes used (c .start) block)) (used + length block)
@@ -130,6 +124,19 @@ pub record CanTake (bytes : List ℕ) (used : ℕ) (c : Change) : Type 0 where
   pub inside : c .start + c .length ≤ used
   pub room : used ≤ length bytes
   pub fitting : Fitting c (length bytes)
+
+-- an item at the place, as it was read
+pub record Removable (bytes : List ℕ) (used place : ℕ) (site : Site) (item : Entry) : Type 0 where
+  pub sited : Sited bytes used place site
+  pub eleven : remove11 (sheetIn used bytes) place ≡ 0
+  pub kind-is : item .kind ≡ countIndex ((getD ((sheetIn used bytes) .body) (bodyPlace (sheetIn used bytes) place) absent) .kind)
+  pub level-is : item .level ≡ (getD ((sheetIn used bytes) .body) (bodyPlace (sheetIn used bytes) place) absent) .level
+  pub data-is : item .«data_records» ≡ (getD ((sheetIn used bytes) .body) (bodyPlace (sheetIn used bytes) place) absent) .dataRecords
+  pub kind-most : item .kind ≤ 9
+  pub level-low : 2 ≤ item .level
+  pub level-high : item .level ≤ 9
+  pub behind : site .part < place
+  pub data-inside : place + item .«data_records» ≤ used / 84
 
 pub record RemovalReady (bytes : List ℕ) (used place : ℕ) (c : Change) : Type 0 where
   pub can : CanTake bytes used c

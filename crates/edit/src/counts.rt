@@ -3,11 +3,10 @@ ghost use mathlib.Core.Path.{_≡_};
 ghost use Prim.Native.Nat.{_+_, _^_, _≤_, _<_};
 ghost use lib.IntN.{pos};
 ghost use lib.ListN.{length};
-ghost use Rattle.format.specs.Column.{columnOf, integer, numberOf, written};
-ghost use Rattle.format.specs.Layout.{column, splice, numberAt, header};
+ghost use Rattle.format.specs.Column.{written};
+ghost use Rattle.format.specs.Layout.{splice, numberAt, header};
 ghost use Rattle.format.specs.Record.{countIn};
 ghost use Rattle.edit.specs.Counts.{countStart, countWidth, Fitting, withCounts};
-use format::Column;
 use layouts::Header;
 use layouts::SheetB;
 
@@ -49,32 +48,12 @@ fn count_width(kind: usize) -> usize
     Header::GRID_AND_NET_WIDTH
 }
 
-// The number in a column; 0 where it has none.
-fn integer_at(record: &[u8], start: usize, width: usize) -> i64
-    requires { ⌜ (length (now «record») ≡ 84) × (start + width ≤ 84) × (width ≤ 18) ⌝ }
-    ensures { λ r. ⌜ r ≡ integer (columnOf (column start width (now («record» .entry)))) ⌝ }
-{
-    match columns::column_at(record, start, width) {
-        Column::Value(number) => number,
-        _ => 0,
-    }
-}
-
-// The same of at least 0; 0 for a negative one.
-fn number_at(record: &[u8], start: usize, width: usize) -> usize
-    requires { ⌜ (length (now «record») ≡ 84) × (start + width ≤ 84) × (width ≤ 18) ⌝ }
-    ensures { λ r. ⌜ (r ≡ numberOf (columnOf (column start width (now («record» .entry))))) × (r < 2 ^ 63) ⌝ }
-{
-    let number = integer_at(record, start, width);
-    if number < 0 { 0 } else { number as usize }
-}
-
 // The total that a header states.
 pub(crate) fn stated_total(record: &[u8]) -> usize
     requires { ⌜ length (now «record») ≡ 84 ⌝ }
     ensures { λ r. ⌜ (r ≡ numberAt header "total" (now («record» .entry))) × (r < 100000) ⌝ }
 {
-    number_at(record, Header::TOTAL_START, Header::TOTAL_WIDTH)
+    columns::number_at(record, Header::TOTAL_START, Header::TOTAL_WIDTH)
 }
 
 // Its count of a kind.
@@ -84,7 +63,7 @@ pub(crate) fn stated_count(record: &[u8], kind: usize) -> usize
 {
     let start = count_start(kind);
     let width = count_width(kind);
-    number_at(record, start, width)
+    columns::number_at(record, start, width)
 }
 
 // A number in a column of the buffer, in written form.

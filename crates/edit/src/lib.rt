@@ -12,6 +12,7 @@ use plans::Plan;
 mod counts;
 mod moves;
 mod plans;
+mod refusals;
 
 // A block put in, and its four counts written.
 fn store_insertion(buffer: &mut [u8], used: usize, block: &[u8], change: Change)

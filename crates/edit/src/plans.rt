@@ -1,102 +1,47 @@
 // What an edit is to change, or why it is refused: nothing is stored here. A refusal after judging is at record 0.
 ghost use mathlib.Core.Path.{_≡_};
 ghost use mathlib.Core.List.{[]};
-ghost use Prim.Native.Nat.{_+_, _-_, _<_};
-ghost use lib.ListN.{length, getD};
+ghost use Prim.Native.Nat.{_-_};
+ghost use lib.ListN.{getD};
+ghost use Rattle.format.specs.Judge.{AcceptedSheet};
 ghost use Rattle.records.specs.Entry.{entryOf};
-ghost use Rattle.places.specs.Place.{recordsOf};
-ghost use Rattle.edit.specs.Plans.{AboveIn, targetAt, hasRoom, Targeted, raisedPlan, loweredPlan, Accepts, InsertionPlanned, RemovalPlanned};
+ghost use Rattle.files.specs.Records.{recordsOf};
+ghost use Rattle.files.specs.declared.Stride.the-variants.{Plain};
+ghost use Rattle.edit.specs.Plans.{Sited, HasAbove, AboveRead, Nested, Removable, InsertionPlanned, RemovalPlanned};
 use super::counts;
 use super::counts::Change;
+use super::refusals;
+use files::Stride;
 use format::Block;
 use format::Judged;
-use part_and_index::SheetPart;
+use records::Entry;
 
 // Bytes of a record.
 const RECORD: usize = 84;
 
-// The refusals after judging: the place, the block, its level, the counts, the buffer.
-const NO_PLACE: u8 = 11;
-
-const NO_ITEM: u8 = 12;
-
-const WRONG_LEVEL: u8 = 13;
-
-const NO_ROOM: u8 = 14;
-
-const TOO_SHORT: u8 = 15;
+// Records of a file, at most.
+const MOST: usize = 200000;
 
 pub(crate) enum Plan {
     Refuse(u8, usize),
     Store(Change),
 }
 
-// The header above an item, by its index; the item's kind; the two counts that record 2 states; where the item's bytes go in or out, and how many.
-struct Target {
-    header: usize,
-    kind: usize,
-    elements: usize,
-    records: usize,
-    start: usize,
-    length: usize,
-}
-
-// The target of an item at an index, by the last header of each level before it.
-fn target_at(
-    part: SheetPart,
+// An accepted sheet at a place: the records of its sheet part and its items; the data records still due there, the open level there, and the last
+// header of each level before it, counted from 1 in the body, 0 for none.
+struct Site {
+    part: usize,
+    items: usize,
+    due: usize,
+    opened: usize,
     headers: [usize; 9],
-    level: usize,
-    kind: usize,
-    index: usize,
-    length: usize,
-) -> Target
-    requires { ⌜ AboveIn part headers level index ⌝ }
-    ensures { λ r. ⌜ r ≡ targetAt part headers level kind index length ⌝ }
-{
-    let above = level - 1;
-    Target {
-        header: part.length + headers[above] - 1,
-        kind,
-        elements: part.elements,
-        records: part.records,
-        start: RECORD * index,
-        length,
-    }
 }
 
-// Room for one item more: in the total, in the count of grids and nets, which has one digit, and in the file, of so many records then.
-fn has_room(total: usize, kind: usize, count: usize, records: usize) -> bool
-    requires { ⌜ (total < 100000) × (count < 100000) ⌝ }
-    ensures { λ r. ⌜ r ≡ hasRoom total kind count records ⌝ }
-{
-    (total + 1 <= 99999) & ((kind != 9) | (count + 1 <= 9)) & (records <= 200000)
-}
-
-// One item more: 14, 15, or the counts raised.
-fn raised(buffer: &[u8], used: usize, target: Target) -> Plan
-    requires { ⌜ Targeted (now buffer) used target ⌝ }
-    ensures { λ r. ⌜ r ≡ raisedPlan (now (buffer .entry)) used target ⌝ }
-{
-    let header = places::record_at(&buffer[..used], target.header);
-    let total = counts::stated_total(header);
-    let count = counts::stated_count(header, target.kind);
-    let records = target.length / RECORD;
-    if !has_room(total, target.kind, count, used / RECORD + records) {
-        return Plan::Refuse(NO_ROOM, 0);
-    }
-    if buffer.len() - used < target.length {
-        return Plan::Refuse(TOO_SHORT, 0);
-    }
-    Plan::Store(Change {
-        header: target.header,
-        kind: target.kind,
-        total: total + 1,
-        count: count + 1,
-        elements: target.elements + 1,
-        records: target.records + records,
-        start: target.start,
-        length: target.length,
-    })
+// The header above an item, by its index in the file, and what it states: its total, and its count of the item's kind.
+pub(crate) struct Above {
+    pub header: usize,
+    pub total: usize,
+    pub count: usize,
 }
 
 // A number less another, at least 0.
@@ -106,100 +51,135 @@ fn less(n: usize, by: usize) -> usize
     if n < by { 0 } else { n - by }
 }
 
-// One item less: the counts lowered.
-fn lowered(buffer: &[u8], used: usize, target: Target) -> Plan
-    requires { ⌜ Targeted (now buffer) used target ⌝ }
-    ensures { λ r. ⌜ r ≡ loweredPlan (now (buffer .entry)) used target ⌝ }
+fn site_at(buffer: &[u8], used: usize, place: usize) -> Site
+    requires { ⌜ AcceptedSheet used (now buffer) ⌝ }
+    ensures { λ r. ⌜ Sited (now (buffer .entry)) used place r ⌝ }
 {
-    let header = places::record_at(&buffer[..used], target.header);
-    let total = counts::stated_total(header);
-    let count = counts::stated_count(header, target.kind);
+    let file = &buffer[..used];
+    let part = part_and_index::sheet_part(file);
+    let here = places::locate(file, part.length, less(less(place, part.length), 1));
+    let headers = here.headers;
+    Site {
+        part: part.length,
+        items: part.elements,
+        due: here.due,
+        opened: here.opened,
+        headers,
+    }
+}
+
+// The header or item at an index; all 0 where there is none.
+fn entry_at(file: &[u8], index: usize) -> Entry
+    ensures { λ r. ⌜ r ≡ entryOf (getD (recordsOf Plain (now (file .entry))) index []) ⌝ }
+{
+    records::entry(files::record_at(file, Stride::Plain, index))
+}
+
+// The header above an item of a level, by the last header of each level.
+fn header_above(file: &[u8], site: Site, level: usize, kind: usize) -> Above
+    requires { ⌜ HasAbove (now file) site level kind ⌝ }
+    ensures { λ r. ⌜ AboveRead (now (file .entry)) site level kind r ⌝ }
+{
+    let headers = site.headers;
+    let above = level - 1;
+    let header = site.part + headers[above] - 1;
+    let record = files::record_at(file, Stride::Plain, header);
+    Above {
+        header,
+        total: counts::stated_total(record),
+        count: counts::stated_count(record, kind),
+    }
+}
+
+// A block that nests there: 14, 15, or the counts of one item more.
+fn counted_in(
+    buffer: &[u8],
+    used: usize,
+    site: Site,
+    place: usize,
+    block: &[u8],
+    kind: usize,
+    level: usize,
+) -> Plan
+    requires { ⌜ Nested (now buffer) used place (now block) site kind level ⌝ }
+    ensures { λ r. ⌜ InsertionPlanned (now (buffer .entry)) used place (now (block .entry)) r ⌝ }
+{
+    let above = header_above(&buffer[..used], site, level, kind);
+    let length = block.len();
+    let records = length / RECORD;
+    let fault = refusals::room(
+        above,
+        kind,
+        used / RECORD + records,
+        MOST,
+        buffer.len() - used,
+        length,
+    );
+    if fault != 0 {
+        return Plan::Refuse(fault, 0);
+    }
     Plan::Store(Change {
-        header: target.header,
-        kind: target.kind,
-        total: less(total, 1),
-        count: less(count, 1),
-        elements: less(target.elements, 1),
-        records: less(target.records, target.length / RECORD),
-        start: target.start,
-        length: target.length,
+        header: above.header,
+        kind,
+        total: above.total + 1,
+        count: above.count + 1,
+        elements: site.items + 1,
+        records: used / RECORD - site.part + records,
+        start: RECORD * (place - 1),
+        length,
     })
 }
 
-// The level of the header or item at an index; 0 where there is none.
-fn level_at(file: &[u8], index: usize) -> usize
-    ensures { λ r. ⌜ r ≡ (entryOf (getD (recordsOf (now (file .entry))) index [])) .level ⌝ }
-{
-    let entry = records::entry(places::record_at(file, index));
-    entry.level
-}
-
-// An insertion into an accepted sheet: 11 to 13, then `raised`.
-fn insertion_in_sheet(buffer: &[u8], used: usize, place: usize, block: &[u8]) -> Plan
-    requires { ⌜ Accepts (now buffer) used ⌝ }
-    ensures { λ r. ⌜ InsertionPlanned (now (buffer .entry)) used place (now (block .entry)) r ⌝ }
-{
-    let file = &buffer[..used];
-    let part = part_and_index::sheet_part(file);
-    let first = part.length;
-    if place <= first {
-        return Plan::Refuse(NO_PLACE, 0);
-    }
-    let at = place - first - 1;
-    if file.len() / RECORD - first < at {
-        return Plan::Refuse(NO_PLACE, 0);
-    }
-    let here = places::locate(file, first, at);
-    if here.due != 0 {
-        return Plan::Refuse(NO_PLACE, 0);
-    }
-    let Block::Item(kind, level) = edit_block::read_block(block) else {
-        return Plan::Refuse(NO_ITEM, 0);
-    };
-    if here.opened < level - 1 {
-        return Plan::Refuse(WRONG_LEVEL, 0);
-    }
-    if level < level_at(file, first + at) {
-        return Plan::Refuse(WRONG_LEVEL, 0);
-    }
-    let headers = here.headers;
-    let target = target_at(part, headers, level, kind, first + at, block.len());
-    raised(buffer, used, target)
-}
-
-// A removal from an accepted sheet: 11, then `lowered`.
-fn removal_in_sheet(buffer: &[u8], used: usize, place: usize) -> Plan
-    requires { ⌜ Accepts (now buffer) used ⌝ }
+// An item at the place: the counts of one item less.
+fn counted_out(buffer: &[u8], used: usize, site: Site, place: usize, item: Entry) -> Plan
+    requires { ⌜ Removable (now buffer) used place site item ⌝ }
     ensures { λ r. ⌜ RemovalPlanned (now (buffer .entry)) used place r ⌝ }
 {
-    let file = &buffer[..used];
-    let part = part_and_index::sheet_part(file);
-    let first = part.length;
-    if place <= first {
-        return Plan::Refuse(NO_PLACE, 0);
+    let above = header_above(&buffer[..used], site, item.level, item.kind);
+    let records = item.data_records + 1;
+    Plan::Store(Change {
+        header: above.header,
+        kind: item.kind,
+        total: less(above.total, 1),
+        count: less(above.count, 1),
+        elements: less(site.items, 1),
+        records: used / RECORD - site.part - records,
+        start: RECORD * (place - 1),
+        length: RECORD * records,
+    })
+}
+
+// An insertion into an accepted sheet: 11 to 13, then `counted_in`.
+fn insertion_in_sheet(buffer: &[u8], used: usize, site: Site, place: usize, block: &[u8]) -> Plan
+    requires { ⌜ Sited (now buffer) used place site ⌝ }
+    ensures { λ r. ⌜ InsertionPlanned (now (buffer .entry)) used place (now (block .entry)) r ⌝ }
+{
+    if !refusals::is_place(site.part, used / RECORD + 1, site.due, place) {
+        return Plan::Refuse(refusals::NO_PLACE, 0);
     }
-    let at = place - first - 1;
-    if file.len() / RECORD - first <= at {
-        return Plan::Refuse(NO_PLACE, 0);
+    let Block::Item(kind, level) = edit_block::read_block(block) else {
+        return Plan::Refuse(refusals::NO_ITEM, 0);
+    };
+    let next = entry_at(&buffer[..used], place - 1);
+    if !refusals::nests(site.opened, level, next.level) {
+        return Plan::Refuse(refusals::WRONG_LEVEL, 0);
     }
-    let here = places::locate(file, first, at);
-    if here.due != 0 {
-        return Plan::Refuse(NO_PLACE, 0);
+    counted_in(buffer, used, site, place, block, kind, level)
+}
+
+// A removal from an accepted sheet: 11, then `counted_out`.
+fn removal_in_sheet(buffer: &[u8], used: usize, site: Site, place: usize) -> Plan
+    requires { ⌜ Sited (now buffer) used place site ⌝ }
+    ensures { λ r. ⌜ RemovalPlanned (now (buffer .entry)) used place r ⌝ }
+{
+    if !refusals::is_place(site.part, used / RECORD, site.due, place) {
+        return Plan::Refuse(refusals::NO_PLACE, 0);
     }
-    let item = records::entry(places::record_at(file, first + at));
+    let item = entry_at(&buffer[..used], place - 1);
     if item.kind == 0 {
-        return Plan::Refuse(NO_PLACE, 0);
+        return Plan::Refuse(refusals::NO_PLACE, 0);
     }
-    let headers = here.headers;
-    let target = target_at(
-        part,
-        headers,
-        item.level,
-        item.kind,
-        first + at,
-        RECORD * (item.data_records + 1),
-    );
-    lowered(buffer, used, target)
+    counted_out(buffer, used, site, place, item)
 }
 
 // Judges first; a refusal of judging is the answer.
@@ -208,7 +188,10 @@ pub(crate) fn insertion(buffer: &[u8], used: usize, place: usize, block: &[u8]) 
 {
     let judged = judge::judge_sheet(buffer, used);
     match judged {
-        Judged::Accepted(_, _) => insertion_in_sheet(buffer, used, place, block),
+        Judged::Accepted(_, _) => {
+            let site = site_at(buffer, used, place);
+            insertion_in_sheet(buffer, used, site, place, block)
+        }
         Judged::Refused(number, at) => Plan::Refuse(number, at),
     }
 }
@@ -218,7 +201,10 @@ pub(crate) fn removal(buffer: &[u8], used: usize, place: usize) -> Plan
 {
     let judged = judge::judge_sheet(buffer, used);
     match judged {
-        Judged::Accepted(_, _) => removal_in_sheet(buffer, used, place),
+        Judged::Accepted(_, _) => {
+            let site = site_at(buffer, used, place);
+            removal_in_sheet(buffer, used, site, place)
+        }
         Judged::Refused(number, at) => Plan::Refuse(number, at),
     }
 }

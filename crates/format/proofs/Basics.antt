@@ -1,11 +1,12 @@
 -- Small laws of tests, of signed numbers and of fault numbers. Assumes nothing.
-use mathlib.Core.Path.{_≡_, refl, sym}
+use mathlib.Core.Path.{_≡_, refl, sym, _∙_}
 use mathlib.Core.Bool.{Bool, true, false, _&&_, _||_, false≢true}
-use Prim.Native.Nat.{ℕ, zero, suc}
+use Prim.Native.Nat.{ℕ, zero, suc, _≤_}
 use native.Mathlib.Omega.{arith}
+use lib.Dec.{leb}
 use lib.IntN.{pos, negℤ, natAbs}
+use borrow.Author.Tests.{leb-true, leb-false}
 use Rattle.format.specs.Basics.{first, unless}
-use Rattle.format.specs.Record.{nothing}
 
 pub and-true : (a b : Bool) → a && b ≡ true → (a ≡ true) × (b ≡ true)
 and-true true b e = (refl, e)
@@ -21,6 +22,21 @@ or-false false b e = (refl, e)
 pub abs-neg : (n : ℕ) → natAbs (negℤ (pos n)) ≡ n
 abs-neg zero = refl
 abs-neg (suc n) = refl
+
+-- two tests behind the same first one
+pub and-same : (a b c : Bool) → (a ≡ true → b ≡ c) → a && b ≡ a && c
+and-same true b c h = h refl
+and-same false b c h = refl
+
+-- two orders that say the same
+pub leb-same : (a b c d : ℕ) → (a ≤ b → c ≤ d) → (c ≤ d → a ≤ b) → leb a b ≡ leb c d
+leb-same a b c d there back = go (leb a b) refl (leb c d) refl
+  where
+    go : (t : Bool) → leb a b ≡ t → (u : Bool) → leb c d ≡ u → leb a b ≡ leb c d
+    go true p true q = p ∙ sym q
+    go true p false q = absurd (omega (arith, there (leb-true a b p), leb-false c d q))
+    go false p true q = absurd (omega (arith, back (leb-true c d q), leb-false a b p))
+    go false p false q = p ∙ sym q
 
 pub first-zero : (a b : ℕ) → first a b ≡ 0 → (a ≡ 0) × (b ≡ 0)
 first-zero zero b e = (refl, e)

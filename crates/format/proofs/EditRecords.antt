@@ -58,7 +58,7 @@ cut-length : (f : File) (p : ℕ) (v : Data → ℕ → ℕ) → suc ((gone f p)
 cut-length f p v h = rw (length-append (change (less v) (gone f p) (before f p)) (drop (suc ((gone f p) .dataRecords)) (after f p)), length-alter (less v (countIndex ((gone f p) .kind))) (pred (aboveIn ((gone f p) .level) (before f p))) (before f p), length-drop (suc ((gone f p) .dataRecords)) (after f p)) (omega (arith, simp length-append at (ap length (take-append-drop (bodyPlace f p) (f .body)))))
 
 -- no more items than records
-items-few : (n : ℕ) (rs : List View) → items (headersAndItems n rs) ≤ length rs
+pub items-few : (n : ℕ) (rs : List View) → items (headersAndItems n rs) ≤ length rs
 items-few n [] = omega arith
 items-few zero (r ∷ rs) = omega (arith, items-few (dueAfter 0 r) rs, one-most (r .kind))
   where

@@ -13,6 +13,7 @@ pub mod SheetPhases
 pub mod JudgeWalks
 pub mod JudgeCounts
 pub mod JudgeAccepted
+pub mod JudgeStages
 pub mod JudgeMeaning
 pub mod JudgeSteps
 pub mod Above
@@ -27,6 +28,7 @@ pub mod Nested
 pub mod SheetCounts
 pub mod RunKept
 pub mod Run
+pub mod AcceptedSheet
 pub mod NormalColumns
 pub mod NormalRecords
 pub mod NormalTables

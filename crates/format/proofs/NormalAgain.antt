@@ -25,7 +25,8 @@ use Rattle.format.proofs.JudgeCounts.{Counted}
 use Rattle.format.proofs.NormalTables.{sheet-table, index-table, sheet-sound, index-sound}
 use Rattle.format.proofs.NormalReads.{numberAt-same, own-normal, normal-still}
 use Rattle.format.proofs.NormalSteps.{bare, Same, body-same, sheet-still, index-still}
-use Rattle.format.proofs.NormalFiles.{same-columns, length-body, both-none, part-long, normalBy, part-by, stage-by, length-by, part-passed, index-passed}
+use Rattle.format.proofs.JudgeStages.{part-given}
+use Rattle.format.proofs.NormalFiles.{same-columns, length-body, both-none, part-long, normalBy, part-by, stage-by, length-by, index-passed}
 
 -- ---- the body
 -- the walk from the same state
@@ -149,7 +150,7 @@ module _ (rs : List (List ℕ)) (n m : ℕ) (w : Wide rs) (e : judgeRecords rs �
 
   passed : (partFault Sheet.sheetMachine Sheet.due-a 1 rs ≡ none) × (judge (fileOf rs) ≡ accepted n m)
   unfolding judgeRecords Sheet.sheetFault
-  passed = part-passed (partFault Sheet.sheetMachine Sheet.due-a 1 rs) (judge (fileOf rs)) n m e
+  passed = part-given (partFault Sheet.sheetMachine Sheet.due-a 1 rs) (judge (fileOf rs)) _ e
 
   ok : Ok (fileOf rs)
   ok = accepted-ok (fileOf rs) n m (passed .1)

@@ -1,11 +1,10 @@
 -- The calls: a file, sheet or index, brought to normal form in a second buffer. Assumes nothing.
 use mathlib.Core.Path.{_≡_, refl, ap, sym, _∙_}
-use mathlib.Core.Bool.{true, _&&_}
+use mathlib.Core.Bool.{true}
 use mathlib.Core.List.{List, _++_}
 use Prim.Native.Nat.{ℕ, _*_, _/_, _%_, _≤_, _<_}
 use native.Mathlib.Omega.{arith}
-use lib.Dec.{eqb, leb, ltb}
-use borrow.Author.Tests.{eqb-true, leb-true, le-leb, lt-leb}
+use borrow.Author.Tests.{lt-ltb, eq-eqb, le-leb, lt-leb}
 use lib.ListN.{length, take, drop, length-append, length-drop}
 use lib.Seq.{take-at, drop-at}
 use Rattle.format.specs.Basics.{Answer, given, refused, Outcome, chunks, flat, stageOneOk}
@@ -13,9 +12,10 @@ use Rattle.format.specs.Layout.{Col}
 use Rattle.format.specs.Judge.{Counts, accepted, afterStageOne}
 use Rattle.format.specs.Normal.{normalTo}
 use Rattle.format.specs.JudgedColumns.{NormalForm}
-use Rattle.format.proofs.Basics.{and-true, true-and}
+use Rattle.format.proofs.Basics.{true-and}
 use Rattle.format.proofs.Lists.{Wide, wide-chunks, length-flat, chunks-flat, length-chunks}
-use Rattle.format.proofs.NormalFiles.{Done, stage-passed}
+use Rattle.format.proofs.JudgeStages.{Whole, stage-one, stage-given}
+use Rattle.format.proofs.NormalFiles.{Done}
 
 -- ---- refused as judging does; 15 where the second buffer is short; or written
 pub refused-as-judged : (v : Answer Counts) (number at : ℕ) → v ≡ refused number at → (used : ℕ) (ns : List (List ℕ)) (second : List ℕ) → normalTo v used ns second ≡ record { answer = refused number at; bytes = second }
@@ -28,36 +28,22 @@ pub written-long : (v : Answer Counts) (n m : ℕ) → v ≡ accepted n m → (u
 written-long v n m e used ns second l = rw (e, le-leb used (length second) l)
 
 -- ---- the second buffer
-record Whole (used : ℕ) (buffer : List ℕ) : Type 0 where
+module _ (used : ℕ) (buffer : List ℕ) (w : Whole used buffer) where
   multiple : 84 * (used / 84) ≡ used
+  multiple = omega (arith, w .even)
+
   wide : Wide (chunks (used / 84) buffer)
+  wide = wide-chunks (used / 84) buffer (omega (arith, w .inside))
+
   for-all : (other : List ℕ) → used ≤ length other → stageOneOk used other ≡ true
-
-whole : (used : ℕ) (buffer : List ℕ) → stageOneOk used buffer ≡ true → Whole used buffer
-whole used buffer e = record {
-  multiple = multiple;
-  wide = wide-chunks (used / 84) buffer (omega (arith, multiple, leb-true used (length buffer) (c .1)));
-  for-all = λ other l. true-and _ _ (true-and _ _ (true-and _ _ (c .0) (le-leb used (length other) l)) (b .1)) (a .1);
-}
-  where
-    a : (ltb 0 used && leb used (length buffer) && eqb (used % 84) 0 ≡ true) × (leb used (84 * 200000) ≡ true)
-    a = and-true _ _ e
-
-    b : (ltb 0 used && leb used (length buffer) ≡ true) × (eqb (used % 84) 0 ≡ true)
-    b = and-true _ _ (a .0)
-
-    c : (ltb 0 used ≡ true) × (leb used (length buffer) ≡ true)
-    c = and-true _ _ (b .0)
-
-    multiple : 84 * (used / 84) ≡ used
-    multiple = omega (arith, eqb-true (used % 84) 0 (b .1))
+  for-all other l = true-and _ _ (true-and _ _ (true-and _ _ (lt-ltb 0 used (w .some)) (le-leb used (length other) l)) (eq-eqb (used % 84) 0 (w .even))) (le-leb used (84 * 200000) (w .few))
 
 module _ (judged : List (List Col)) (ns : List (List ℕ)) (used : ℕ) (buffer second : List ℕ) (w : Whole used buffer) (l : used ≤ length second) (d : Done judged (chunks (used / 84) buffer) ns) where
   many : length ns ≡ used / 84
   many = d .many ∙ length-chunks (used / 84) buffer
 
   written : length (flat ns) ≡ used
-  written = length-flat ns (d .wide) ∙ omega (arith, many, w .multiple)
+  written = length-flat ns (d .wide) ∙ omega (arith, many, multiple used buffer w)
 
   long : length (flat ns ++ drop used second) ≡ length second
   long = length-append (flat ns) (drop used second) ∙ rw (written, length-drop used second) (omega arith)
@@ -84,13 +70,13 @@ module _ (J : List (List ℕ) → Answer Counts) (C : List (List ℕ) → List (
   ns = N (chunks (used / 84) buffer)
 
   q : (stageOneOk used buffer ≡ true) × (J (chunks (used / 84) buffer) ≡ accepted n m)
-  q = stage-passed (stageOneOk used buffer) (J (chunks (used / 84) buffer)) n m e
+  q = stage-given (stageOneOk used buffer) (J (chunks (used / 84) buffer)) _ e
 
   ok : Whole used buffer
-  ok = whole used buffer (q .0)
+  ok = stage-one used buffer (q .0)
 
   d : Done (C (chunks (used / 84) buffer)) (chunks (used / 84) buffer) ns
-  d = done (chunks (used / 84) buffer) n m (ok .wide) (q .1)
+  d = done (chunks (used / 84) buffer) n m (wide used buffer ok) (q .1)
 
   outcome : normalCall J N used buffer second ≡ record { answer = given used; bytes = flat ns ++ drop used second }
   outcome = written-long (judgeBy J used buffer) n m e used ns second l
@@ -99,10 +85,10 @@ module _ (J : List (List ℕ) → Answer Counts) (C : List (List ℕ) → List (
   call-normal = rw outcome (refl, normal-form (C (chunks (used / 84) buffer)) ns used buffer second ok l d)
 
   twice : (J ns ≡ accepted n m) × (N ns ≡ ns)
-  twice = again (chunks (used / 84) buffer) n m (ok .wide) (q .1)
+  twice = again (chunks (used / 84) buffer) n m (wide used buffer ok) (q .1)
 
   judged-again : judgeBy J used (flat ns ++ drop used second) ≡ accepted n m
-  judged-again = rw (ok .for-all (flat ns ++ drop used second) (omega (arith, long (C (chunks (used / 84) buffer)) ns used buffer second ok l d)), read (C (chunks (used / 84) buffer)) ns used buffer second ok l d) (twice .0)
+  judged-again = rw (for-all used buffer ok (flat ns ++ drop used second) (omega (arith, long (C (chunks (used / 84) buffer)) ns used buffer second ok l d)), read (C (chunks (used / 84) buffer)) ns used buffer second ok l d) (twice .0)
 
   -- its normal form is accepted with the same counts
   pub call-again : judgeBy J used ((normalCall J N used buffer second) .bytes) ≡ accepted n m

@@ -8,15 +8,16 @@ use lib.Dec.{eqb, ltb}
 use borrow.Author.Tests.{eqb-true, ltb-true, ltb-false}
 use lib.ListN.{length, take, drop, getD, length-append, length-drop, List·getD-append}
 use lib.Seq.{getD-append-add, getD-drop, length-take-le, take-all}
-use Rattle.format.specs.Basics.{Answer, Fault, none, fault, orElse, toFault, unless}
+use Rattle.format.specs.Basics.{Fault, none, orElse, toFault, unless}
 use Rattle.format.specs.Layout.{Col, columnFault}
 use Rattle.format.specs.Record.{Data, nothing, view}
 use Rattle.format.specs.Part.{Machine, partFrom, partFault}
 use Rattle.format.specs.Sheet as Sheet
 use Rattle.format.specs.Index as Index
-use Rattle.format.specs.Judge.{Counts, accepted, afterStageOne, afterPart, dueAfter, heldAfter, openAfter, judge, judgeRecords, judgeIndexRecords, fileOf}
+use Rattle.format.specs.Judge.{accepted, dueAfter, heldAfter, openAfter, judge, judgeRecords, judgeIndexRecords, fileOf}
 use Rattle.format.specs.Normal.{normalRecord, bodyColumns, normalBody, normalPart, normalStage, normalSheetRecords, normalIndexRecords}
 use Rattle.format.specs.JudgedColumns.{partJudged, columnsAt, bodyJudged, sheetJudged, indexJudged, Normalised}
+use Rattle.format.proofs.JudgeStages.{part-given}
 use Rattle.format.proofs.Basics.{unless-zero}
 use Rattle.format.proofs.Lists.{Wide, wide-take, wide-drop, wide-append}
 use Rattle.format.proofs.JudgeWalks.{Passes, orElse-none, toFault-none}
@@ -92,14 +93,6 @@ module _ (M : Machine) (columns : M .Phase → List Col) (table : (p : M .Phase)
       at-test false e (suc k) h ih = ih ((both-none (M .wrong p r) i (partFault M (M .step p r) (suc i) rs) e) .1) k (omega arith)
 
 -- ---- a file that passes: its records in normal form
-pub part-passed : (f : Fault) (a : Answer Counts) (n m : ℕ) → afterPart f a ≡ accepted n m → (f ≡ none) × (a ≡ accepted n m)
-part-passed none a n m e = (refl, e)
-part-passed (fault i j) a n m e = let z : _≡_ {A = ℕ} 0 1 = cc in absurd (omega arith)
-
-pub stage-passed : (t : Bool) (a : Answer Counts) (n m : ℕ) → afterStageOne t a ≡ accepted n m → (t ≡ true) × (a ≡ accepted n m)
-stage-passed true a n m e = (refl, e)
-stage-passed false a n m e = let z : _≡_ {A = ℕ} 0 1 = cc in absurd (omega arith)
-
 pub record Done (judged : List (List Col)) (rs ns : List (List ℕ)) : Type 0 where
   pub many : length ns ≡ length rs
   pub wide : Wide ns
@@ -145,7 +138,7 @@ sheet-done rs n m w e = rw (part-by Sheet.due-a (take L rs)) (record {
     front = normalBy Sheet.sheetMachine Sheet.phaseColumns Sheet.due-a (take L rs)
 
     q : (partFault Sheet.sheetMachine Sheet.due-a 1 rs ≡ none) × (judge (fileOf rs) ≡ accepted n m)
-    q = part-passed (partFault Sheet.sheetMachine Sheet.due-a 1 rs) (judge (fileOf rs)) n m e
+    q = part-given (partFault Sheet.sheetMachine Sheet.due-a 1 rs) (judge (fileOf rs)) _ e
 
     few : L ≤ length rs
     few = part-long Sheet.sheetMachine Sheet.due-a rs

@@ -1,14 +1,13 @@
 -- DEMAND 3 over bytes. Assumes nothing.
 use mathlib.Core.Path.{_≡_, refl, ap, ap₂, sym, _∙_}
-use mathlib.Core.Bool.{Bool, true, false, _&&_}
+use mathlib.Core.Bool.{Bool, true}
 use mathlib.Core.List.{List, [], _∷_, _++_, map}
 use Prim.Native.Nat.{ℕ, zero, suc, _+_, _*_, _/_, _%_, _≤_, _<_}
 use native.Mathlib.Omega.{arith}
-use lib.Dec.{leb, ltb, eqb}
-use borrow.Author.Tests.{leb-true, le-leb, eqb-true, eq-eqb, lt-ltb}
+use borrow.Author.Tests.{le-leb, eq-eqb, lt-ltb}
 use lib.ListN.{length, length-append, length-map, length-drop, drop, getD}
 use lib.Seq.{drop-at}
-use Rattle.format.specs.Basics.{Fault, none, fault, Answer, given, refused, chunks, flat, stageOneOk}
+use Rattle.format.specs.Basics.{Fault, none, Answer, given, refused, chunks, flat, stageOneOk}
 use Rattle.format.specs.Run.{Buffer, Step, call, bufferOf, listOf, insertions, repliesBuffer, repliesPlain, runBuffer, runPlain, sum-of, removals, Runs, Sound, Keeps, KeepsBytes, EachKeeps, elementCount, sheetOf, inFourColumns, moved}
 use Rattle.format.specs.Above.{up, WayAnswered}
 use Rattle.format.specs.Judge.{File, accepted, fileOf, judge, judgeRecords, judgeSheet, afterPart, afterStageOne}
@@ -16,8 +15,9 @@ use Rattle.format.specs.Record.{view}
 use Rattle.format.specs.Edit.{RecordList, blockOf, remove11, removed, inserted, insertFault}
 use Rattle.format.specs.Calls.{Edit, conclude, insert, plain, remove}
 use Rattle.format.specs.Sheet.{statedElements, partLength, sheetFault}
-use Rattle.format.proofs.Basics.{and-true, true-and}
+use Rattle.format.proofs.Basics.{true-and}
 use Rattle.format.proofs.JudgeAccepted.{accepted-ok, ok-accepted}
+use Rattle.format.proofs.JudgeStages.{Whole, sheet-stages, record-stages}
 use Rattle.format.proofs.EditInsert.{fits, fine-none, empty-refused}
 use Rattle.format.proofs.EditRemove.{cuts, cut-ok}
 use Rattle.format.proofs.Lists.{Wide, block-wide, wide-chunks, chunks-flat, flat-chunks, length-flat, length-chunks}
@@ -71,37 +71,19 @@ module _ (L : Lawful) where
     pub held : Held (listOf b)
 
   pub accepted-opened : (b : Buffer) (n m : ℕ) → judgeSheet (b .used) (b .bytes) ≡ accepted n m → Opened b
-  unfolding judgeSheet judgeRecords
-  accepted-opened b n m e = stage (stageOneOk (b .used) (b .bytes)) refl (sheetFault ((listOf b) .records)) refl e
+  accepted-opened b n m e = record {
+    same = buffer-path _ _ (ap (λ (j : ℕ). flat (chunks (b .used / 84) (b .bytes)) ++ drop j (b .bytes)) all ∙ flat-chunks (b .used / 84) (b .bytes) (omega (arith, w .inside))) (rw (length-chunks (b .used / 84) (b .bytes)) (omega (arith, all)));
+    held = record { wide = wide-chunks (b .used / 84) (b .bytes) (omega (arith, w .inside)); few = rw (length-chunks (b .used / 84) (b .bytes)) (omega (arith, w .few)); sheet = rw (r .0); ok = accepted-ok _ n m (r .1) };
+  }
     where
-      stage : (t : Bool) → stageOneOk (b .used) (b .bytes) ≡ t → (u : Fault) → sheetFault ((listOf b) .records) ≡ u → afterStageOne t (afterPart u (judge (fileOf ((listOf b) .records)))) ≡ accepted n m → Opened b
-      stage false p u q e = let z : _≡_ {A = ℕ} 0 1 = cc in absurd (omega arith)
-      stage true p (fault i j) q e = let z : _≡_ {A = ℕ} 0 1 = cc in absurd (omega arith)
-      stage true p none q e = record {
-        same = buffer-path _ _ (ap (λ (j : ℕ). flat (chunks (b .used / 84) (b .bytes)) ++ drop j (b .bytes)) whole ∙ flat-chunks (b .used / 84) (b .bytes) (omega (arith, short))) (rw (length-chunks (b .used / 84) (b .bytes)) (omega (arith, whole)));
-        held = record { wide = wide-chunks (b .used / 84) (b .bytes) (omega (arith, short)); few = rw (length-chunks (b .used / 84) (b .bytes)) (omega (arith, least)); sheet = rw q; ok = accepted-ok _ n m e };
-      }
-        where
-          x : (ltb 0 (b .used) && leb (b .used) (length (b .bytes)) && eqb (b .used % 84) 0 ≡ true) × (leb (b .used) (84 * 200000) ≡ true)
-          x = and-true _ _ p
+      w : Whole (b .used) (b .bytes)
+      w = (sheet-stages (b .used) (b .bytes) _ e) .0
 
-          y : (ltb 0 (b .used) && leb (b .used) (length (b .bytes)) ≡ true) × (eqb (b .used % 84) 0 ≡ true)
-          y = and-true _ _ (x .0)
+      r : (sheetFault ((listOf b) .records) ≡ none) × (judge (fileOf ((listOf b) .records)) ≡ accepted n m)
+      r = record-stages ((listOf b) .records) _ ((sheet-stages (b .used) (b .bytes) _ e) .1)
 
-          z : (ltb 0 (b .used) ≡ true) × (leb (b .used) (length (b .bytes)) ≡ true)
-          z = and-true _ _ (y .0)
-
-          even : b .used % 84 ≡ 0
-          even = eqb-true _ _ (y .1)
-
-          short : b .used ≤ length (b .bytes)
-          short = leb-true _ _ (z .1)
-
-          least : b .used ≤ (84 * 200000)
-          least = leb-true _ _ (x .1)
-
-          whole : b .used ≡ 84 * (b .used / 84)
-          whole = omega (arith, even)
+      all : b .used ≡ 84 * (b .used / 84)
+      all = omega (arith, w .even)
 
   -- the count of elements
   count-put : (g : RecordList) (p : ℕ) (bs : List ℕ) (blk : List (List ℕ)) → Held g → (n : ℕ) → insertFault (fileOf (g .records)) p (g .tail) (map view blk) 200000 ≡ n → (fileOf ((conclude n g (inserted g p blk)) .list .records)) .statedElements + removals (insert p bs) ((conclude n g (inserted g p blk)) .reply) ≡ (fileOf (g .records)) .statedElements + insertions (insert p bs) ((conclude n g (inserted g p blk)) .reply)

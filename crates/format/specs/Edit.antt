@@ -52,9 +52,11 @@ fault13 opened itemView after = unless (leb (itemView .level) (suc opened) && no
 
 -- 14: "header total would pass 99,999, its grid and net count 9, or the file 200,000 records": by the header above the block, the count
 -- that the block belongs to, the records there would be, and the limit of these
+abbrev pub hasRoom : (total kind count records limit : ℕ) → Bool
+hasRoom total kind count records limit = leb (total + 1) 99999 && (not (eqb kind 9) || leb (count + 1) 9) && leb records limit
+
 abbrev pub fault14 : (above : View) → (kind records limit : ℕ) → ℕ
-fault14 above kind records limit =
-    unless (leb (above .total + 1) 99999 && (not (eqb kind 9) || leb (above .count kind + 1) 9) && leb records limit) 14
+fault14 above kind records limit = unless (hasRoom (above .total) kind (above .count kind) records limit) 14
 
 -- 15: "a buffer is too short for the result"; behind the records stand the bytes of `tail`
 abbrev pub insert15 : (tail : List ℕ) → List View → ℕ

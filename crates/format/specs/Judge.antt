@@ -1,4 +1,5 @@
 -- Judging, in three stages: "the first failing stage answers". Assumes nothing.
+use mathlib.Core.Path.{_≡_}
 use mathlib.Core.Bool.{Bool, true, false, cond, not, _&&_, _||_}
 use mathlib.Core.List.{List, [], _∷_, map}
 use Prim.Native.Nat.{ℕ, zero, suc, pred, _+_, _/_}
@@ -186,6 +187,15 @@ afterStageOne false answer = refused 1 0
 -- a sheet file, and an index file, in the first `used` bytes of a buffer
 unfoldable pub judgeSheet : (used : ℕ) → List ℕ → Answer Counts
 judgeSheet used buffer = afterStageOne (stageOneOk used buffer) (judgeRecords (chunks (used / 84) buffer))
+
+-- the sheet in the first `used` bytes of a buffer
+abbrev pub sheetIn : (used : ℕ) → List ℕ → File
+sheetIn used buffer = fileOf (chunks (used / 84) buffer)
+
+-- one that judging accepts
+pub record AcceptedSheet (used : ℕ) (buffer : List ℕ) : Type 0 where
+  pub counts : Counts
+  pub judged : judgeSheet used buffer ≡ given counts
 
 unfoldable pub judgeIndex : (used : ℕ) → List ℕ → Answer Counts
 judgeIndex used buffer = afterStageOne (stageOneOk used buffer) (judgeIndexRecords (chunks (used / 84) buffer))

@@ -1,5 +1,5 @@
 -- `stated_count` answers what the header states of the kind. Assumes nothing.
-use Rattle.edit.proofs.Columns.{count-inside, count-narrow, count-read, count-small}
+use Rattle.edit.proofs.Columns.{count-read, count-small}
 use borrow.Author.Needs.{needs}
 use Rattle.edit.proofs.counts.stated_count.Statement.{statement}
 use Rattle.edit.proofs.counts.stated_count.Tie as tie
@@ -11,7 +11,7 @@ count-width-requires : tie.Need-count-width-requires
 count-width-requires c κs = search needs
 
 number-at-requires : tie.Need-number-at-requires
-number-at-requires c κs = search (needs, count-inside, count-narrow)
+number-at-requires c κs = search needs
 
 returns : tie.Need-returns
 returns c = search (count-read, count-small)

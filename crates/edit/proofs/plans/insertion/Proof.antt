@@ -10,8 +10,11 @@ judge-sheet-requires c κs = search needs
 enum-told : tie.Need-enum-told
 enum-told c = search needs
 
+site-at-requires : tie.Need-site-at-requires
+site-at-requires c κs = search accepts
+
 insertion-in-sheet-requires : tie.Need-insertion-in-sheet-requires
-insertion-in-sheet-requires c κs = search accepts
+insertion-in-sheet-requires c κs = search needs
 
 enum-known-judged : tie.Need-enum-known-judged
 enum-known-judged c = search needs
@@ -28,6 +31,7 @@ insertion-spec =
     (tie.spec
     judge-sheet-requires
     enum-told
+    site-at-requires
     insertion-in-sheet-requires
     enum-known-judged
     returns

@@ -10,8 +10,11 @@ judge-sheet-requires c κs = search needs
 enum-told : tie.Need-enum-told
 enum-told c = search needs
 
+site-at-requires : tie.Need-site-at-requires
+site-at-requires c κs = search accepts
+
 removal-in-sheet-requires : tie.Need-removal-in-sheet-requires
-removal-in-sheet-requires c κs = search accepts
+removal-in-sheet-requires c κs = search needs
 
 enum-known-judged : tie.Need-enum-known-judged
 enum-known-judged c = search needs
@@ -28,6 +31,7 @@ removal-spec =
     (tie.spec
     judge-sheet-requires
     enum-told
+    site-at-requires
     removal-in-sheet-requires
     enum-known-judged
     returns

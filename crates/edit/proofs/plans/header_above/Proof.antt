@@ -1,0 +1,46 @@
+-- `header_above` answers what the header states. Assumes nothing.
+use Rattle.edit.proofs.Sites.{header-wide, above-read}
+use borrow.Author.Needs.{needs}
+use Rattle.edit.proofs.plans.header_above.Statement.{statement}
+use Rattle.edit.proofs.plans.header_above.Tie as tie
+
+sub-above : tie.Need-sub-above
+sub-above c = search needs
+
+mul-header : tie.Need-mul-header
+mul-header c = search needs
+
+array-read-header : tie.Need-array-read-header
+array-read-header c = search needs
+
+add-header : tie.Need-add-header
+add-header c = search needs
+
+sub-header : tie.Need-sub-header
+sub-header c = search needs
+
+record-at-requires : tie.Need-record-at-requires
+record-at-requires c κs = search needs
+
+stated-total-requires : tie.Need-stated-total-requires
+stated-total-requires c κs = search header-wide
+
+stated-count-requires : tie.Need-stated-count-requires
+stated-count-requires c κs = search (needs, header-wide)
+
+returns : tie.Need-returns
+returns c = search above-read
+
+pub header-above-spec : {M : Type 1} → statement M
+header-above-spec =
+    tie.close
+    (tie.spec
+    sub-above
+    mul-header
+    array-read-header
+    add-header
+    sub-header
+    record-at-requires
+    stated-total-requires
+    stated-count-requires
+    returns)
