@@ -18,7 +18,8 @@ use Rattle.format.proofs.Lists.{Wide, block-wide, wide-append, wide-take, wide-
 use Rattle.format.proofs.EditMoves.{as-records}
 use Rattle.edit.specs.declared.counts.Change.{Change}
 use Rattle.edit.specs.Counts.{withCounts}
-use Rattle.edit.specs.Plans.{storedStep, putIn}
+use Rattle.edit.specs.Moves.{putIn}
+use Rattle.edit.specs.Plans.{storedStep}
 use Rattle.edit.proofs.Rewrites.{getD-front, as-records-changed, put-moved}
 use Rattle.format.proofs.AcceptedSheet.{held, length-records, whole, bytes-are, call-is, length-body, sheet-two, sheet-inside}
 use Rattle.edit.proofs.AtPlace.{above-low, above-high}

@@ -20,7 +20,8 @@ use Rattle.edit.specs.declared.counts.Change.{Change}
 use Rattle.edit.specs.declared.plans.Plan.{Plan}
 use Rattle.edit.specs.declared.plans.Plan.the-variants.{Refuse, Store}
 use Rattle.edit.specs.Counts.{withCounts}
-use Rattle.edit.specs.Plans.{storedStep, putIn, CanPut, InsertionReady, InsertionPlanned, takenOut, CanTake, RemovalReady, RemovalPlanned}
+use Rattle.edit.specs.Moves.{putIn, takenOut}
+use Rattle.edit.specs.Plans.{storedStep, CanPut, InsertionReady, InsertionPlanned, CanTake, RemovalReady, RemovalPlanned}
 use Rattle.format.specs.Answers.{stepFor}
 use Rattle.edit.proofs.Refused.{not-accepted}
 

@@ -17,7 +17,8 @@ use Rattle.format.proofs.Lists.{Wide, wide-append, wide-take, wide-drop, length
 use Rattle.format.proofs.EditMoves.{as-records}
 use Rattle.edit.specs.declared.counts.Change.{Change}
 use Rattle.edit.specs.Counts.{withCounts}
-use Rattle.edit.specs.Plans.{storedStep, takenOut}
+use Rattle.edit.specs.Moves.{takenOut}
+use Rattle.edit.specs.Plans.{storedStep}
 use Rattle.edit.proofs.Rewrites.{getD-front, as-records-changed, take-moved}
 use Rattle.format.proofs.AcceptedSheet.{held, length-records, whole, bytes-are, call-is, length-body, sheet-two, sheet-inside}
 use Rattle.edit.proofs.AtPlace.{above-low, above-high}

@@ -17,7 +17,7 @@ use Rattle.format.proofs.Lists.{Wide, wide-alter, length-alterAt, length-flat}
 use Rattle.format.proofs.EditMoves.{as-bytes}
 use Rattle.edit.specs.declared.counts.Change.{Change}
 use Rattle.edit.specs.Counts.{countStart, countWidth, put, withCounts}
-use Rattle.edit.specs.Plans.{putIn, takenOut}
+use Rattle.edit.specs.Moves.{putIn, takenOut}
 use Rattle.edit.proofs.Columns.{count-place}
 
 -- ---- a splice in the front of some bytes, and behind it

@@ -1,11 +1,10 @@
 -- What a plan starts from, what it says, and what it owes to the call that stores it. Private functions alone cite these. Assumes nothing.
 use mathlib.Core.Path.{_≡_}
 use mathlib.Core.Bool.{Bool, _&&_}
-use mathlib.Core.List.{List, [], _++_, map}
+use mathlib.Core.List.{List, [], map}
 use Prim.Native.Nat.{ℕ, suc, _+_, _-_, _/_, _≤_, _<_}
 use lib.Dec.{leb, ltb, eqb}
-use lib.ListN.{length, take, drop, getD, replicate}
-use lib.Seq.{slice}
+use lib.ListN.{length, getD}
 use Rattle.format.specs.Basics.{given, refused, first, unless, chunks}
 use Rattle.format.specs.Layout.{numberAt, header}
 use Rattle.format.specs.Record.{view, countIndex, countIn}
@@ -20,6 +19,7 @@ use Rattle.edit.specs.declared.plans.Plan.the-variants.{Refuse, Store}
 use Rattle.edit.specs.declared.plans.Site.{Site}
 use Rattle.edit.specs.declared.plans.Above.{Above}
 use Rattle.edit.specs.Counts.{Fitting, withCounts}
+use Rattle.edit.specs.Moves.{putIn, takenOut}
 
 -- ---- the numbers that a plan starts from
 
@@ -81,10 +81,6 @@ storedStep bytes used = record { reply = given used; buffer = record { bytes = b
 
 -- ---- an insertion
 
--- the block goes in, and what follows within the used length moves up
-abbrev pub putIn : (bytes : List ℕ) → (used start : ℕ) → (block : List ℕ) → List ℕ
-putIn bytes used start block = take start bytes ++ (block ++ (slice start used bytes ++ drop (used + length block) bytes))
-
 -- it can be stored
 pub record CanPut (bytes : List ℕ) (used : ℕ) (block : List ℕ) (c : Change) : Type 0 where
   pub inside : c .start ≤ used
@@ -114,10 +110,6 @@ InsertionPlanned bytes used place block (Refuse number at) = call (insert place 
 InsertionPlanned bytes used place block (Store c) = InsertionReady bytes used place block c
 
 -- ---- a removal
-
--- so many bytes go out, what follows within the used length moves down, and the freed end is filled with spaces
-abbrev pub takenOut : (bytes : List ℕ) → (used start n : ℕ) → List ℕ
-takenOut bytes used start n = take start bytes ++ (slice (start + n) used bytes ++ (replicate n 32 ++ drop used bytes))
 
 -- it can be stored
 pub record CanTake (bytes : List ℕ) (used : ℕ) (c : Change) : Type 0 where

@@ -1,14 +1,13 @@
 // Moves of bytes within a lent buffer.
 ghost use mathlib.Core.Path.{_≡_};
-ghost use mathlib.Core.List.{_++_};
-ghost use Prim.Native.Nat.{_+_, _-_, _≤_};
-ghost use lib.ListN.{length, take, drop, replicate};
-ghost use lib.Seq.{slice};
+ghost use Prim.Native.Nat.{_+_, _≤_};
+ghost use lib.ListN.{length};
+ghost use Rattle.edit.specs.Moves.{movedUp, movedDown, filled, copiedIn, putIn, takenOut};
 
 // Moves the bytes from `at` to `used` up by n places. The n bytes from `at` on stay as they were.
 fn open_gap(buffer: &mut [u8], used: usize, at: usize, n: usize)
     requires { ⌜ (at ≤ used) × (used + n ≤ length (now buffer)) ⌝ }
-    ensures { λ _. ⌜ now (buffer .exit) ≡ take (at + n) (now (buffer .entry)) ++ (slice at used (now (buffer .entry)) ++ drop (used + n) (now (buffer .entry))) ⌝ }
+    ensures { λ _. ⌜ now (buffer .exit) ≡ movedUp (now (buffer .entry)) used at n ⌝ }
 {
     let mut i = used;
     while at < i {
@@ -20,7 +19,7 @@ fn open_gap(buffer: &mut [u8], used: usize, at: usize, n: usize)
 // Moves the bytes from `at` + n to `used` down by n places. The n bytes before `used` stay as they were.
 fn shift_down(buffer: &mut [u8], used: usize, at: usize, n: usize)
     requires { ⌜ (at + n ≤ used) × (used ≤ length (now buffer)) ⌝ }
-    ensures { λ _. ⌜ now (buffer .exit) ≡ take at (now (buffer .entry)) ++ (slice (at + n) used (now (buffer .entry)) ++ drop (used - n) (now (buffer .entry))) ⌝ }
+    ensures { λ _. ⌜ now (buffer .exit) ≡ movedDown (now (buffer .entry)) used at n ⌝ }
 {
     let mut i = at + n;
     while i < used {
@@ -32,7 +31,7 @@ fn shift_down(buffer: &mut [u8], used: usize, at: usize, n: usize)
 // Fills a part of the buffer with one byte.
 fn fill(buffer: &mut [u8], from: usize, to: usize, byte: u8)
     requires { ⌜ (from ≤ to) × (to ≤ length (now buffer)) ⌝ }
-    ensures { λ _. ⌜ now (buffer .exit) ≡ take from (now (buffer .entry)) ++ (replicate (to - from) byte ++ drop to (now (buffer .entry))) ⌝ }
+    ensures { λ _. ⌜ now (buffer .exit) ≡ filled (now (buffer .entry)) from to byte ⌝ }
 {
     let mut i = from;
     while i < to {
@@ -44,7 +43,7 @@ fn fill(buffer: &mut [u8], from: usize, to: usize, byte: u8)
 // Copies all of a block into the buffer, from `at` on.
 fn copy_in(buffer: &mut [u8], at: usize, block: &[u8])
     requires { ⌜ at + length (now block) ≤ length (now buffer) ⌝ }
-    ensures { λ _. ⌜ now (buffer .exit) ≡ take at (now (buffer .entry)) ++ (now (block .entry) ++ drop (at + length (now (block .entry))) (now (buffer .entry))) ⌝ }
+    ensures { λ _. ⌜ now (buffer .exit) ≡ copiedIn (now (buffer .entry)) at (now (block .entry)) ⌝ }
 {
     let mut j = 0;
     while j < block.len() {
@@ -56,7 +55,7 @@ fn copy_in(buffer: &mut [u8], at: usize, block: &[u8])
 // Takes the n bytes from `at` on out: what follows them within `used` moves down, and the freed end is filled with spaces.
 pub(crate) fn take_out(buffer: &mut [u8], used: usize, at: usize, n: usize)
     requires { ⌜ (at + n ≤ used) × (used ≤ length (now buffer)) ⌝ }
-    ensures { λ _. ⌜ now (buffer .exit) ≡ take at (now (buffer .entry)) ++ (slice (at + n) used (now (buffer .entry)) ++ (replicate n 32 ++ drop used (now (buffer .entry)))) ⌝ }
+    ensures { λ _. ⌜ now (buffer .exit) ≡ takenOut (now (buffer .entry)) used at n ⌝ }
 {
     shift_down(buffer, used, at, n);
     fill(buffer, used - n, used, b' ');
@@ -65,7 +64,7 @@ pub(crate) fn take_out(buffer: &mut [u8], used: usize, at: usize, n: usize)
 // Puts a block in at `at`: what follows within `used` moves up.
 pub(crate) fn put_in(buffer: &mut [u8], used: usize, at: usize, block: &[u8])
     requires { ⌜ (at ≤ used) × (used + length (now block) ≤ length (now buffer)) ⌝ }
-    ensures { λ _. ⌜ now (buffer .exit) ≡ take at (now (buffer .entry)) ++ (now (block .entry) ++ (slice at used (now (buffer .entry)) ++ drop (used + length (now (block .entry))) (now (buffer .entry)))) ⌝ }
+    ensures { λ _. ⌜ now (buffer .exit) ≡ putIn (now (buffer .entry)) used at (now (block .entry)) ⌝ }
 {
     open_gap(buffer, used, at, block.len());
     copy_in(buffer, at, block);
