@@ -1,5 +1,6 @@
 -- The columns of a record against tables of their starts, widths, forms, least and greatest numbers, as the code asks them. Private functions
 -- cite it; that it ends in the record's fault is shown in proofs/Tables. Assumes nothing.
+use mathlib.Core.Path.{_≡_}
 use mathlib.Core.Bool.{Bool, true, cond, _&&_, _||_}
 use mathlib.Core.List.{List, [], _∷_}
 use Prim.Native.Nat.{ℕ}
@@ -29,6 +30,11 @@ betweenAs form l start width low high = cond (eqb form 0) (between low high (int
 -- one column: 5 before 6
 unfoldable pub faultAs : List ℕ → (start width form : ℕ) → (low high : ℤ) → ℕ
 faultAs l start width form low high = first (unless (formedAs form l start width) 5) (unless (betweenAs form l start width low high) 6)
+
+-- tables of one length
+abbrev pub Alike : (starts widths forms : List ℕ) → (lows highs : List ℤ) → Type 0
+Alike starts widths forms lows highs =
+    (length widths ≡ length starts) × (length forms ≡ length starts) × (length lows ≡ length starts) × (length highs ≡ length starts)
 
 -- column i of the tables
 unfoldable pub faultOf : List ℕ → (i : ℕ) → (starts widths forms : List ℕ) → (lows highs : List ℤ) → ℕ

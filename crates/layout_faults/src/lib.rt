@@ -12,7 +12,7 @@ ghost use Rattle.format.specs.Column.{integer};
 ghost use Rattle.format.specs.Layout.{indexA, indexC, sheetA, sheetB, sheetD, sheetE, sheetF, header, element, gridHeader, netHeader, dataNote};
 ghost use Rattle.columns.specs.InRecord.{columnAt};
 ghost use Rattle.layout_faults.specs.Faults.{faultIn};
-ghost use Rattle.layout_faults.specs.Tables.{formedAs, faultAs, faultOf, tableFault, listedAt};
+ghost use Rattle.layout_faults.specs.Tables.{formedAs, faultAs, Alike, faultOf, tableFault, listedAt};
 use format::Column;
 use layouts::DataNote;
 use layouts::Element;
@@ -79,7 +79,7 @@ fn column_fault(
     lows: &[i64],
     highs: &[i64],
 ) -> u8
-    requires { ⌜ (i < length (now starts)) × (length (now widths) ≡ length (now starts)) × (length (now forms) ≡ length (now starts)) × (length (now lows) ≡ length (now starts)) × (length (now highs) ≡ length (now starts)) ⌝ }
+    requires { ⌜ (i < length (now starts)) × Alike (now starts) (now widths) (now forms) (now lows) (now highs) ⌝ }
     ensures { λ r. ⌜ r ≡ faultOf (now («record» .entry)) i (now (starts .entry)) (now (widths .entry)) (now (forms .entry)) (now (lows .entry)) (now (highs .entry)) ⌝ }
 {
     fault_by_form(record, starts[i], widths[i], forms[i], lows[i], highs[i])
@@ -94,7 +94,7 @@ fn table_fault(
     lows: &[i64],
     highs: &[i64],
 ) -> u8
-    requires { ⌜ (length (now widths) ≡ length (now starts)) × (length (now forms) ≡ length (now starts)) × (length (now lows) ≡ length (now starts)) × (length (now highs) ≡ length (now starts)) ⌝ }
+    requires { ⌜ Alike (now starts) (now widths) (now forms) (now lows) (now highs) ⌝ }
     ensures { λ r. ⌜ r ≡ tableFault (now («record» .entry)) (now (starts .entry)) (now (widths .entry)) (now (forms .entry)) (now (lows .entry)) (now (highs .entry)) ⌝ }
 {
     if record.len() != RECORD {
