@@ -17,11 +17,10 @@ use Rattle.format.specs.Edit.{absent, aboveIn, lastHeader, dueBehind, openBehin
 use Rattle.format.proofs.Above.{Split, find-in, lastHeader-split}
 use Rattle.format.proofs.AcceptedSheet.{held, length-records, length-body, passed, behind}
 use Rattle.format.proofs.EditInsert.{above-is}
-use Rattle.format.proofs.Lists.{wide-get}
+use Rattle.format.proofs.Lists.{wide-get, getD-views}
 use Rattle.format.proofs.JudgeWalks.{Passes, Good, good, sort}
 use Rattle.records.specs.Entry.{viewFault, entryOf}
 use Rattle.records.proofs.Laws.{entry-fault, entry-level, header-total, header-count}
-use Rattle.places.proofs.Reading.{getD-views}
 
 module _ {used : ℕ} {l : List ℕ} (a : AcceptedSheet used l) (place : ℕ) where
   abbrev rs : List (List ℕ)

@@ -3,11 +3,12 @@
 use mathlib.Core.Path.{_≡_, sym, _∙_}
 use mathlib.Core.List.{List, [], _∷_, _++_, append-assoc, append-nil}
 use Prim.Native.Nat.{ℕ, suc, _+_, _-_, _<_, _≤_}
-use native.Mathlib.Nat.{add-assoc, sub-self, add-zero}
+use native.Mathlib.Nat.{sub-self}
 use native.Mathlib.Omega.{arith}
 use native.Mathlib.Numerals.{add-one}
 use lib.ListN.{take-append-drop, length-replicate, length, take, drop, getD, set, replicate, length-append, List·getD-append, replicate-append-replicate}
-use lib.Seq.{take-append-le, take-take, take-at, drop-at, drop-append-add, drop-drop, length-paste-head, length-slice, slice-empty, drop-cons, slice, slice-cons, take-suc, set-at, getD-take, getD-drop, getD-append-add, length-take-le, drop-append-le}
+use lib.Seq.{take-append-le, take-take, take-at, drop-at, drop-append-add, drop-drop, length-slice, slice-empty, slice, slice-cons, take-suc, set-at, getD-take, getD-drop, getD-append-add, length-take-le, drop-append-le}
+use Rattle.format.proofs.Lists.{one-more}
 
 -- moving up: the byte at i goes to i + n
 pub up : (l r b : List ℕ) (i n t : ℕ) → i < t → t + n ≤ length l → b ≡ take (suc (i + n)) l ++ (slice (suc i) t l ++ r) → set b (i + n) (getD b i 0) ≡ take (i + n) l ++ (slice i t l ++ r)
@@ -18,10 +19,6 @@ up l r b i n t it tn h =
     let lt : i + n < length l = omega arith in
     let whole : b ≡ take (i + n) l ++ (getD l (i + n) 0 ∷ (slice (suc i) t l ++ r)) = h ∙ rw (take-suc l (i + n) 0, append-assoc) in
     rw (byte, whole) (set-at (take (i + n) l) _ _ (getD l i 0) (i + n) front ∙ rw (slice-cons i t l 0 it (omega arith)))
-
--- a store of one more byte after a front p of k bytes
-pub one-more : (l p b : List ℕ) (k v : ℕ) → length p ≡ k → k < length l → b ≡ p ++ drop k l → set b k v ≡ (p ++ (v ∷ [])) ++ drop (k + 1) l
-one-more l p b k v hp hk h = rw (h, add-one, drop-cons l k 0, append-assoc) (set-at p _ _ v k hp)
 
 -- a byte at or after the front is the old one
 pub behind : (l p b : List ℕ) (k n : ℕ) → length p ≡ k → b ≡ p ++ drop k l → getD b (k + n) 0 ≡ getD l (k + n) 0
@@ -37,12 +34,9 @@ slice-snoc f t l ft tl =
 pub fill-snoc : (n v : ℕ) → replicate (n + 1) v ≡ replicate n v ++ (v ∷ [])
 fill-snoc n v = sym (replicate-append-replicate n 1 v)
 
--- where `open_gap`, `copy_in`, `fill` and `shift_down` start
+-- where `open_gap`, `fill` and `shift_down` start
 pub open-start : (l : List ℕ) (used n : ℕ) → l ≡ take (used + n) l ++ (slice used used l ++ drop (used + n) l)
 open-start l used n = rw slice-empty (sym (take-append-drop (used + n) l))
-
-pub copy-start : (l s : List ℕ) (at : ℕ) → l ≡ (take at l ++ take 0 s) ++ drop (at + 0) l
-copy-start l s at = rw (append-nil (take at l), add-zero) (sym (take-append-drop at l))
 
 pub fill-start : (l : List ℕ) (from v : ℕ) → l ≡ (take from l ++ replicate (from - from) v) ++ drop from l
 fill-start l from v = rw (sub-self, append-nil (take from l)) (sym (take-append-drop from l))
@@ -58,12 +52,6 @@ open-step l r b used n i ip iu ul h =
     let e : i ≡ suc (i - 1) = omega arith in
     let f : i + n ≡ suc (i - 1 + n) = omega arith in
     up l r b (i - 1) n used (omega arith) ul (h ∙ rw (← f, ← e))
-
--- one turn of `copy_in`
-pub copy-step : (l s b : List ℕ) (at j : ℕ) → at + length s ≤ length l → j < length s → b ≡ (take at l ++ take j s) ++ drop (at + j) l → set b (at + j) (getD s j 0) ≡ (take at l ++ take (j + 1) s) ++ drop (at + (j + 1)) l
-copy-step l s b at j room js h =
-    one-more l (take at l ++ take j s) b (at + j) (getD s j 0) (length-paste-head l at s j (omega arith) (omega arith)) (omega arith) h
-    ∙ rw (append-assoc (take at l) (take j s) (getD s j 0 ∷ []), ← take-suc s j 0 js, ← add-one j, add-assoc at j 1)
 
 -- one turn of `fill`
 pub fill-step : (l b : List ℕ) (from i v : ℕ) → from ≤ i → i < length l → b ≡ (take from l ++ replicate (i - from) v) ++ drop i l → set b i v ≡ (take from l ++ replicate (i + 1 - from) v) ++ drop (i + 1) l

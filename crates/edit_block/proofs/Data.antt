@@ -14,8 +14,10 @@ use Rattle.format.specs.Edit.{absent}
 use Rattle.records.specs.declared.Held.{Held}
 use Rattle.records.specs.Entry.{toData, dataFaultOf}
 use Rattle.records.proofs.Laws.{data-fault-at}
-use Rattle.places.specs.Place.{recordsOf}
-use Rattle.places.proofs.Reading.{length-records, record-wide, getD-views}
+use Rattle.files.specs.declared.Stride.the-variants.{Plain}
+use Rattle.files.specs.Records.{recordsOf}
+use Rattle.format.proofs.Lists.{getD-views}
+use Rattle.edit_block.proofs.Records.{block-long, block-wide}
 use Rattle.edit_block.specs.Steps.{dataWalk}
 
 module _ (views : List View) (held : Data) (opened index : ℕ) where
@@ -40,28 +42,28 @@ some-fault (suc n) i rest h = refl
 -- ---- `data_in_order`: the walk from an index comes to the same as that from the first data record
 
 abbrev pub Same : List ℕ → Held → (index : ℕ) → Type 0
-Same block held index = (opened : ℕ) → dataWalk (map view (recordsOf block)) (toData held) opened 1 ≡ dataWalk (map view (recordsOf block)) (toData held) opened index
+Same block held index = (opened : ℕ) → dataWalk (map view (recordsOf Plain block)) (toData held) opened 1 ≡ dataWalk (map view (recordsOf Plain block)) (toData held) opened index
 
 module _ (block : List ℕ) (held : Held) (index : ℕ) (same : Same block held index) where
-  length-views : length (map view (recordsOf block)) ≡ length block / 84
-  length-views = length-map (recordsOf block) view ∙ length-records block
+  length-views : length (map view (recordsOf Plain block)) ≡ length block / 84
+  length-views = length-map (recordsOf Plain block) view ∙ block-long block
 
-  pub data-over : length block / 84 ≤ index → (opened : ℕ) → true ≡ dataWalk (map view (recordsOf block)) (toData held) opened 1
-  data-over h opened = walk-over (map view (recordsOf block)) (toData held) opened index (rw length-views h) ∙ sym (same opened)
+  pub data-over : length block / 84 ≤ index → (opened : ℕ) → true ≡ dataWalk (map view (recordsOf Plain block)) (toData held) opened 1
+  data-over h opened = walk-over (map view (recordsOf Plain block)) (toData held) opened index (rw length-views h) ∙ sym (same opened)
 
-  module _ (inside : index < length block / 84) (r : List ℕ) (read : r ≡ getD (recordsOf block) index []) (number : ℕ) (is : number ≡ dataFaultOf r held (length block / 84 - index - 1)) where
-    fault-here : (getD (map view (recordsOf block)) index absent) .faultAsData (toData held) (length (map view (recordsOf block)) - index - 1) ≡ number
-    fault-here = rw (length-views, getD-views (recordsOf block) index (rw (length-records block) inside), ← read) (data-fault-at r (record-wide block r index read inside) held (length block / 84 - index - 1) ∙ sym is)
+  module _ (inside : index < length block / 84) (r : List ℕ) (read : r ≡ getD (recordsOf Plain block) index []) (number : ℕ) (is : number ≡ dataFaultOf r held (length block / 84 - index - 1)) where
+    fault-here : (getD (map view (recordsOf Plain block)) index absent) .faultAsData (toData held) (length (map view (recordsOf Plain block)) - index - 1) ≡ number
+    fault-here = rw (length-views, getD-views (recordsOf Plain block) index (rw (block-long block) inside), ← read) (data-fault-at r (block-wide block r index read inside) held (length block / 84 - index - 1) ∙ sym is)
 
-    walk-here : (opened : ℕ) → dataWalk (map view (recordsOf block)) (toData held) opened index ≡ fine (orElse (toFault number index) (walk opened (length (map view (recordsOf block)) - index - 1) (toData held) 0 (suc index) (drop (suc index) (map view (recordsOf block)))))
-    walk-here opened = walk-at (map view (recordsOf block)) (toData held) opened index (rw length-views inside) ∙ rw fault-here
+    walk-here : (opened : ℕ) → dataWalk (map view (recordsOf Plain block)) (toData held) opened index ≡ fine (orElse (toFault number index) (walk opened (length (map view (recordsOf Plain block)) - index - 1) (toData held) 0 (suc index) (drop (suc index) (map view (recordsOf Plain block)))))
+    walk-here opened = walk-at (map view (recordsOf Plain block)) (toData held) opened index (rw length-views inside) ∙ rw fault-here
 
-    pub data-wrong : (number ≡ 0 → ⊥) → (opened : ℕ) → false ≡ dataWalk (map view (recordsOf block)) (toData held) opened 1
+    pub data-wrong : (number ≡ 0 → ⊥) → (opened : ℕ) → false ≡ dataWalk (map view (recordsOf Plain block)) (toData held) opened 1
     data-wrong some opened = some-fault number index _ some ∙ sym (same opened ∙ walk-here opened)
 
     pub data-passes : number ≡ 0 → Same block held (index + 1)
     unfolding dataWalk
     data-passes none opened = same opened ∙ walk-here opened ∙ rw (none, add-one index, less)
       where
-        less : length (map view (recordsOf block)) - index - 1 ≡ length (map view (recordsOf block)) - suc index
+        less : length (map view (recordsOf Plain block)) - index - 1 ≡ length (map view (recordsOf Plain block)) - suc index
         less = omega arith

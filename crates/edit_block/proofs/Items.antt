@@ -19,8 +19,10 @@ use Rattle.format.proofs.JudgeWalks.{Good, good, good-faultAt, walk-passes}
 use Rattle.records.specs.declared.items.Entry.{Entry}
 use Rattle.records.specs.Entry.{toData, viewFault, entryOf}
 use Rattle.records.proofs.Laws.{entry-fault, entry-kind, entry-level, entry-data-records, entry-held, entry-rule, entry-head, entry-counted, entry-columns}
-use Rattle.places.specs.Place.{recordsOf}
-use Rattle.places.proofs.Reading.{length-records, record-wide}
+use Rattle.files.specs.declared.Stride.the-variants.{Plain}
+use Rattle.files.specs.Records.{recordsOf}
+use Rattle.files.proofs.Records.{plain-records}
+use Rattle.edit_block.proofs.Records.{block-long, block-wide}
 use Rattle.format.specs.declared.Block.{Block}
 use Rattle.format.specs.declared.Block.the-variants.{Item, NoItem}
 use Rattle.format.specs.Answers.{blockAnswer}
@@ -125,59 +127,59 @@ module _ (block : List ℕ) where
   pub empty : length block ≡ 0 → blockAnswer NoItem ≡ blockItem block
   empty h = no-block (rw h)
 
-  module _ (whole : length block % 84 ≡ 0) (some : length block ≡ 0 → ⊥) (r : List ℕ) (read : r ≡ getD (recordsOf block) 0 []) (e : Entry) (is : e ≡ entryOf r) where
+  module _ (whole : length block % 84 ≡ 0) (some : length block ≡ 0 → ⊥) (r : List ℕ) (read : r ≡ getD (recordsOf Plain block) 0 []) (e : Entry) (is : e ≡ entryOf r) where
     inside : 0 < length block / 84
     inside = omega arith
 
     wide : length r ≡ 84
-    wide = record-wide block r 0 read inside
+    wide = block-wide block r 0 read inside
 
     abbrev ds : List View
-    ds = drop 1 (map view (recordsOf block))
+    ds = drop 1 (map view (recordsOf Plain block))
 
-    views-are : map view (recordsOf block) ≡ view r ∷ drop 1 (map view (recordsOf block))
-    views-are = go (recordsOf block) (rw (length-records block) inside) read
+    views-are : map view (recordsOf Plain block) ≡ view r ∷ drop 1 (map view (recordsOf Plain block))
+    views-are = go (recordsOf Plain block) (rw (block-long block) inside) read
       where
         go : (rs : List (List ℕ)) → 0 < length rs → r ≡ getD rs 0 [] → map view rs ≡ view r ∷ drop 1 (map view rs)
         go [] h p = absurd (omega arith)
         go (x ∷ rs) h p = ap (λ (y : List ℕ). view y ∷ map view rs) (sym p)
 
-    length-ds : length (drop 1 (map view (recordsOf block))) ≡ length block / 84 - 1
-    length-ds = length-drop 1 (map view (recordsOf block)) ∙ rw (length-map (recordsOf block) view, length-records block)
+    length-ds : length (drop 1 (map view (recordsOf Plain block))) ≡ length block / 84 - 1
+    length-ds = length-drop 1 (map view (recordsOf Plain block)) ∙ rw (length-map (recordsOf Plain block) view, block-long block)
 
-    block-records : blockItem block ≡ itemIn (map view (recordsOf block))
-    unfolding blockItem recordsOf
-    block-records = rw (eq-eqb (length block % 84) 0 whole)
+    block-records : blockItem block ≡ itemIn (map view (recordsOf Plain block))
+    unfolding blockItem
+    block-records = rw (eq-eqb (length block % 84) 0 whole, plain-records block)
 
     picked : (t : Bool) (a b : Answer BlockItem) → cond (eqb (unless t 12) 0) a b ≡ cond t a b
     picked true a b = refl
     picked false a b = refl
 
-    is-block : blockItem block ≡ cond (isBlock (view r) (drop 1 (map view (recordsOf block)))) (given (record { count = countIndex ((view r) .kind); level = (view r) .level })) (refused 12 0)
-    is-block = block-records ∙ ap itemIn views-are ∙ picked (isBlock (view r) (drop 1 (map view (recordsOf block)))) (given (record { count = countIndex ((view r) .kind); level = (view r) .level })) (refused 12 0)
+    is-block : blockItem block ≡ cond (isBlock (view r) (drop 1 (map view (recordsOf Plain block)))) (given (record { count = countIndex ((view r) .kind); level = (view r) .level })) (refused 12 0)
+    is-block = block-records ∙ ap itemIn views-are ∙ picked (isBlock (view r) (drop 1 (map view (recordsOf Plain block)))) (given (record { count = countIndex ((view r) .kind); level = (view r) .level })) (refused 12 0)
 
-    refuse : isBlock (view r) (drop 1 (map view (recordsOf block))) ≡ false → blockAnswer NoItem ≡ blockItem block
+    refuse : isBlock (view r) (drop 1 (map view (recordsOf Plain block))) ≡ false → blockAnswer NoItem ≡ blockItem block
     unfolding blockAnswer
     refuse f = sym (is-block ∙ rw f)
 
     module _ (flag : Bool) (flag-is : flag ≡ isItem e (length block / 84 - 1)) where
       pub not-item : not flag ≡ true → blockAnswer NoItem ≡ blockItem block
-      not-item t = refuse (go (isBlock (view r) (drop 1 (map view (recordsOf block)))) refl)
+      not-item t = refuse (go (isBlock (view r) (drop 1 (map view (recordsOf Plain block)))) refl)
         where
-          go : (b : Bool) → isBlock (view r) (drop 1 (map view (recordsOf block))) ≡ b → b ≡ false
-          go true q = absurd (true≢false (sym (passed e (length block / 84 - 1) (rw (is, ← length-ds) (block-first r (drop 1 (map view (recordsOf block))) wide q))) ∙ sym flag-is ∙ not-true flag t))
+          go : (b : Bool) → isBlock (view r) (drop 1 (map view (recordsOf Plain block))) ≡ b → b ≡ false
+          go true q = absurd (true≢false (sym (passed e (length block / 84 - 1) (rw (is, ← length-ds) (block-first r (drop 1 (map view (recordsOf Plain block))) wide q))) ∙ sym flag-is ∙ not-true flag t))
           go false q = refl
 
-      module _ (t : not flag ≡ false) (in-order : Bool) (o : (opened : ℕ) → in-order ≡ dataWalk (map view (recordsOf block)) (toData (e .held)) opened 1) where
-        one : FirstRecord (entryOf r) (length (drop 1 (map view (recordsOf block))))
+      module _ (t : not flag ≡ false) (in-order : Bool) (o : (opened : ℕ) → in-order ≡ dataWalk (map view (recordsOf Plain block)) (toData (e .held)) opened 1) where
+        one : FirstRecord (entryOf r) (length (drop 1 (map view (recordsOf Plain block))))
         one = rw (← is, length-ds) (tested e (length block / 84 - 1) (sym flag-is ∙ not-false flag t))
 
-        decides : isBlock (view r) (drop 1 (map view (recordsOf block))) ≡ in-order
+        decides : isBlock (view r) (drop 1 (map view (recordsOf Plain block))) ≡ in-order
         unfolding dataWalk
-        decides = first-block r (drop 1 (map view (recordsOf block))) wide one ∙ sym (o (openAfter 8 0 (view r)) ∙ rw (is, ← left))
+        decides = first-block r (drop 1 (map view (recordsOf Plain block))) wide one ∙ sym (o (openAfter 8 0 (view r)) ∙ rw (is, ← left))
           where
-            left : length (drop 1 (map view (recordsOf block))) ≡ length (map view (recordsOf block)) - 1
-            left = length-drop 1 (map view (recordsOf block))
+            left : length (drop 1 (map view (recordsOf Plain block))) ≡ length (map view (recordsOf Plain block)) - 1
+            left = length-drop 1 (map view (recordsOf Plain block))
 
         pub data-wrong : in-order ≡ false → blockAnswer NoItem ≡ blockItem block
         data-wrong f = refuse (decides ∙ f)

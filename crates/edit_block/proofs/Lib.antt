@@ -1,3 +1,4 @@
+pub mod Records
 pub mod Data
 pub mod Items
 pub mod Laws

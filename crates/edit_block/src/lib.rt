@@ -6,8 +6,10 @@ ghost use Rattle.format.specs.Record.{view};
 ghost use Rattle.format.specs.Edit.{blockItem};
 ghost use Rattle.format.specs.Answers.{blockAnswer};
 ghost use Rattle.records.specs.Entry.{toData};
-ghost use Rattle.places.specs.Place.{recordsOf};
+ghost use Rattle.files.specs.Records.{recordsOf};
+ghost use Rattle.files.specs.declared.Stride.the-variants.{Plain};
 ghost use Rattle.edit_block.specs.Steps.{isItem, dataWalk};
+use files::Stride;
 use format::Block;
 use records::Entry;
 use records::Held;
@@ -29,12 +31,13 @@ fn is_item(entry: Entry, behind: usize) -> bool
 
 // Whether the data records of a block, all but its first record, are in order. What the item opens does not matter to them.
 fn data_in_order(block: &[u8], held: Held) -> bool
-    ensures { λ r. ⌜ ((opened : ℕ) → r ≡ dataWalk (map view (recordsOf (now (block .entry)))) (toData held) opened 1) ⌝ }
+    ensures { λ r. ⌜ ((opened : ℕ) → r ≡ dataWalk (map view (recordsOf Plain (now (block .entry)))) (toData held) opened 1) ⌝ }
 {
     let n = block.len() / RECORD;
     let mut index = 1;
     while index < n {
-        let fault = records::data_fault(places::record_at(block, index), held, n - index - 1);
+        let record = files::record_at(block, Stride::Plain, index);
+        let fault = records::data_fault(record, held, n - index - 1);
         if fault != 0 {
             return false;
         }
@@ -53,7 +56,7 @@ pub fn read_block(block: &[u8]) -> Block
     if block.len() == 0 {
         return Block::NoItem;
     }
-    let entry = records::entry(places::record_at(block, 0));
+    let entry = records::entry(files::record_at(block, Stride::Plain, 0));
     if !is_item(entry, block.len() / RECORD - 1) {
         return Block::NoItem;
     }

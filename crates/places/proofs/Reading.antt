@@ -1,6 +1,6 @@
 -- The records of a file and their views, as the code reads them. Assumes nothing.
 use mathlib.Core.Path.{_≡_, refl, ap, sym, _∙_}
-use mathlib.Core.List.{List, [], _∷_, map}
+use mathlib.Core.List.{List, []}
 use Prim.Native.Nat.{ℕ, zero, suc, _+_, _-_, _*_, _/_, _≤_, _<_, min}
 use native.Mathlib.Nat.{add-sub-cancel-left}
 use native.Mathlib.Omega.{arith}
@@ -9,7 +9,7 @@ use lib.Seq.{drop-drop, getD-drop}
 use Rattle.format.specs.Basics.{chunks}
 use Rattle.format.specs.Record.{view}
 use Rattle.format.specs.Edit.{absent}
-use Rattle.format.proofs.Lists.{length-chunks, wide-chunks, wide-get}
+use Rattle.format.proofs.Lists.{length-chunks, wide-chunks, wide-get, getD-views}
 use Rattle.places.specs.Place.{recordsOf, bodyOf}
 
 pub length-records : (file : List ℕ) → length (recordsOf file) ≡ length file / 84
@@ -38,11 +38,6 @@ unfolding recordsOf
 record-wide file r i e h = rw e (wide-get i (chunks (length file / 84) file) (wide-chunks (length file / 84) file (omega arith)) (rw (length-chunks (length file / 84) file) h))
 
 -- ---- the body
-
-pub getD-views : (rs : List (List ℕ)) (i : ℕ) → i < length rs → getD (map view rs) i absent ≡ view (getD rs i [])
-getD-views [] i h = absurd (omega arith)
-getD-views (r ∷ rs) zero h = refl
-getD-views (r ∷ rs) (suc i) h = getD-views rs i (omega arith)
 
 module _ (file : List ℕ) (part : ℕ) where
   pub length-body : length (bodyOf file part) ≡ length file / 84 - part

@@ -2,7 +2,8 @@
 use borrow.Author.Needs.{needs}
 use native.Mathlib.Omega.{arith}
 use lib.ListN.{length-set}
-use Rattle.report.proofs.Texts.{none-stored, stored, all-stored}
+use Rattle.format.proofs.Lists.{none-stored, next-stored}
+use Rattle.report.proofs.Texts.{all-stored}
 use Prim.Native.Nat.{_+_, _-_, _≤_}
 use mathlib.Core.Path.{_≡_, refl}
 use mathlib.Core.List.{_++_}
@@ -38,7 +39,7 @@ loop-again : tie.Need-loop-again Inv-loop μ-loop
 loop-again c =
     let a = c .before .before .before .args in
     let k = c .before .before .loop in
-    (omega arith, simp length-set (k .inv .1), stored (a .out .now) (k .out) (a .text .now) (a .at) (k .i) (search needs) (omega arith) (k .inv .2))
+    (omega arith, simp length-set (k .inv .1), next-stored (a .out .now) (a .text .now) (k .out) (a .at) (k .i) (search needs) (omega arith) (k .inv .2))
 
 same-length : tie.Need-same-length Inv-loop μ-loop
 same-length c = search needs

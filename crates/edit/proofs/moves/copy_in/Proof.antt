@@ -6,7 +6,7 @@ use native.Mathlib.Omega.{arith}
 use borrow.Author.Needs.{needs}
 use lib.ListN.{length, take, drop, length-set}
 use lib.Seq.{take-length}
-use Rattle.edit.proofs.Bytes.{copy-start, copy-step}
+use Rattle.format.proofs.Lists.{none-stored, next-stored}
 use Rattle.edit.proofs.moves.copy_in.Statement.{statement}
 use Rattle.edit.proofs.moves.copy_in.Tie as tie
 
@@ -17,7 +17,7 @@ abbrev μ-loop : tie.MeasureT-loop
 μ-loop buffer₀ at block j₀ buffer j = length block - j
 
 loop-holds : tie.Need-loop-holds Inv-loop μ-loop
-loop-holds c = (search needs, refl, copy-start (c .args .buffer .now) (c .args .block .now) (c .args .at))
+loop-holds c = (search needs, refl, none-stored (c .args .buffer .now) (c .args .block .now) (c .args .at))
 
 shared-slice-read-buffer : tie.Need-shared-slice-read-buffer Inv-loop μ-loop
 shared-slice-read-buffer c = search needs
@@ -38,7 +38,7 @@ loop-again : tie.Need-loop-again Inv-loop μ-loop
 loop-again c =
     let s = c .before .before .before in
     let i = c .before .before .loop in
-    (search needs, simp length-set (i .inv .1), copy-step (s .args .buffer .now) (s .args .block .now) (i .buffer) (s .args .at) (i .j) (omega arith) (omega arith) (i .inv .2))
+    (search needs, simp length-set (i .inv .1), next-stored (s .args .buffer .now) (s .args .block .now) (i .buffer) (s .args .at) (i .j) (omega arith) (omega arith) (i .inv .2))
 
 same-length : tie.Need-same-length Inv-loop μ-loop
 same-length c = c .before .loop .inv .1
