@@ -26,14 +26,14 @@ use Rattle.files.specs.Records as Files
 use Rattle.files.specs.declared.Stride.the-variants.{Plain}
 use Rattle.edit_block.proofs.Laws.{OneItem, read-item, read-none}
 use Rattle.edit.specs.declared.plans.Plan.the-variants.{Refuse, Store}
-use Rattle.edit.specs.declared.plans.Site.{Site}
+use Rattle.judge.specs.declared.Sheet.{Sheet}
 use Rattle.edit.specs.declared.plans.Above.{Above}
-use Rattle.edit.specs.Plans.{Sited, isPlace, nestsIn, roomFault, HasAbove, headerRecord, AboveRead, Nested, InsertionPlanned}
+use Rattle.edit.specs.Plans.{OpenedAt, isPlace, nestsIn, roomFault, HasAbove, headerRecord, AboveRead, Nested, InsertionPlanned}
 use Rattle.edit.proofs.Columns.{one-more-fits}
 use Rattle.edit.proofs.Inserted.{count-of-total, insert-stored}
 use Rattle.edit.proofs.Refused.{insert-refused}
 use Rattle.edit.proofs.AtPlace.{not-below, above-total, above-count}
-use Rattle.edit.proofs.Sites.{body-long, insert-place, AtStart, at-start, plain-file, at-inside, has-above, index-is, index-inside, record-is}
+use Rattle.edit.proofs.OpenedAt.{body-long, insert-place, AtStart, at-start, plain-file, at-inside, has-above, index-is, index-inside, record-is}
 
 -- ---- a block that is an item is whole records
 module _ (block : List ℕ) (no-fault : fault12 (map view (blockOf block)) ≡ 0) where
@@ -67,7 +67,7 @@ module _ (block : List ℕ) (no-fault : fault12 (map view (blockOf block)) ≡ 0
       rest = rw all (drop-length block)
 
 -- ---- 11 to 13
-module _ (l : List ℕ) (used place : ℕ) (site : Site) (s : Sited l used place site) (block : List ℕ) where
+module _ (l : List ℕ) (used place : ℕ) (sheet : Sheet) (s : OpenedAt l used place sheet) (block : List ℕ) where
   abbrev file : File
   file = sheetIn used l
 
@@ -78,16 +78,16 @@ module _ (l : List ℕ) (used place : ℕ) (site : Site) (s : Sited l used place
   unfolding InsertionPlanned
   refusal n e = insert-refused (s .accepted) place n block e
 
-  module _ (is-place : Bool) (place-is : is-place ≡ isPlace (site .part) (used / 84 + 1) (site .due) place) where
+  module _ (is-place : Bool) (place-is : is-place ≡ isPlace (sheet .part) (used / 84 + 1) (sheet .due) place) where
     pub no-place : not is-place ≡ true → InsertionPlanned l used place block (Refuse 11 0)
-    no-place h = refusal 10 (rw (insert-place l used place site s, ← place-is, not-true is-place h))
+    no-place h = refusal 10 (rw (insert-place l used place sheet s, ← place-is, not-true is-place h))
 
     module _ (h : not is-place ≡ false) where
       eleven : insert11 file place ≡ 0
-      eleven = rw (insert-place l used place site s, ← place-is, not-false is-place h)
+      eleven = rw (insert-place l used place sheet s, ← place-is, not-false is-place h)
 
-      start : AtStart l used place site s (used / 84 + 1)
-      start = at-start l used place site s (used / 84 + 1) (sym place-is ∙ not-false is-place h)
+      start : AtStart l used place sheet s (used / 84 + 1)
+      start = at-start l used place sheet s (used / 84 + 1) (sym place-is ∙ not-false is-place h)
 
       pub place-some : 1 ≤ place
       place-some = omega (arith, start .follows)
@@ -103,19 +103,19 @@ module _ (l : List ℕ) (used place : ℕ) (site : Site) (s : Sited l used place
           pub level-some : 1 ≤ level
           level-some = omega (arith, one .low)
 
-          module _ (next : Entry) (next-is : next ≡ entryOf (getD (Files.recordsOf Plain (take used l)) (place - 1) [])) (nests : Bool) (nests-is : nests ≡ nestsIn (site .opened) level (next .level)) where
+          module _ (next : Entry) (next-is : next ≡ entryOf (getD (Files.recordsOf Plain (take used l)) (place - 1) [])) (nests : Bool) (nests-is : nests ≡ nestsIn (sheet .opened) level (next .level)) where
             thirteen : insert13 file place views ≡ unless nests 13
             unfolding nestsIn
-            thirteen = rw (← (one .level-is), not-below (s .accepted) place (omega (arith, start .follows, s .part-is)) (start .closed) level, ← (s .opened-is), nests-is, next-is, plain-file l used place site s)
+            thirteen = rw (← (one .level-is), not-below (s .accepted) place (omega (arith, start .follows, s .part-is)) (start .closed) level, ← (s .opened-is), nests-is, next-is, plain-file l used place sheet s)
 
             pub wrong-level : not nests ≡ true → InsertionPlanned l used place block (Refuse 13 0)
             wrong-level n = refusal 12 (rw (eleven, one .no-fault, thirteen, not-true nests n))
 
-            pub nested : not nests ≡ false → Nested l used place block site kind level
-            nested n = record { sited = s; eleven = eleven; twelve = one .no-fault; thirteen = thirteen ∙ rw (not-false nests n); kind-is = one .kind-is; level-is = one .level-is; kind-most = one .kind-most; level-low = one .low; level-high = one .high; behind = start .follows; place-high = start .up-to }
+            pub nested : not nests ≡ false → Nested l used place block sheet kind level
+            nested n = record { opened-at = s; eleven = eleven; twelve = one .no-fault; thirteen = thirteen ∙ rw (not-false nests n); kind-is = one .kind-is; level-is = one .level-is; kind-most = one .kind-most; level-low = one .low; level-high = one .high; behind = start .follows; place-high = start .up-to }
 
 -- ---- 14 and 15, and the counts
-module _ (l : List ℕ) (used place : ℕ) (block : List ℕ) (site : Site) (kind level : ℕ) (n : Nested l used place block site kind level) where
+module _ (l : List ℕ) (used place : ℕ) (block : List ℕ) (sheet : Sheet) (kind level : ℕ) (n : Nested l used place block sheet kind level) where
   abbrev itemViews : List View
   itemViews = map view (blockOf block)
 
@@ -125,30 +125,30 @@ module _ (l : List ℕ) (used place : ℕ) (block : List ℕ) (site : Site) (kin
   near : pred level ≤ openBehind 0 0 there
   near = omega (arith, n .level-is, leb-true ((getD itemViews 0 absent) .level) (suc (openBehind 0 0 there)) ((and-true _ (notBelow ((getD itemViews 0 absent) .level) (after (sheetIn used l) place)) (unless-zero _ 12 (n .thirteen))) .0))
 
-  pub above-there : HasAbove (take used l) site level kind
-  above-there = has-above l used place site (n .sited) (n .behind) (n .place-high) level (n .level-low) (n .level-high) near kind (n .kind-most)
+  pub above-there : HasAbove (take used l) sheet level kind
+  above-there = has-above l used place sheet (n .opened-at) (n .behind) (n .place-high) level (n .level-low) (n .level-high) near kind (n .kind-most)
 
-  module _ (above : Above) (read : AboveRead (take used l) site level kind above) where
+  module _ (above : Above) (read : AboveRead (take used l) sheet level kind above) where
     abbrev index : ℕ
     index = partLength (chunks (used / 84) l) + pred (aboveIn level there)
 
-    record-there : headerRecord (take used l) site level ≡ getD (chunks (used / 84) l) index []
-    record-there = record-is l used place site (n .sited) (n .behind) (n .place-high) level (n .level-low) (n .level-high) near
+    record-there : headerRecord (take used l) sheet level ≡ getD (chunks (used / 84) l) index []
+    record-there = record-is l used place sheet (n .opened-at) (n .behind) (n .place-high) level (n .level-low) (n .level-high) near
 
     inside-there : bodyPlace (sheetIn used l) place ≤ length ((sheetIn used l) .body)
-    inside-there = at-inside l used place site (n .sited) (n .behind) (n .place-high) level (n .level-low) (n .level-high) near
+    inside-there = at-inside l used place sheet (n .opened-at) (n .behind) (n .place-high) level (n .level-low) (n .level-high) near
 
     total-seen : (aboveBlock (sheetIn used l) place itemViews) .total ≡ above .total
-    total-seen = rw (← (n .level-is)) (above-total (n .sited .accepted) place level inside-there (n .level-low) near ∙ sym (read .total-is ∙ ap (numberAt header "total") record-there))
+    total-seen = rw (← (n .level-is)) (above-total (n .opened-at .accepted) place level inside-there (n .level-low) near ∙ sym (read .total-is ∙ ap (numberAt header "total") record-there))
 
     count-seen : (aboveBlock (sheetIn used l) place itemViews) .count (countIndex ((getD itemViews 0 absent) .kind)) ≡ above .count
-    count-seen = rw (← (n .level-is), ← (n .kind-is)) (above-count (n .sited .accepted) place level inside-there (n .level-low) near kind ∙ sym (read .count-is ∙ ap (λ (r : List ℕ). countIn r kind) record-there))
+    count-seen = rw (← (n .level-is), ← (n .kind-is)) (above-count (n .opened-at .accepted) place level inside-there (n .level-low) near kind ∙ sym (read .count-is ∙ ap (λ (r : List ℕ). countIn r kind) record-there))
 
     long : length itemViews ≡ length block / 84
     long = length-map (blockOf block) view ∙ length-block block (n .twelve)
 
     body-there : (sheetIn used l) .partLength + length ((sheetIn used l) .body) ≡ used / 84
-    body-there = omega (arith, n .sited .part-is, body-long l used place site (n .sited))
+    body-there = omega (arith, n .opened-at .part-is, body-long l used place sheet (n .opened-at))
 
     fourteen : insert14 (sheetIn used l) place itemViews 200000 ≡ unless (hasRoom (above .total) kind (above .count) (used / 84 + length block / 84) 200000) 14
     fourteen = rw (total-seen, count-seen, ← (n .kind-is), body-there, long)
@@ -166,7 +166,7 @@ module _ (l : List ℕ) (used place : ℕ) (block : List ℕ) (site : Site) (kin
         where
           go : (f : ℕ) → insertFault (sheetIn used l) place (drop used l) itemViews 200000 ≡ f → (f ≡ 0 → ⊥) → InsertionPlanned l used place block (Refuse f 0)
           go zero e some = absurd (some refl)
-          go (suc f) e some = refusal l used place site (n .sited) block f e
+          go (suc f) e some = refusal l used place sheet (n .opened-at) block f e
 
       module _ (none : fault ≡ 0) where
         tests : (hasRoom (above .total) kind (above .count) (used / 84 + length block / 84) 200000 ≡ true) × (leb (length block) (length l - used) ≡ true)
@@ -182,17 +182,20 @@ module _ (l : List ℕ) (used place : ℕ) (block : List ℕ) (site : Site) (kin
         total-most : above .total + 1 ≤ 99999
         total-most = leb-true (above .total + 1) 99999 (counted .0)
 
-        pub fits : length block ≤ length l - used
+        pub few-then : used / 84 + length block / 84 ≤ 200000
+        few-then = leb-true (used / 84 + length block / 84) 200000 (roomy .1)
+
+        fits : length block ≤ length l - used
         fits = leb-true (length block) (length l - used) (tests .1)
 
         accepted-fault : insertFault (sheetIn used l) place (drop used l) itemViews 200000 ≡ 0
         accepted-fault = faults ∙ none
 
         start-is : 84 * (place - 1) ≡ 84 * (partLength (chunks (used / 84) l) + bodyPlace (sheetIn used l) place)
-        start-is = ap (λ (i : ℕ). 84 * i) (let e : place - 1 ≡ partLength (chunks (used / 84) l) + bodyPlace (sheetIn used l) place = omega (arith, n .behind, n .sited .part-is) in e)
+        start-is = ap (λ (i : ℕ). 84 * i) (let e : place - 1 ≡ partLength (chunks (used / 84) l) + bodyPlace (sheetIn used l) place = omega (arith, n .behind, n .opened-at .part-is) in e)
 
         header-is : above .header ≡ partLength (chunks (used / 84) l) + pred (aboveIn ((getD itemViews 0 absent) .level) there)
-        header-is = rw (← (n .level-is)) (read .index-is ∙ index-is l used place site (n .sited) (n .behind) (n .place-high) level (n .level-low) (n .level-high) near)
+        header-is = rw (← (n .level-is)) (read .index-is ∙ index-is l used place sheet (n .opened-at) (n .behind) (n .place-high) level (n .level-low) (n .level-high) near)
 
         total-is : above .total + 1 ≡ numberAt header "total" (getD (chunks (used / 84) l) (partLength (chunks (used / 84) l) + pred (aboveIn ((getD itemViews 0 absent) .level) there)) []) + 1
         total-is = rw (← (n .level-is)) (ap (λ (z : ℕ). z + 1) (read .total-is ∙ ap (numberAt header "total") record-there))
@@ -200,24 +203,24 @@ module _ (l : List ℕ) (used place : ℕ) (block : List ℕ) (site : Site) (kin
         count-is : above .count + 1 ≡ countIn (getD (chunks (used / 84) l) (partLength (chunks (used / 84) l) + pred (aboveIn ((getD itemViews 0 absent) .level) there)) []) (countIndex ((getD itemViews 0 absent) .kind)) + 1
         count-is = rw (← (n .level-is), ← (n .kind-is)) (ap (λ (z : ℕ). z + 1) (read .count-is ∙ ap (λ (r : List ℕ). countIn r kind) record-there))
 
-        records-is : used / 84 - site .part + length block / 84 ≡ statedRecords (getD (chunks (used / 84) l) 1 []) + length (blockOf block)
-        records-is = omega (arith, records-are (n .sited .accepted), n .sited .part-is, n .sited .part-inside, length-block block (n .twelve))
+        records-is : used / 84 - sheet .part + length block / 84 ≡ statedRecords (getD (chunks (used / 84) l) 1 []) + length (blockOf block)
+        records-is = omega (arith, records-are (n .opened-at .accepted), n .opened-at .part-is, n .opened-at .part-inside, length-block block (n .twelve))
 
-        pub stored : InsertionPlanned l used place block (Store (record { header = above .header; kind = kind; total = above .total + 1; count = above .count + 1; elements = site .items + 1; records = used / 84 - site .part + length block / 84; start = 84 * (place - 1); length = length block }))
+        pub stored : InsertionPlanned l used place block (Store (record { header = above .header; kind = kind; total = above .total + 1; count = above .count + 1; elements = sheet .items + 1; records = used / 84 - sheet .part + length block / 84; start = 84 * (place - 1); length = length block }))
         unfolding InsertionPlanned
         stored = record {
           can = record {
             inside = omega (arith, n .place-high);
-            room = omega (arith, fits, n .sited .inside);
+            room = omega (arith, fits, n .opened-at .inside);
             fitting = record {
-              header-in = omega (arith, read .index-is, index-inside l used place site (n .sited) (n .behind) (n .place-high) level (n .level-low) (n .level-high) near, n .sited .inside);
-              two-in = omega (arith, sheet-two (n .sited .accepted), n .sited .part-is, n .sited .part-inside, n .sited .inside);
+              header-in = omega (arith, read .index-is, index-inside l used place sheet (n .opened-at) (n .behind) (n .place-high) level (n .level-low) (n .level-high) near, n .opened-at .inside);
+              two-in = omega (arith, sheet-two (n .opened-at .accepted), n .opened-at .part-is, n .opened-at .part-inside, n .opened-at .inside);
               kind-most = n .kind-most;
               total-fits = omega (arith, total-most);
-              count-fits = one-more-fits kind (above .count) (above .total) (n .kind-most) (λ z. leb-true (above .count + 1) 9 (rw (eq-eqb kind 9 z) at (counted .1))) (rw (count-seen, total-seen) at (count-of-total l used place (n .sited .accepted) itemViews accepted-fault)) total-most;
-              elements-fit = omega (arith, n .sited .items-few);
-              records-fit = omega (arith, leb-true (used / 84 + length block / 84) 200000 (roomy .1));
+              count-fits = one-more-fits kind (above .count) (above .total) (n .kind-most) (λ z. leb-true (above .count + 1) 9 (rw (eq-eqb kind 9 z) at (counted .1))) (rw (count-seen, total-seen) at (count-of-total l used place (n .opened-at .accepted) itemViews accepted-fault)) total-most;
+              elements-fit = omega (arith, n .opened-at .items-few);
+              records-fit = omega (arith, few-then);
             };
           };
-          outcome = insert-stored l used place (n .sited .accepted) block (bytes-block block (n .twelve)) _ accepted-fault inside-there (rw (← (n .level-is)) (n .level-low)) (rw (← (n .level-is)) near) (rw (← (n .kind-is)) (n .kind-most)) header-is (n .kind-is) total-is count-is (ap (λ (z : ℕ). z + 1) (n .sited .items-are)) records-is start-is (long-block block (n .twelve));
+          outcome = insert-stored l used place (n .opened-at .accepted) block (bytes-block block (n .twelve)) _ accepted-fault inside-there (rw (← (n .level-is)) (n .level-low)) (rw (← (n .level-is)) near) (rw (← (n .kind-is)) (n .kind-most)) header-is (n .kind-is) total-is count-is (ap (λ (z : ℕ). z + 1) (n .opened-at .items-are)) records-is start-is (long-block block (n .twelve));
         }

@@ -4,7 +4,7 @@ pub mod Rewrites
 pub mod Tested
 pub mod Refused
 pub mod AtPlace
-pub mod Sites
+pub mod OpenedAt
 pub mod Inserted
 pub mod Insertion
 pub mod Removed

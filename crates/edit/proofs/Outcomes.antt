@@ -1,19 +1,14 @@
--- What judging answered, and what a plan owes, as the calls use them. Assumes nothing.
+-- What a plan owes, as the calls use it. Assumes nothing.
 use mathlib.Core.Path.{_≡_, ap, sym, _∙_}
-use mathlib.Core.List.{List, [], _∷_}
+use mathlib.Core.List.{List}
 use Prim.Native.Nat.{ℕ, _+_, _-_, _^_, _≤_, _<_}
 use native.Mathlib.Omega.{arith}
 use lib.ListN.{length}
 use mir.Syntax.{w64}
 use mir.Val.{Fits}
-use types.Run.{OneOf, miss}
-use denote.Enum.Declared.{tagOf}
-use Rattle.format.proofs.Judged.{the-type}
-use Rattle.format.specs.declared.Judged.{Judged}
 use Rattle.format.specs.declared.Judged.the-variants as Judged
 use Rattle.format.specs.declared.Edited.the-variants as Edited
-use Rattle.format.specs.Answers.{judgedAnswer, editedAnswer}
-use Rattle.format.specs.Judge.{judgeSheet, AcceptedSheet}
+use Rattle.format.specs.Answers.{editedAnswer}
 use Rattle.format.specs.Calls.{insert, remove}
 use Rattle.format.specs.Run.{call}
 use Rattle.edit.specs.declared.counts.Change.{Change}
@@ -23,29 +18,6 @@ use Rattle.edit.specs.Counts.{withCounts}
 use Rattle.edit.specs.Moves.{putIn, takenOut}
 use Rattle.edit.specs.Plans.{storedStep, CanPut, InsertionReady, InsertionPlanned, CanTake, RemovalReady, RemovalPlanned}
 use Rattle.format.specs.Answers.{stepFor}
-use Rattle.edit.proofs.Refused.{not-accepted}
-
--- ---- judging
-module _ (l : List ℕ) (used : ℕ) (r : Judged) (e : judgedAnswer r ≡ judgeSheet used l) where
-  pub accepts : OneOf (0 ∷ []) (tagOf the-type r) → AcceptedSheet used l
-  unfolding judgedAnswer
-  accepts h = go r h e
-    where
-      go : (r : Judged) → OneOf (0 ∷ []) (tagOf the-type r) → judgedAnswer r ≡ judgeSheet used l → AcceptedSheet used l
-      go (Judged.Accepted n m) h e = record { counts = record { records = n; items = m }; judged = sym e }
-      go (Judged.Refused n m) h e = absurd (miss (0 ∷ []) 1 tt h)
-
-  module _ (number at : ℕ) (is : r ≡ Judged.Refused number at) where
-    refused-is : judgeSheet used l ≡ judgedAnswer (Judged.Refused number at)
-    refused-is = sym e ∙ ap judgedAnswer is
-
-    pub insertion-refused : (place : ℕ) (block : List ℕ) → InsertionPlanned l used place block (Refuse number at)
-    unfolding InsertionPlanned judgedAnswer
-    insertion-refused place block = not-accepted (insert place block) l used number at refused-is
-
-    pub removal-refused : (place : ℕ) → RemovalPlanned l used place (Refuse number at)
-    unfolding RemovalPlanned judgedAnswer
-    removal-refused place = not-accepted (remove place) l used number at refused-is
 
 -- ---- an insertion
 pub put-counted : (l m n : List ℕ) (used : ℕ) (block : List ℕ) (c : Change) → m ≡ putIn l used (c .start) block → n ≡ withCounts c m → n ≡ withCounts c (putIn l used (c .start) block)

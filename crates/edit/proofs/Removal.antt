@@ -23,17 +23,17 @@ use Rattle.files.specs.Records as Files
 use Rattle.files.specs.declared.Stride.the-variants.{Plain}
 use Rattle.edit_block.proofs.Items.{item-high}
 use Rattle.edit.specs.declared.plans.Plan.the-variants.{Refuse, Store}
-use Rattle.edit.specs.declared.plans.Site.{Site}
+use Rattle.judge.specs.declared.Sheet.{Sheet}
 use Rattle.edit.specs.declared.plans.Above.{Above}
-use Rattle.edit.specs.Plans.{Sited, isPlace, HasAbove, headerRecord, AboveRead, Removable, RemovalPlanned}
+use Rattle.edit.specs.Plans.{OpenedAt, isPlace, HasAbove, headerRecord, AboveRead, Removable, RemovalPlanned}
 use Rattle.edit.proofs.Columns.{one-less-fits}
 use Rattle.edit.proofs.Refused.{remove-refused}
 use Rattle.edit.proofs.AtPlace.{Start, starts, above-wide}
-use Rattle.edit.proofs.Sites.{body-long, remove-place, AtStart, at-start, plain-file, at-inside, has-above, index-is, index-inside, record-is}
+use Rattle.edit.proofs.OpenedAt.{body-long, remove-place, AtStart, at-start, plain-file, at-inside, has-above, index-is, index-inside, record-is}
 use Rattle.edit.proofs.Removed.{remove-stored}
 
 -- ---- 11
-module _ (l : List ℕ) (used place : ℕ) (site : Site) (s : Sited l used place site) where
+module _ (l : List ℕ) (used place : ℕ) (sheet : Sheet) (s : OpenedAt l used place sheet) where
   abbrev file : File
   file = sheetIn used l
 
@@ -44,19 +44,19 @@ module _ (l : List ℕ) (used place : ℕ) (site : Site) (s : Sited l used place
   unfolding RemovalPlanned
   refusal e = remove-refused (s .accepted) place 10 e
 
-  module _ (is-place : Bool) (place-is : is-place ≡ isPlace (site .part) (used / 84) (site .due) place) where
+  module _ (is-place : Bool) (place-is : is-place ≡ isPlace (sheet .part) (used / 84) (sheet .due) place) where
     pub no-place : not is-place ≡ true → RemovalPlanned l used place (Refuse 11 0)
-    no-place h = refusal (rw (remove-place l used place site s, ← place-is, not-true is-place h))
+    no-place h = refusal (rw (remove-place l used place sheet s, ← place-is, not-true is-place h))
 
     module _ (h : not is-place ≡ false) where
-      start : AtStart l used place site s (used / 84)
-      start = at-start l used place site s (used / 84) (sym place-is ∙ not-false is-place h)
+      start : AtStart l used place sheet s (used / 84)
+      start = at-start l used place sheet s (used / 84) (sym place-is ∙ not-false is-place h)
 
       pub place-some : 1 ≤ place
       place-some = omega (arith, start .follows)
 
       inside : bodyPlace file place < length (file .body)
-      inside = omega (arith, start .follows, start .up-to, body-long l used place site s, s .part-is)
+      inside = omega (arith, start .follows, start .up-to, body-long l used place sheet s, s .part-is)
 
       module _ (item : Entry) (item-is : item ≡ entryOf (getD (Files.recordsOf Plain (take used l)) (place - 1) [])) where
         follows : partLength (chunks (used / 84) l) < place
@@ -69,20 +69,20 @@ module _ (l : List ℕ) (used place : ℕ) (site : Site) (s : Sited l used place
         there = starts (s .accepted) place follows (start .closed) inside
 
         is : item ≡ entryOf here
-        is = item-is ∙ ap (λ (rs : List (List ℕ)). entryOf (getD rs (place - 1) [])) (plain-file l used place site s)
+        is = item-is ∙ ap (λ (rs : List (List ℕ)). entryOf (getD rs (place - 1) [])) (plain-file l used place sheet s)
 
         head-is : isHead (gone .kind) ≡ eqb (item .kind) 0
         head-is = ap (λ (v : View). isHead (v .kind)) (there .seen) ∙ entry-head here (there .wide) (there .sound) ∙ rw is
 
         pub at-header : item .kind ≡ 0 → RemovalPlanned l used place (Refuse 11 0)
-        at-header z = refusal (rw (remove-place l used place site s, ← place-is, not-false is-place h, head-is, eq-eqb (item .kind) 0 z))
+        at-header z = refusal (rw (remove-place l used place sheet s, ← place-is, not-false is-place h, head-is, eq-eqb (item .kind) 0 z))
 
         module _ (some : item .kind ≡ 0 → ⊥) where
           is-item : isHead (gone .kind) ≡ false
           is-item = head-is ∙ ne-eqb (item .kind) 0 some
 
           eleven : remove11 file place ≡ 0
-          eleven = rw (remove-place l used place site s, ← place-is, not-false is-place h, is-item)
+          eleven = rw (remove-place l used place sheet s, ← place-is, not-false is-place h, is-item)
 
           kind-is : item .kind ≡ countIndex (gone .kind)
           kind-is = ap (λ (e : Entry). e .kind) is ∙ entry-kind here (there .wide) (there .sound) ∙ ap (λ (v : View). countIndex (v .kind)) (sym (there .seen))
@@ -99,9 +99,9 @@ module _ (l : List ℕ) (used place : ℕ) (site : Site) (s : Sited l used place
           high : gone .level ≤ 9
           high = rw (item-high (gone .kind) is-item) at (there .good-here .high)
 
-          pub removable : Removable l used place site item
+          pub removable : Removable l used place sheet item
           removable = record {
-            sited = s;
+            opened-at = s;
             eleven = eleven;
             kind-is = kind-is;
             level-is = level-is;
@@ -110,11 +110,11 @@ module _ (l : List ℕ) (used place : ℕ) (site : Site) (s : Sited l used place
             level-low = omega (arith, level-is, low);
             level-high = omega (arith, level-is, high);
             behind = start .follows;
-            data-inside = omega (arith, data-is, enough file place (held (s .accepted) .ok) (cuts file place eleven), length-drop (bodyPlace file place) (file .body), body-long l used place site s, s .part-is, start .follows);
+            data-inside = omega (arith, data-is, enough file place (held (s .accepted) .ok) (cuts file place eleven), length-drop (bodyPlace file place) (file .body), body-long l used place sheet s, s .part-is, start .follows);
           }
 
 -- ---- the counts
-module _ (l : List ℕ) (used place : ℕ) (site : Site) (item : Entry) (m : Removable l used place site item) where
+module _ (l : List ℕ) (used place : ℕ) (sheet : Sheet) (item : Entry) (m : Removable l used place sheet item) where
   abbrev lost : View
   lost = getD ((sheetIn used l) .body) (bodyPlace (sheetIn used l) place) absent
 
@@ -122,51 +122,51 @@ module _ (l : List ℕ) (used place : ℕ) (site : Site) (item : Entry) (m : Rem
   pre = before (sheetIn used l) place
 
   near : pred (item .level) ≤ openBehind 0 0 pre
-  near = omega (arith, m .level-is, b-good (sheetIn used l) place (held (m .sited .accepted) .ok) (cuts (sheetIn used l) place (m .eleven)) .near)
+  near = omega (arith, m .level-is, b-good (sheetIn used l) place (held (m .opened-at .accepted) .ok) (cuts (sheetIn used l) place (m .eleven)) .near)
 
   up-to : place ≤ used / 84 + 1
   up-to = omega (arith, m .data-inside)
 
-  pub above-there : HasAbove (take used l) site (item .level) (item .kind)
-  above-there = has-above l used place site (m .sited) (m .behind) up-to (item .level) (m .level-low) (m .level-high) near (item .kind) (m .kind-most)
+  pub above-there : HasAbove (take used l) sheet (item .level) (item .kind)
+  above-there = has-above l used place sheet (m .opened-at) (m .behind) up-to (item .level) (m .level-low) (m .level-high) near (item .kind) (m .kind-most)
 
-  module _ (above : Above) (read : AboveRead (take used l) site (item .level) (item .kind) above) where
+  module _ (above : Above) (read : AboveRead (take used l) sheet (item .level) (item .kind) above) where
     abbrev index : ℕ
     index = partLength (chunks (used / 84) l) + pred (aboveIn (lost .level) pre)
 
     header-is : above .header ≡ index
-    header-is = rw (← (m .level-is)) (read .index-is ∙ index-is l used place site (m .sited) (m .behind) up-to (item .level) (m .level-low) (m .level-high) near)
+    header-is = rw (← (m .level-is)) (read .index-is ∙ index-is l used place sheet (m .opened-at) (m .behind) up-to (item .level) (m .level-low) (m .level-high) near)
 
-    record-there : headerRecord (take used l) site (item .level) ≡ getD (chunks (used / 84) l) index []
-    record-there = rw (← (m .level-is)) (record-is l used place site (m .sited) (m .behind) up-to (item .level) (m .level-low) (m .level-high) near)
+    record-there : headerRecord (take used l) sheet (item .level) ≡ getD (chunks (used / 84) l) index []
+    record-there = rw (← (m .level-is)) (record-is l used place sheet (m .opened-at) (m .behind) up-to (item .level) (m .level-low) (m .level-high) near)
 
     inside-there : bodyPlace (sheetIn used l) place ≤ length ((sheetIn used l) .body)
-    inside-there = at-inside l used place site (m .sited) (m .behind) up-to (item .level) (m .level-low) (m .level-high) near
+    inside-there = at-inside l used place sheet (m .opened-at) (m .behind) up-to (item .level) (m .level-low) (m .level-high) near
 
-    wide : length (headerRecord (take used l) site (item .level)) ≡ 84
-    wide = ap length (record-is l used place site (m .sited) (m .behind) up-to (item .level) (m .level-low) (m .level-high) near) ∙ above-wide (m .sited .accepted) place (item .level) inside-there (m .level-low) near
+    wide : length (headerRecord (take used l) sheet (item .level)) ≡ 84
+    wide = ap length (record-is l used place sheet (m .opened-at) (m .behind) up-to (item .level) (m .level-low) (m .level-high) near) ∙ above-wide (m .opened-at .accepted) place (item .level) inside-there (m .level-low) near
 
     out-is : 84 * (item .«data_records» + 1) ≡ 84 * suc (lost .dataRecords)
     out-is = omega (arith, m .data-is)
 
     start-is : 84 * (place - 1) ≡ 84 * (partLength (chunks (used / 84) l) + bodyPlace (sheetIn used l) place)
-    start-is = ap (λ (i : ℕ). 84 * i) (let e : place - 1 ≡ partLength (chunks (used / 84) l) + bodyPlace (sheetIn used l) place = omega (arith, m .behind, m .sited .part-is) in e)
+    start-is = ap (λ (i : ℕ). 84 * i) (let e : place - 1 ≡ partLength (chunks (used / 84) l) + bodyPlace (sheetIn used l) place = omega (arith, m .behind, m .opened-at .part-is) in e)
 
-    pub stored : (total count elements : ℕ) → total ≡ above .total - 1 → count ≡ above .count - 1 → elements ≡ site .items - 1 → RemovalPlanned l used place (Store (record { header = above .header; kind = item .kind; total = total; count = count; elements = elements; records = used / 84 - site .part - (item .«data_records» + 1); start = 84 * (place - 1); length = 84 * (item .«data_records» + 1) }))
+    pub stored : (total count elements : ℕ) → total ≡ above .total - 1 → count ≡ above .count - 1 → elements ≡ sheet .items - 1 → RemovalPlanned l used place (Store (record { header = above .header; kind = item .kind; total = total; count = count; elements = elements; records = used / 84 - sheet .part - (item .«data_records» + 1); start = 84 * (place - 1); length = 84 * (item .«data_records» + 1) }))
     unfolding RemovalPlanned
     stored total count elements total-is count-is elements-is = record {
       can = record {
         inside = omega (arith, m .data-inside, m .behind);
-        room = m .sited .inside;
+        room = m .opened-at .inside;
         fitting = record {
-          header-in = omega (arith, read .index-is, index-inside l used place site (m .sited) (m .behind) up-to (item .level) (m .level-low) (m .level-high) near, m .sited .inside);
-          two-in = omega (arith, sheet-two (m .sited .accepted), m .sited .part-is, m .sited .part-inside, m .sited .inside);
+          header-in = omega (arith, read .index-is, index-inside l used place sheet (m .opened-at) (m .behind) up-to (item .level) (m .level-low) (m .level-high) near, m .opened-at .inside);
+          two-in = omega (arith, sheet-two (m .opened-at .accepted), m .opened-at .part-is, m .opened-at .part-inside, m .opened-at .inside);
           kind-most = m .kind-most;
           total-fits = omega (arith, total-is, read .total-small);
-          count-fits = rw (count-is ∙ ap (λ (n : ℕ). n - 1) (read .count-is)) (one-less-fits (headerRecord (take used l) site (item .level)) (item .kind) wide (m .kind-most));
-          elements-fit = omega (arith, elements-is, m .sited .items-few);
-          records-fit = omega (arith, m .sited .few);
+          count-fits = rw (count-is ∙ ap (λ (n : ℕ). n - 1) (read .count-is)) (one-less-fits (headerRecord (take used l) sheet (item .level)) (item .kind) wide (m .kind-most));
+          elements-fit = omega (arith, elements-is, m .opened-at .items-few);
+          records-fit = omega (arith, m .opened-at .few);
         };
       };
-      outcome = remove-stored l used place (m .sited .accepted) _ (m .eleven) (omega (arith, m .data-inside, m .data-is, m .behind, body-long l used place site (m .sited), m .sited .part-is)) (omega (arith, m .level-low, m .level-is)) (omega (arith, near, m .level-is)) (omega (arith, m .kind-most, m .kind-is)) header-is (m .kind-is) (total-is ∙ ap (λ (n : ℕ). n - 1) (read .total-is ∙ ap (numberAt header "total") record-there)) (count-is ∙ ap (λ (n : ℕ). n - 1) (read .count-is ∙ ap (λ (r : List ℕ). countIn r (item .kind)) record-there ∙ ap (countIn (getD (chunks (used / 84) l) index [])) (m .kind-is))) (elements-is ∙ ap (λ (n : ℕ). n - 1) (m .sited .items-are)) (omega (arith, records-are (m .sited .accepted), m .sited .part-is, m .data-is)) start-is out-is;
+      outcome = remove-stored l used place (m .opened-at .accepted) _ (m .eleven) (omega (arith, m .data-inside, m .data-is, m .behind, body-long l used place sheet (m .opened-at), m .opened-at .part-is)) (omega (arith, m .level-low, m .level-is)) (omega (arith, near, m .level-is)) (omega (arith, m .kind-most, m .kind-is)) header-is (m .kind-is) (total-is ∙ ap (λ (n : ℕ). n - 1) (read .total-is ∙ ap (numberAt header "total") record-there)) (count-is ∙ ap (λ (n : ℕ). n - 1) (read .count-is ∙ ap (λ (r : List ℕ). countIn r (item .kind)) record-there ∙ ap (countIn (getD (chunks (used / 84) l) index [])) (m .kind-is))) (elements-is ∙ ap (λ (n : ℕ). n - 1) (m .opened-at .items-are)) (omega (arith, records-are (m .opened-at .accepted), m .opened-at .part-is, m .data-is)) start-is out-is;
     }

@@ -13,29 +13,29 @@ use Rattle.format.specs.Edit.{dueBehind, openBehind, aboveIn, absent, bodyPlace
 use Rattle.format.specs.Calls.{insert, remove}
 use Rattle.format.specs.Run.{Step, call}
 use Rattle.records.specs.declared.items.Entry.{Entry}
+use Rattle.judge.specs.declared.Sheet.{Sheet}
 use Rattle.edit.specs.declared.counts.Change.{Change}
 use Rattle.edit.specs.declared.plans.Plan.{Plan}
 use Rattle.edit.specs.declared.plans.Plan.the-variants.{Refuse, Store}
-use Rattle.edit.specs.declared.plans.Site.{Site}
 use Rattle.edit.specs.declared.plans.Above.{Above}
 use Rattle.edit.specs.Counts.{Fitting, withCounts}
 use Rattle.edit.specs.Moves.{putIn, takenOut}
 
 -- ---- the numbers that a plan starts from
 
--- those of an accepted sheet at a place
-pub record Sited (bytes : List ℕ) (used place : ℕ) (site : Site) : Type 0 where
+-- an opened sheet has those of an accepted one at a place
+pub record OpenedAt (bytes : List ℕ) (used place : ℕ) (sheet : Sheet) : Type 0 where
   pub accepted : AcceptedSheet used bytes
-  pub part-is : site .part ≡ (sheetIn used bytes) .partLength
-  pub items-are : site .items ≡ (sheetIn used bytes) .statedElements
-  pub due-is : site .due ≡ dueBehind 0 (before (sheetIn used bytes) place)
-  pub opened-is : site .opened ≡ openBehind 0 0 (before (sheetIn used bytes) place)
-  pub header-is : (level : ℕ) → 1 ≤ level → level ≤ 9 → getD (site .headers) (level - 1) 0 ≡ aboveIn level (before (sheetIn used bytes) place)
+  pub part-is : sheet .part ≡ (sheetIn used bytes) .partLength
+  pub items-are : sheet .items ≡ (sheetIn used bytes) .statedElements
+  pub due-is : sheet .due ≡ dueBehind 0 (before (sheetIn used bytes) place)
+  pub opened-is : sheet .opened ≡ openBehind 0 0 (before (sheetIn used bytes) place)
+  pub header-is : (level : ℕ) → 1 ≤ level → level ≤ 9 → getD (sheet .headers) (level - 1) 0 ≡ (sheetIn used bytes) .partLength + aboveIn level (before (sheetIn used bytes) place)
   -- no sum of them is too large
   pub inside : used ≤ length bytes
   pub few : used / 84 ≤ 200000
-  pub part-inside : site .part ≤ used / 84
-  pub items-few : site .items ≤ 200000
+  pub part-inside : sheet .part ≤ used / 84
+  pub items-few : sheet .items ≤ 200000
 
 -- "edit place is no item or header start, nor (insertion) one past the end": behind the sheet part, `last` at most, and no data record due there
 unfoldable pub isPlace : (part last due place : ℕ) → Bool
@@ -52,21 +52,21 @@ roomFault above kind records limit free length = first (unless (hasRoom (above .
 -- ---- the header above an item
 
 -- its level has one among the last headers of the levels, and that stands in the file
-pub record HasAbove (file : List ℕ) (site : Site) (level kind : ℕ) : Type 0 where
+pub record HasAbove (file : List ℕ) (sheet : Sheet) (level kind : ℕ) : Type 0 where
   pub level-low : 1 ≤ level
   pub level-high : level - 1 < 9
-  pub header-low : 1 ≤ site .part + getD (site .headers) (level - 1) 0
-  pub header-high : site .part + getD (site .headers) (level - 1) 0 ≤ length file / 84
+  pub header-low : 1 ≤ getD (sheet .headers) (level - 1) 0
+  pub header-high : getD (sheet .headers) (level - 1) 0 ≤ length file / 84
   pub kind-most : kind ≤ 9
 
-abbrev pub headerRecord : (file : List ℕ) → Site → (level : ℕ) → List ℕ
-headerRecord file site level = getD (chunks (length file / 84) file) (site .part + getD (site .headers) (level - 1) 0 - 1) []
+abbrev pub headerRecord : (file : List ℕ) → Sheet → (level : ℕ) → List ℕ
+headerRecord file sheet level = getD (chunks (length file / 84) file) (getD (sheet .headers) (level - 1) 0 - 1) []
 
 -- as it was read
-pub record AboveRead (file : List ℕ) (site : Site) (level kind : ℕ) (above : Above) : Type 0 where
-  pub index-is : above .header ≡ site .part + getD (site .headers) (level - 1) 0 - 1
-  pub total-is : above .total ≡ numberAt header "total" (headerRecord file site level)
-  pub count-is : above .count ≡ countIn (headerRecord file site level) kind
+pub record AboveRead (file : List ℕ) (sheet : Sheet) (level kind : ℕ) (above : Above) : Type 0 where
+  pub index-is : above .header ≡ getD (sheet .headers) (level - 1) 0 - 1
+  pub total-is : above .total ≡ numberAt header "total" (headerRecord file sheet level)
+  pub count-is : above .count ≡ countIn (headerRecord file sheet level) kind
   pub total-small : above .total < 100000
   pub count-small : above .count < 100000
 
@@ -88,8 +88,8 @@ pub record CanPut (bytes : List ℕ) (used : ℕ) (block : List ℕ) (c : Change
   pub fitting : Fitting c (length bytes)
 
 -- a block that no 11 to 13 refuses there: an item of this kind and level
-pub record Nested (bytes : List ℕ) (used place : ℕ) (block : List ℕ) (site : Site) (kind level : ℕ) : Type 0 where
-  pub sited : Sited bytes used place site
+pub record Nested (bytes : List ℕ) (used place : ℕ) (block : List ℕ) (sheet : Sheet) (kind level : ℕ) : Type 0 where
+  pub opened-at : OpenedAt bytes used place sheet
   pub eleven : insert11 (sheetIn used bytes) place ≡ 0
   pub twelve : fault12 (map view (blockOf block)) ≡ 0
   pub thirteen : insert13 (sheetIn used bytes) place (map view (blockOf block)) ≡ 0
@@ -98,7 +98,7 @@ pub record Nested (bytes : List ℕ) (used place : ℕ) (block : List ℕ) (site
   pub kind-most : kind ≤ 9
   pub level-low : 2 ≤ level
   pub level-high : level ≤ 9
-  pub behind : site .part < place
+  pub behind : sheet .part < place
   pub place-high : place ≤ used / 84 + 1
 
 pub record InsertionReady (bytes : List ℕ) (used place : ℕ) (block : List ℕ) (c : Change) : Type 0 where
@@ -118,8 +118,8 @@ pub record CanTake (bytes : List ℕ) (used : ℕ) (c : Change) : Type 0 where
   pub fitting : Fitting c (length bytes)
 
 -- an item at the place, as it was read
-pub record Removable (bytes : List ℕ) (used place : ℕ) (site : Site) (item : Entry) : Type 0 where
-  pub sited : Sited bytes used place site
+pub record Removable (bytes : List ℕ) (used place : ℕ) (sheet : Sheet) (item : Entry) : Type 0 where
+  pub opened-at : OpenedAt bytes used place sheet
   pub eleven : remove11 (sheetIn used bytes) place ≡ 0
   pub kind-is : item .kind ≡ countIndex ((getD ((sheetIn used bytes) .body) (bodyPlace (sheetIn used bytes) place) absent) .kind)
   pub level-is : item .level ≡ (getD ((sheetIn used bytes) .body) (bodyPlace (sheetIn used bytes) place) absent) .level
@@ -127,7 +127,7 @@ pub record Removable (bytes : List ℕ) (used place : ℕ) (site : Site) (item :
   pub kind-most : item .kind ≤ 9
   pub level-low : 2 ≤ item .level
   pub level-high : item .level ≤ 9
-  pub behind : site .part < place
+  pub behind : sheet .part < place
   pub data-inside : place + item .«data_records» ≤ used / 84
 
 pub record RemovalReady (bytes : List ℕ) (used place : ℕ) (c : Change) : Type 0 where

@@ -3,17 +3,16 @@ ghost use mathlib.Core.Path.{_≡_};
 ghost use mathlib.Core.List.{[]};
 ghost use Prim.Native.Nat.{_-_};
 ghost use lib.ListN.{getD};
-ghost use Rattle.format.specs.Judge.{AcceptedSheet};
 ghost use Rattle.records.specs.Entry.{entryOf};
 ghost use Rattle.files.specs.Records.{recordsOf};
 ghost use Rattle.files.specs.declared.Stride.the-variants.{Plain};
-ghost use Rattle.edit.specs.Plans.{Sited, HasAbove, AboveRead, Nested, Removable, InsertionPlanned, RemovalPlanned};
+ghost use Rattle.edit.specs.Plans.{OpenedAt, HasAbove, AboveRead, Nested, Removable, InsertionPlanned, RemovalPlanned};
 use super::counts;
 use super::counts::Change;
 use super::refusals;
 use files::Stride;
 use format::Block;
-use format::Judged;
+use judge::Sheet;
 use records::Entry;
 
 // Bytes of a record.
@@ -25,16 +24,6 @@ const MOST: usize = 200000;
 pub(crate) enum Plan {
     Refuse(u8, usize),
     Store(Change),
-}
-
-// An accepted sheet at a place: the records of its sheet part and its items; the data records still due there, the open level there, and the last
-// header of each level before it, counted from 1 in the body, 0 for none.
-struct Site {
-    part: usize,
-    items: usize,
-    due: usize,
-    opened: usize,
-    headers: [usize; 9],
 }
 
 // The header above an item, by its index in the file, and what it states: its total, and its count of the item's kind.
@@ -51,23 +40,6 @@ fn less(n: usize, by: usize) -> usize
     if n < by { 0 } else { n - by }
 }
 
-fn site_at(buffer: &[u8], used: usize, place: usize) -> Site
-    requires { ⌜ AcceptedSheet used (now buffer) ⌝ }
-    ensures { λ r. ⌜ Sited (now (buffer .entry)) used place r ⌝ }
-{
-    let file = &buffer[..used];
-    let part = part_and_index::sheet_part(file);
-    let here = places::locate(file, part.length, less(less(place, part.length), 1));
-    let headers = here.headers;
-    Site {
-        part: part.length,
-        items: part.elements,
-        due: here.due,
-        opened: here.opened,
-        headers,
-    }
-}
-
 // The header or item at an index; all 0 where there is none.
 fn entry_at(file: &[u8], index: usize) -> Entry
     ensures { λ r. ⌜ r ≡ entryOf (getD (recordsOf Plain (now (file .entry))) index []) ⌝ }
@@ -76,13 +48,13 @@ fn entry_at(file: &[u8], index: usize) -> Entry
 }
 
 // The header above an item of a level, by the last header of each level.
-fn header_above(file: &[u8], site: Site, level: usize, kind: usize) -> Above
-    requires { ⌜ HasAbove (now file) site level kind ⌝ }
-    ensures { λ r. ⌜ AboveRead (now (file .entry)) site level kind r ⌝ }
+fn header_above(file: &[u8], sheet: Sheet, level: usize, kind: usize) -> Above
+    requires { ⌜ HasAbove (now file) sheet level kind ⌝ }
+    ensures { λ r. ⌜ AboveRead (now (file .entry)) sheet level kind r ⌝ }
 {
-    let headers = site.headers;
+    let headers = sheet.headers;
     let above = level - 1;
-    let header = site.part + headers[above] - 1;
+    let header = headers[above] - 1;
     let record = files::record_at(file, Stride::Plain, header);
     Above {
         header,
@@ -95,16 +67,16 @@ fn header_above(file: &[u8], site: Site, level: usize, kind: usize) -> Above
 fn counted_in(
     buffer: &[u8],
     used: usize,
-    site: Site,
+    sheet: Sheet,
     place: usize,
     block: &[u8],
     kind: usize,
     level: usize,
 ) -> Plan
-    requires { ⌜ Nested (now buffer) used place (now block) site kind level ⌝ }
+    requires { ⌜ Nested (now buffer) used place (now block) sheet kind level ⌝ }
     ensures { λ r. ⌜ InsertionPlanned (now (buffer .entry)) used place (now (block .entry)) r ⌝ }
 {
-    let above = header_above(&buffer[..used], site, level, kind);
+    let above = header_above(&buffer[..used], sheet, level, kind);
     let length = block.len();
     let records = length / RECORD;
     let fault = refusals::room(
@@ -123,88 +95,82 @@ fn counted_in(
         kind,
         total: above.total + 1,
         count: above.count + 1,
-        elements: site.items + 1,
-        records: used / RECORD - site.part + records,
+        elements: sheet.items + 1,
+        records: used / RECORD - sheet.part + records,
         start: RECORD * (place - 1),
         length,
     })
 }
 
 // An item at the place: the counts of one item less.
-fn counted_out(buffer: &[u8], used: usize, site: Site, place: usize, item: Entry) -> Plan
-    requires { ⌜ Removable (now buffer) used place site item ⌝ }
+fn counted_out(buffer: &[u8], used: usize, sheet: Sheet, place: usize, item: Entry) -> Plan
+    requires { ⌜ Removable (now buffer) used place sheet item ⌝ }
     ensures { λ r. ⌜ RemovalPlanned (now (buffer .entry)) used place r ⌝ }
 {
-    let above = header_above(&buffer[..used], site, item.level, item.kind);
+    let above = header_above(&buffer[..used], sheet, item.level, item.kind);
     let records = item.data_records + 1;
     Plan::Store(Change {
         header: above.header,
         kind: item.kind,
         total: less(above.total, 1),
         count: less(above.count, 1),
-        elements: less(site.items, 1),
-        records: used / RECORD - site.part - records,
+        elements: less(sheet.items, 1),
+        records: used / RECORD - sheet.part - records,
         start: RECORD * (place - 1),
         length: RECORD * records,
     })
 }
 
 // An insertion into an accepted sheet: 11 to 13, then `counted_in`.
-fn insertion_in_sheet(buffer: &[u8], used: usize, site: Site, place: usize, block: &[u8]) -> Plan
-    requires { ⌜ Sited (now buffer) used place site ⌝ }
+fn insertion_in_sheet(buffer: &[u8], used: usize, sheet: Sheet, place: usize, block: &[u8]) -> Plan
+    requires { ⌜ OpenedAt (now buffer) used place sheet ⌝ }
     ensures { λ r. ⌜ InsertionPlanned (now (buffer .entry)) used place (now (block .entry)) r ⌝ }
 {
-    if !refusals::is_place(site.part, used / RECORD + 1, site.due, place) {
+    if !refusals::is_place(sheet.part, used / RECORD + 1, sheet.due, place) {
         return Plan::Refuse(refusals::NO_PLACE, 0);
     }
     let Block::Item(kind, level) = edit_block::read_block(block) else {
         return Plan::Refuse(refusals::NO_ITEM, 0);
     };
     let next = entry_at(&buffer[..used], place - 1);
-    if !refusals::nests(site.opened, level, next.level) {
+    if !refusals::nests(sheet.opened, level, next.level) {
         return Plan::Refuse(refusals::WRONG_LEVEL, 0);
     }
-    counted_in(buffer, used, site, place, block, kind, level)
+    counted_in(buffer, used, sheet, place, block, kind, level)
 }
 
 // A removal from an accepted sheet: 11, then `counted_out`.
-fn removal_in_sheet(buffer: &[u8], used: usize, site: Site, place: usize) -> Plan
-    requires { ⌜ Sited (now buffer) used place site ⌝ }
+fn removal_in_sheet(buffer: &[u8], used: usize, sheet: Sheet, place: usize) -> Plan
+    requires { ⌜ OpenedAt (now buffer) used place sheet ⌝ }
     ensures { λ r. ⌜ RemovalPlanned (now (buffer .entry)) used place r ⌝ }
 {
-    if !refusals::is_place(site.part, used / RECORD, site.due, place) {
+    if !refusals::is_place(sheet.part, used / RECORD, sheet.due, place) {
         return Plan::Refuse(refusals::NO_PLACE, 0);
     }
     let item = entry_at(&buffer[..used], place - 1);
     if item.kind == 0 {
         return Plan::Refuse(refusals::NO_PLACE, 0);
     }
-    counted_out(buffer, used, site, place, item)
+    counted_out(buffer, used, sheet, place, item)
 }
 
 // Judges first; a refusal of judging is the answer.
 pub(crate) fn insertion(buffer: &[u8], used: usize, place: usize, block: &[u8]) -> Plan
     ensures { λ r. ⌜ InsertionPlanned (now (buffer .entry)) used place (now (block .entry)) r ⌝ }
 {
-    let judged = judge::judge_sheet(buffer, used);
-    match judged {
-        Judged::Accepted(_, _) => {
-            let site = site_at(buffer, used, place);
-            insertion_in_sheet(buffer, used, site, place, block)
-        }
-        Judged::Refused(number, at) => Plan::Refuse(number, at),
+    let sheet = judge::open_sheet(buffer, used, less(place, 1));
+    if sheet.fault != 0 {
+        return Plan::Refuse(sheet.fault, sheet.at);
     }
+    insertion_in_sheet(buffer, used, sheet, place, block)
 }
 
 pub(crate) fn removal(buffer: &[u8], used: usize, place: usize) -> Plan
     ensures { λ r. ⌜ RemovalPlanned (now (buffer .entry)) used place r ⌝ }
 {
-    let judged = judge::judge_sheet(buffer, used);
-    match judged {
-        Judged::Accepted(_, _) => {
-            let site = site_at(buffer, used, place);
-            removal_in_sheet(buffer, used, site, place)
-        }
-        Judged::Refused(number, at) => Plan::Refuse(number, at),
+    let sheet = judge::open_sheet(buffer, used, less(place, 1));
+    if sheet.fault != 0 {
+        return Plan::Refuse(sheet.fault, sheet.at);
     }
+    removal_in_sheet(buffer, used, sheet, place)
 }

@@ -1,6 +1,7 @@
 -- `counted_in` refuses by 14 and 15, or raises the counts. Assumes nothing.
-use Rattle.edit.proofs.Sites.{used-inside}
-use Rattle.edit.proofs.Insertion.{above-there, full, stored}
+use Rattle.edit.proofs.OpenedAt.{used-inside}
+use Rattle.edit.proofs.Insertion.{above-there, full, few-then, stored}
+use native.Mathlib.Omega.{arith}
 use borrow.Author.Needs.{needs}
 use Rattle.edit.proofs.plans.counted_in.Statement.{statement}
 use Rattle.edit.proofs.plans.counted_in.Tie as tie
@@ -36,7 +37,11 @@ sub-t19 : tie.Need-sub-t19
 sub-t19 c = search needs
 
 add-t20 : tie.Need-add-t20
-add-t20 c = search needs
+add-t20 c =
+    let tested = c .before .before .before .before in
+    let aimed = tested .before .before in
+    let start = aimed .before .before .before .before in
+    omega (arith, few-then (start .args .buffer .now) (start .args .used) (start .args .place) (start .args .block .now) (start .args .sheet) (start .args .kind) (start .args .level) (start .pre) _ (aimed .header-above .ensures) _ (tested .before .room .ensures) (tested .if1 .left))
 
 sub-t21 : tie.Need-sub-t21
 sub-t21 c = search needs
@@ -49,7 +54,7 @@ returns-2 c =
     let tested = c .before .before .before .before in
     let aimed = tested .before .before in
     let start = aimed .before .before .before .before in
-    stored (start .args .buffer .now) (start .args .used) (start .args .place) (start .args .block .now) (start .args .site) (start .args .kind) (start .args .level) (start .pre) _ (aimed .header-above .ensures) _ (tested .before .room .ensures) (tested .if1 .left)
+    stored (start .args .buffer .now) (start .args .used) (start .args .place) (start .args .block .now) (start .args .sheet) (start .args .kind) (start .args .level) (start .pre) _ (aimed .header-above .ensures) _ (tested .before .room .ensures) (tested .if1 .left)
 
 pub counted-in-spec : {M : Type 1} → statement M
 counted-in-spec =

@@ -1,5 +1,5 @@
 -- `counted_out` lowers the counts. Assumes nothing.
-use Rattle.edit.proofs.Sites.{used-inside}
+use Rattle.edit.proofs.OpenedAt.{used-inside}
 use Rattle.edit.proofs.Removal.{above-there, stored}
 use borrow.Author.Needs.{needs}
 use Rattle.edit.proofs.plans.counted_out.Statement.{statement}

@@ -1,5 +1,5 @@
 -- `entry_at` answers what the record states. Assumes nothing.
-use Rattle.edit.proofs.Sites.{entry-read}
+use Rattle.edit.proofs.OpenedAt.{entry-read}
 use borrow.Author.Needs.{needs}
 use Rattle.edit.proofs.plans.entry_at.Statement.{statement}
 use Rattle.edit.proofs.plans.entry_at.Tie as tie

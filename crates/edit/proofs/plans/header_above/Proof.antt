@@ -1,5 +1,5 @@
 -- `header_above` answers what the header states. Assumes nothing.
-use Rattle.edit.proofs.Sites.{header-wide, above-read}
+use Rattle.edit.proofs.OpenedAt.{header-wide, above-read}
 use borrow.Author.Needs.{needs}
 use Rattle.edit.proofs.plans.header_above.Statement.{statement}
 use Rattle.edit.proofs.plans.header_above.Tie as tie
@@ -12,9 +12,6 @@ mul-header c = search needs
 
 array-read-header : tie.Need-array-read-header
 array-read-header c = search needs
-
-add-header : tie.Need-add-header
-add-header c = search needs
 
 sub-header : tie.Need-sub-header
 sub-header c = search needs
@@ -38,7 +35,6 @@ header-above-spec =
     sub-above
     mul-header
     array-read-header
-    add-header
     sub-header
     record-at-requires
     stated-total-requires

@@ -1,5 +1,5 @@
 -- `insertion_in_sheet` refuses by 11 to 13, or hands on a block that nests. Assumes nothing.
-use Rattle.edit.proofs.Sites.{used-inside}
+use Rattle.edit.proofs.OpenedAt.{used-inside}
 use Rattle.edit.proofs.Insertion.{no-place, place-some, no-item, level-some, wrong-level, nested}
 use borrow.Author.Needs.{needs}
 use Rattle.edit.proofs.plans.insertion_in_sheet.Statement.{statement}
@@ -48,7 +48,7 @@ counted-in-requires c κs =
     let told = known .before .before in
     let placed = told .before in
     let start = placed .before .before .before .before in
-    nested (start .args .buffer .now) (start .args .used) (start .args .place) (start .args .site) (start .pre) (start .args .block .now) _ (placed .before .is-place .ensures) (placed .if1 .left) _ (told .read-block .ensures) _ _ (known .kind .given .1) _ (entered .entry-at .ensures) _ (c .before .nests .ensures) (c .if2 .left)
+    nested (start .args .buffer .now) (start .args .used) (start .args .place) (start .args .sheet) (start .pre) (start .args .block .now) _ (placed .before .is-place .ensures) (placed .if1 .left) _ (told .read-block .ensures) _ _ (known .kind .given .1) _ (entered .entry-at .ensures) _ (c .before .nests .ensures) (c .if2 .left)
 
 returns-4 : tie.Need-returns-4
 returns-4 c = search needs

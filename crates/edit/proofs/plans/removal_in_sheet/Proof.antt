@@ -1,5 +1,5 @@
 -- `removal_in_sheet` refuses by 11, or hands on the item. Assumes nothing.
-use Rattle.edit.proofs.Sites.{used-inside}
+use Rattle.edit.proofs.OpenedAt.{used-inside}
 use Rattle.edit.proofs.Removal.{no-place, place-some, at-header, removable}
 use borrow.Author.Needs.{needs}
 use Rattle.edit.proofs.plans.removal_in_sheet.Statement.{statement}
