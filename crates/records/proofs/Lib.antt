@@ -8,4 +8,3 @@ pub mod Plain
 pub mod Entries
 pub mod DataFaults
 pub mod Laws
-pub mod Outlined

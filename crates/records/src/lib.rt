@@ -5,19 +5,16 @@ ghost use Prim.Native.Nat.{_<_};
 ghost use lib.ListN.{length};
 ghost use Rattle.format.specs.Record.{typeOf, countIn, notes, dataFault};
 ghost use Rattle.records.specs.Entry.{entryOf, dataFaultOf, statesCounts};
-ghost use Rattle.records.specs.Outline.{outlineOf};
 ghost use Rattle.records.specs.Steps.{codeOf};
 
 mod data;
 mod items;
-mod outlines;
 mod reading;
 mod rules;
 
 pub use items::Entry;
 use layouts::DataNote;
 use layouts::Header;
-pub use outlines::Outline;
 
 // What an item's data records hold: so many points in 3D or 2D, triangles or heights; a note; attributes.
 pub enum Held {
@@ -79,24 +76,6 @@ pub fn entry(record: &[u8]) -> Entry
         TypeCode::Grid => items::grid_entry(record),
         TypeCode::Net => items::net_entry(record),
         TypeCode::Other => items::refused(4),
-    }
-}
-
-// The kind, level and data records of a header or an item, with no fault looked for: where its record is known to have none. A malformed or
-// negative column counts as 0.
-pub fn outline(record: &[u8]) -> Outline
-    ensures { λ r. ⌜ r ≡ outlineOf (now («record» .entry)) ⌝ }
-{
-    if record.len() != 84 {
-        return outlines::no_outline();
-    }
-    let code = read_type(record);
-    match code {
-        TypeCode::Header => outlines::header_outline(record),
-        TypeCode::Element(number) => outlines::element_outline(record, number),
-        TypeCode::Grid => outlines::grid_outline(record),
-        TypeCode::Net => outlines::net_outline(record),
-        TypeCode::Other => outlines::no_outline(),
     }
 }
 
