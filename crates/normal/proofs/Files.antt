@@ -28,6 +28,9 @@ use Rattle.records.specs.declared.Held.{Held}
 use Rattle.records.specs.declared.Held.the-variants as Held
 use Rattle.records.specs.Entry.{toData, entryOf}
 use Rattle.records.proofs.Laws.{entry-counted, entry-data-records, entry-held, fault-at}
+use Rattle.files.specs.declared.Stride.the-variants.{Plain}
+use Rattle.files.specs.Records.{strideOf}
+use Rattle.files.proofs.StageOne.{plain-length, Whole, length-passes}
 use Rattle.part_and_index.specs.declared.due.Due.the-variants.{SheetA, IndexA}
 use Rattle.part_and_index.specs.Due as Part
 use Rattle.part_and_index.specs.Due.{dueIn, dueAt}
@@ -175,10 +178,8 @@ accepted-body (fault n r) a counts e = let x : _≡_ {A = ℕ} 0 1 = cc in absur
 
 -- "used length .. above the buffer, not a multiple of 84" is refused
 stage-one : (used : ℕ) (buffer : List ℕ) → stageOneOk used buffer ≡ true → (used ≤ length buffer) × (used % 84 ≡ 0)
-stage-one used buffer h =
-    let p = and-true (ltb 0 used && leb used (length buffer) && eqb (used % 84) 0) (leb used (84 * 200000)) h in
-    let q = and-true (ltb 0 used && leb used (length buffer)) (eqb (used % 84) 0) (p .0) in
-    (leb-true used (length buffer) (and-true (ltb 0 used) (leb used (length buffer)) (q .0) .1), eqb-true (used % 84) 0 (q .1))
+unfolding strideOf
+stage-one used buffer h = let w : Whole Plain used buffer = length-passes Plain used buffer (plain-length used buffer ∙ h) in (w .inside, w .whole)
 
 accepted-room : (used : ℕ) (buffer : List ℕ) (a : Answer Judge.Counts) (counts : Judge.Counts) → Judge.afterStageOne (stageOneOk used buffer) a ≡ given counts → (used ≤ length buffer) × (used % 84 ≡ 0)
 accepted-room used buffer a counts e = stage-one used buffer (accepted-twice (stageOneOk used buffer) a counts e .0)

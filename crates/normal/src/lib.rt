@@ -2,12 +2,13 @@
 ghost use mathlib.Core.Path.{_≡_};
 ghost use mathlib.Core.List.{_++_};
 ghost use Prim.Native.Nat.{_+_, _*_, _/_, _%_, _≤_};
-ghost use lib.ListN.{length, drop};
+ghost use lib.ListN.{length, take, drop};
 ghost use Rattle.format.specs.Basics.{chunks, flat};
 ghost use Rattle.format.specs.Normal.{normalRecord, normalSheet, normalIndex};
 ghost use Rattle.format.specs.Answers.{writtenAnswer};
 ghost use Rattle.normal.specs.Due.{letterColumns, partColumns, columnsDue, rewritten, writtenTo};
 use due::FileDue;
+use files::Stride;
 use format::Judged;
 use format::Written;
 use part_and_index::Due;
@@ -74,6 +75,25 @@ fn copy(source: &[u8], target: &mut [u8])
     }
 }
 
+// One record, copied and then written again.
+fn write_record(source: &[u8], due: FileDue, target: &mut [u8])
+    requires { ⌜ (length (now source) ≡ 84) × (length (now target) ≡ 84) ⌝ }
+    ensures { λ r. ⌜ now (target .exit) ≡ normalRecord (columnsDue due (now (source .entry))) (now (source .entry)) ⌝ }
+{
+    copy(source, target);
+    rewrite_due(target, due);
+}
+
+// The same at record k of the second buffer, counted from 0.
+fn write_at(source: &[u8], due: FileDue, second: &mut [u8], k: usize)
+    requires { ⌜ (length (now source) ≡ 84) × (84 * (k + 1) ≤ length (now second)) ⌝ }
+    ensures { λ r. ⌜ now (second .exit) ≡ take (84 * k) (now (second .entry)) ++ (normalRecord (columnsDue due (now (source .entry))) (now (source .entry)) ++ drop (84 * (k + 1)) (now (second .entry))) ⌝ }
+{
+    let start = files::RECORD * k;
+    let end = start + files::RECORD;
+    write_record(source, due, &mut second[start..end]);
+}
+
 // The records of the buffer, n of them, to the second one, from the record that is due first.
 fn write_records(buffer: &[u8], n: usize, first: FileDue, second: &mut [u8])
     requires { ⌜ (84 * n ≤ length (now buffer)) × (84 * n ≤ length (now second)) ⌝ }
@@ -82,22 +102,11 @@ fn write_records(buffer: &[u8], n: usize, first: FileDue, second: &mut [u8])
     let mut due = first;
     let mut k = 0;
     while k < n {
-        let start = files::RECORD * k;
-        let end = start + files::RECORD;
-        let record = &buffer[start..end];
-        write_record(record, due, &mut second[start..end]);
+        let record = files::record_at(buffer, Stride::Plain, k);
+        write_at(record, due, second, k);
         due = due::due_after(due, record);
         k += 1;
     }
-}
-
-// One record, copied and then written again.
-fn write_record(source: &[u8], due: FileDue, target: &mut [u8])
-    requires { ⌜ (length (now source) ≡ 84) × (length (now target) ≡ 84) ⌝ }
-    ensures { λ r. ⌜ now (target .exit) ≡ normalRecord (columnsDue due (now (source .entry))) (now (source .entry)) ⌝ }
-{
-    copy(source, target);
-    rewrite_due(target, due);
 }
 
 // An accepted file: "writes to a second buffer (else 15)".

@@ -18,7 +18,7 @@ use Rattle.part_and_index.specs.declared.due.Due.the-variants.{SheetA, S
 use Rattle.part_and_index.specs.declared.progress.Progress.{Progress}
 use Rattle.part_and_index.specs.Due.{dueBehind, dueAfter}
 use Rattle.part_and_index.specs.Faults.{faultOfSheetA, faultOfSheetB, faultOfSheetD, faultOfSheetE, faultOfIndexA, cornersOf}
-use Rattle.part_and_index.specs.Progress.{phaseBy, phaseOf, stageBy, stageOf, faultOf, put, saidA, saidB, saidE, said, stepped}
+use Rattle.part_and_index.specs.Progress.{phaseBy, phaseOf, stageBy, stageOf, faultOf, put, saidA, saidB, overE, said, stepped}
 use Rattle.part_and_index.proofs.FaultLaws.{number-there, columns-first, c-unjudged, index-b-unjudged}
 
 -- ---- what records a, b and e say
@@ -31,7 +31,7 @@ module _ (r : List ℕ) (p q : Progress) (f : ℕ) (next : Due) (is : q ≡ put 
   unfolding numberAt find sheetB statedElements statedRecords
   b-said wide e unit eu wholes ew elements ee records er = rw (is, eu, ew, ee, er, number-there r 44 3 wide (omega arith) (omega arith), number-there r 31 6 wide (omega arith) (omega arith), number-there r 37 7 wide (omega arith) (omega arith), e)
 
-  pub e-said : (fractions : List ℤ) → fractions ≡ fractionsOf r → f ≡ faultOfSheetE (p .unit) (p .wholes) fractions r → (corners : List ℤ) → corners ≡ cornersOf (p .unit) (p .wholes) fractions → record { fault = q .fault; due = q .due; level = q .level; unit = q .unit; wholes = q .wholes; elements = q .elements; records = q .records; corners = corners } ≡ saidE r (put p (faultOfSheetE (p .unit) (p .wholes) (fractionsOf r) r) next)
+  pub e-said : (fractions : List ℤ) → fractions ≡ fractionsOf r → f ≡ faultOfSheetE (p .unit) (p .wholes) fractions r → (corners : List ℤ) → corners ≡ cornersOf (p .unit) (p .wholes) fractions → record { fault = q .fault; due = q .due; level = q .level; unit = q .unit; wholes = q .wholes; elements = q .elements; records = q .records; corners = corners } ≡ overE r p next
   e-said fractions ef e corners ec = rw (is, ec, e, ef)
 
 -- ---- `step`
@@ -76,7 +76,7 @@ module _ (p : Progress) (r : List ℕ) (q : Progress) where
     unfolding faultOfSheetD
     step-sheet-d sets e f ef h = sheet-is (SheetD sets) e refl f ef h
 
-    pub step-sheet-e : (fs sets : ℕ) → p .due ≡ SheetE fs sets → q ≡ saidE r (put p (faultOfSheetE (p .unit) (p .wholes) (fractionsOf r) r) next) → q ≡ stepped p r
+    pub step-sheet-e : (fs sets : ℕ) → p .due ≡ SheetE fs sets → q ≡ overE r p next → q ≡ stepped p r
     unfolding faultOfSheetE
     step-sheet-e fs sets e h = sheet-is (SheetE fs sets) e refl (faultOfSheetE (p .unit) (p .wholes) (fractionsOf r) r) refl h
 

@@ -14,7 +14,7 @@ use Rattle.part_and_index.specs.declared.due.Due.the-variants.{SheetA, S
 use Rattle.part_and_index.specs.declared.progress.Progress.{Progress}
 use Rattle.part_and_index.specs.declared.SheetPart.{SheetPart}
 use Rattle.part_and_index.specs.Due.{dueBehind, isOver}
-use Rattle.part_and_index.specs.Faults.{cornersOf}
+use Rattle.part_and_index.specs.Faults.{faultOfSheetE, cornersOf}
 use Rattle.part_and_index.specs.Result.{refusedPart}
 
 -- ---- where a progress stands
@@ -72,6 +72,10 @@ saidB r p = record { fault = p .fault; due = p .due; level = p .level; unit = nu
 
 abbrev pub saidE : List ℕ → Progress → Progress
 saidE r p = record { fault = p .fault; due = p .due; level = p .level; unit = p .unit; wholes = p .wholes; elements = p .elements; records = p .records; corners = cornersOf (p .unit) (p .wholes) (Sheet.fractionsOf r) }
+
+-- an e record's fault and corners, with what is due next: its fractions serve both
+abbrev pub overE : List ℕ → Progress → Due → Progress
+overE r p next = saidE r (put p (faultOfSheetE (p .unit) (p .wholes) (Sheet.fractionsOf r) r) next)
 
 abbrev pub said : Due → List ℕ → Progress → Progress
 said SheetA r p = saidA r p

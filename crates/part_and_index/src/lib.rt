@@ -46,6 +46,7 @@ fn refused(fault: u8, at: usize) -> SheetPart
     }
 }
 
+// Nothing is due any more behind so many records.
 fn passed(progress: Progress, records: usize) -> SheetPart
     ensures { λ r. ⌜ r ≡ passedPart progress records ⌝ }
 {

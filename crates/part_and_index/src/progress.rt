@@ -1,9 +1,8 @@
 // Judging the records of a sheet part, or of an index, one after the other: what is due and what the records said so far, kept by value, and one record more.
 ghost use mathlib.Core.Path.{_≡_};
 ghost use lib.ListN.{length};
-ghost use Rattle.part_and_index.specs.Faults.{faultOfSheetA, faultOfSheetB, faultOfSheetE};
-ghost use Rattle.part_and_index.specs.Progress.{started, put, saidA, saidB, saidE, stepped};
-ghost use Rattle.format.specs.Sheet.{fractionsOf};
+ghost use Rattle.part_and_index.specs.Faults.{faultOfSheetA, faultOfSheetB};
+ghost use Rattle.part_and_index.specs.Progress.{started, put, saidA, saidB, overE, stepped};
 use super::due;
 use super::due::Due;
 use super::faults;
@@ -97,7 +96,7 @@ fn step_b(progress: Progress, record: &[u8], next: Due) -> Progress
 // Record e of a sheet, with what is due next.
 fn step_e(progress: Progress, record: &[u8], next: Due) -> Progress
     requires { ⌜ length (now «record») ≡ 84 ⌝ }
-    ensures { λ r. ⌜ r ≡ saidE (now («record» .entry)) (put progress (faultOfSheetE (progress .unit) (progress .wholes) (fractionsOf (now («record» .entry))) (now («record» .entry))) next) ⌝ }
+    ensures { λ r. ⌜ r ≡ overE (now («record» .entry)) progress next ⌝ }
 {
     let unit = progress.unit;
     let wholes = progress.wholes;
