@@ -2,10 +2,10 @@
 -- sheet part. Private functions cite it; that it ends in the normal form of an accepted file is shown in proofs/Files. Assumes nothing.
 use mathlib.Core.Bool.{cond}
 use mathlib.Core.List.{List, [], _∷_, _++_}
-use Prim.Native.Nat.{ℕ, zero, suc}
+use Prim.Native.Nat.{ℕ, zero, suc, _+_, _*_, _/_}
 use lib.Dec.{eqb, leb}
-use lib.ListN.{length, drop, getD}
-use Rattle.format.specs.Basics.{given, refused, Outcome, flat}
+use lib.ListN.{length, take, drop, getD}
+use Rattle.format.specs.Basics.{given, refused, Outcome, chunks, flat}
 use Rattle.format.specs.Layout.{Col, indexA, indexB, indexC, sheetA, sheetB, sheetC, sheetD, sheetE, sheetF, header, element, gridHeader, netHeader}
 use Rattle.format.specs.Record.{dataColumns}
 use Rattle.format.specs.Normal.{normalRecord}
@@ -76,3 +76,11 @@ writtenTo used records second =
     cond (leb used (length second))
     (record { answer = given used; bytes = flat records ++ drop used second })
     (record { answer = refused 15 0; bytes = second })
+
+-- the second buffer with a record at place k, counted from 0
+abbrev pub putAt : (k : ℕ) → (bytes second : List ℕ) → List ℕ
+putAt k bytes second = take (84 * k) second ++ (bytes ++ drop (84 * (k + 1)) second)
+
+-- the file in the first `used` bytes of a buffer so written, from the record that is due first
+abbrev pub fileTo : (used : ℕ) → FileDue → (buffer second : List ℕ) → Outcome ℕ
+fileTo used first buffer second = writtenTo used (rewritten first (chunks (used / 84) buffer)) second

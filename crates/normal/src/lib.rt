@@ -1,12 +1,12 @@
 // The normal form of a sheet file and of an index file: the same file with every judged integer in written form, in a second buffer.
 ghost use mathlib.Core.Path.{_≡_};
 ghost use mathlib.Core.List.{_++_};
-ghost use Prim.Native.Nat.{_+_, _*_, _/_, _%_, _≤_};
-ghost use lib.ListN.{length, take, drop};
+ghost use Prim.Native.Nat.{_+_, _*_, _%_, _≤_};
+ghost use lib.ListN.{length, drop};
 ghost use Rattle.format.specs.Basics.{chunks, flat};
 ghost use Rattle.format.specs.Normal.{normalRecord, normalSheet, normalIndex};
 ghost use Rattle.format.specs.Answers.{writtenAnswer};
-ghost use Rattle.normal.specs.Due.{letterColumns, partColumns, columnsDue, rewritten, writtenTo};
+ghost use Rattle.normal.specs.Due.{letterColumns, partColumns, columnsDue, rewritten, putAt, fileTo};
 use due::FileDue;
 use files::Stride;
 use format::Judged;
@@ -87,7 +87,7 @@ fn write_record(source: &[u8], due: FileDue, target: &mut [u8])
 // The same at record k of the second buffer, counted from 0.
 fn write_at(source: &[u8], due: FileDue, second: &mut [u8], k: usize)
     requires { ⌜ (length (now source) ≡ 84) × (84 * (k + 1) ≤ length (now second)) ⌝ }
-    ensures { λ r. ⌜ now (second .exit) ≡ take (84 * k) (now (second .entry)) ++ (normalRecord (columnsDue due (now (source .entry))) (now (source .entry)) ++ drop (84 * (k + 1)) (now (second .entry))) ⌝ }
+    ensures { λ r. ⌜ now (second .exit) ≡ putAt k (normalRecord (columnsDue due (now (source .entry))) (now (source .entry))) (now (second .entry)) ⌝ }
 {
     let start = files::RECORD * k;
     let end = start + files::RECORD;
@@ -112,7 +112,7 @@ fn write_records(buffer: &[u8], n: usize, first: FileDue, second: &mut [u8])
 // An accepted file: "writes to a second buffer (else 15)".
 fn write_file(buffer: &[u8], used: usize, first: FileDue, second: &mut [u8]) -> Written
     requires { ⌜ (used ≤ length (now buffer)) × (used % 84 ≡ 0) ⌝ }
-    ensures { λ r. ⌜ record { answer = writtenAnswer r; bytes = now (second .exit) } ≡ writtenTo used (rewritten first (chunks (used / 84) (now (buffer .entry)))) (now (second .entry)) ⌝ }
+    ensures { λ r. ⌜ record { answer = writtenAnswer r; bytes = now (second .exit) } ≡ fileTo used first (now (buffer .entry)) (now (second .entry)) ⌝ }
 {
     if second.len() < used {
         return Written::Refused(15, 0);
