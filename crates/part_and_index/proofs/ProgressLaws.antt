@@ -16,7 +16,7 @@ use Rattle.layout_faults.specs.Faults.{faultIn}
 use Rattle.part_and_index.specs.declared.due.Due.{Due}
 use Rattle.part_and_index.specs.declared.due.Due.the-variants.{SheetA, SheetB, SheetC, SheetD, SheetE, SheetF, IndexA, IndexB, IndexC, Over}
 use Rattle.part_and_index.specs.declared.progress.Progress.{Progress}
-use Rattle.part_and_index.specs.Due.{dueBehind, dueAfter}
+use Rattle.part_and_index.specs.Due.{dueBehind}
 use Rattle.part_and_index.specs.Faults.{faultOfSheetA, faultOfSheetB, faultOfSheetD, faultOfSheetE, faultOfIndexA, cornersOf}
 use Rattle.part_and_index.specs.Progress.{phaseBy, phaseOf, stageBy, stageOf, faultOf, put, saidA, saidB, overE, said, stepped}
 use Rattle.part_and_index.proofs.FaultLaws.{number-there, columns-first, c-unjudged, index-b-unjudged}
@@ -44,11 +44,7 @@ module _ (p : Progress) (r : List ℕ) (q : Progress) where
   unfolding stepped
   no-whole h e = e ∙ rw (ne-eqb (length r) 84 h)
 
-  module _ (wide : length r ≡ 84) (next : Due) (en : next ≡ dueAfter (p .due) r) where
-    next-is : next ≡ dueBehind (p .due) r
-    unfolding dueAfter
-    next-is = en ∙ rw (eq-eqb (length r) 84 wide)
-
+  module _ (wide : length r ≡ 84) (next : Due) (next-is : next ≡ dueBehind (p .due) r) where
     whole : said (p .due) r (put p (faultOf p r) (dueBehind (p .due) r)) ≡ stepped p r
     unfolding stepped
     whole = rw (eq-eqb (length r) 84 wide)

@@ -69,7 +69,7 @@ fn due_b(b_records: usize, c_records: usize) -> Due
 }
 
 // What is due behind a whole record.
-fn due_behind(due: Due, record: &[u8]) -> Due
+pub(crate) fn due_behind(due: Due, record: &[u8]) -> Due
     requires { ⌜ length (now «record») ≡ 84 ⌝ }
     ensures { λ r. ⌜ r ≡ dueBehind due (now («record» .entry)) ⌝ }
 {

@@ -119,7 +119,7 @@ pub fn step(progress: Progress, record: &[u8]) -> Progress
     if record.len() != files::RECORD {
         return put(progress, 1, due);
     }
-    let next = due::due_after(due, record);
+    let next = due::due_behind(due, record);
     match due {
         Due::SheetA => step_a(progress, record, next),
         Due::SheetB(_) => step_b(progress, record, next),

@@ -10,8 +10,8 @@ put-requires c κs = search needs
 returns : tie.Need-returns
 returns c = search no-whole
 
-due-after-requires : tie.Need-due-after-requires
-due-after-requires c κs = search needs
+due-behind-requires : tie.Need-due-behind-requires
+due-behind-requires c κs = search needs
 
 enum-told : tie.Need-enum-told
 enum-told c = search needs
@@ -121,7 +121,7 @@ step-spec =
     (tie.spec
     put-requires
     returns
-    due-after-requires
+    due-behind-requires
     enum-told
     step-a-requires
     enum-told-2
