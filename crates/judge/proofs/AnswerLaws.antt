@@ -9,9 +9,9 @@ use native.Mathlib.Numerals.{add-one}
 use lib.Dec.{eqb}
 use lib.ListN.{length, take, getD, replicate}
 use lib.Seq.{ext-getD}
-use Rattle.format.specs.Basics.{Answer, refused, Fault, none, orElse, toFault, first, unless}
+use Rattle.format.specs.Basics.{Fault, none, orElse, toFault, first, unless}
 use Rattle.format.specs.Record.{View}
-use Rattle.format.specs.Judge.{Counts, File, items, accepted, countFault, bodyFault, verdict, judge, dueAfter, isHeaderAt}
+use Rattle.format.specs.Judge.{File, items, accepted, countFault, bodyFault, verdict, judge, dueAfter, isHeaderAt}
 use Rattle.format.specs.Edit.{lastHeader}
 use Rattle.format.specs.Above.{lastStart}
 use Rattle.part_and_index.specs.declared.SheetPart.{SheetPart}
@@ -19,8 +19,8 @@ use Rattle.judge.specs.declared.Extent.{Extent}
 use Rattle.judge.specs.declared.Seen.{Seen}
 use Rattle.judge.specs.declared.Sheet.{Sheet}
 use Rattle.judge.specs.declared.WalkedBody.{WalkedBody}
-use Rattle.judge.specs.Walks.{Room, viewsFrom, faultFrom, entries, wrongAt, upTo, seenNone, SeenUpTo, Body, bodyOf, wrongSheetOf, Stands}
-use Rattle.judge.specs.Sheet.{values, startBefore, headerBefore, refusedSheet, acceptedSheet, sheetFor}
+use Rattle.judge.specs.Walks.{Room, viewsFrom, faultFrom, entries, wrongAt, upTo, seenNone, SeenUpTo, Body, bodyOf, wrongSheetOf, Stands, standingSheet, WholeBody, bodySheet}
+use Rattle.judge.specs.Sheet.{values, startBefore, headerBefore, refusedSheet, sheetFor}
 use Rattle.judge.proofs.Steps.{views-end}
 use Rattle.judge.proofs.PlaceLaws.{length-views}
 
@@ -75,14 +75,14 @@ begin-seen s k e = rw e (record { few = omega arith; nine = refl })
 pub begun-body : (file : List ℕ) (x : Extent) (k begun : ℕ) (s : Seen) (w : WalkedBody) → begun ≡ k → s ≡ seenNone begun → Body file x begun 0 s w → Body file x k 0 (seenNone k) w
 begun-body file x k begun s w begins none-seen walked = rw begins at (subst (λ (s : Seen). Body file x begun 0 s w) none-seen walked)
 
-module _ (file : List ℕ) (x : Extent) (room : Room file x) (part : SheetPart) (w : WalkedBody) (b : Body file x (part .length) 0 (seenNone (part .length)) w) where
+module _ (file : List ℕ) (x : Extent) (room : Room file x) (part : SheetPart) (w : WalkedBody) (b : WholeBody file x part w) where
   abbrev f : File
   f = bodyOf file x part
 
   abbrev body : List View
   body = viewsFrom file x (part .length)
 
-  pub answers-fault : (r : Sheet) → (w .number ≡ 0 → ⊥) → r ≡ refusedSheet (w .number) (w .at) → r ≡ sheetFor (judge f) (part .unit) (part .corners) f (x .before)
+  pub answers-fault : (r : Sheet) → (w .number ≡ 0 → ⊥) → r ≡ refusedSheet (w .number) (w .at) → r ≡ bodySheet file x part
   unfolding judge
   answers-fault r ne e = e ∙ rw (b .fails ne)
 
@@ -133,7 +133,7 @@ module _ (file : List ℕ) (x : Extent) (room : Room file x) (part : SheetPart) 
           rw (no-fault, items-are, length-views file x room (part .length), wrong-is)
           (ap (λ (f : Fault). orElse f (wrongAt (w .low))) (wrong-sheet (eqb (part .elements) (w .seen .items) && eqb (part .records) (x .records - part .length)) ∙ ap wrongAt (sym of)) ∙ wrong-first sheet (w .low) ∙ ap wrongAt (sym first-is))
 
-      pub answers-count : (r : Sheet) → (low ≡ 0 → ⊥) → r ≡ refusedSheet 10 low → r ≡ sheetFor (judge f) (part .unit) (part .corners) f (x .before)
+      pub answers-count : (r : Sheet) → (low ≡ 0 → ⊥) → r ≡ refusedSheet 10 low → r ≡ bodySheet file x part
       unfolding judge
       answers-count r ne e = e ∙ rw body-fault (there low ne)
         where
@@ -151,5 +151,5 @@ module _ (file : List ℕ) (x : Extent) (room : Room file x) (part : SheetPart) 
         pub stands : Stands file x part (w .seen)
         stands = record { judged = judged; start-is = start-found; headers-are = headers-found }
 
-        pub answers-sheet : (r : Sheet) → r ≡ acceptedSheet (w .seen .items) (part .unit) (part .corners) f (x .before) → r ≡ sheetFor (judge f) (part .unit) (part .corners) f (x .before)
+        pub answers-sheet : (r : Sheet) → r ≡ standingSheet file x part (w .seen) → r ≡ bodySheet file x part
         answers-sheet r e = e ∙ rw judged

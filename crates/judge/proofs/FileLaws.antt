@@ -24,15 +24,15 @@ use Rattle.part_and_index.specs.declared.Fault.{Fault}
 use Rattle.part_and_index.proofs.Laws.{SoundPart, sound-part, refused-part, sound-index, refused-index}
 use Rattle.judge.specs.declared.Extent.{Extent}
 use Rattle.judge.specs.declared.Sheet.{Sheet}
-use Rattle.judge.specs.Walks.{Room, viewsFrom, bodyOf}
-use Rattle.judge.specs.Sheet.{refusedSheet, sheetFor, openedSheet, sheetOf}
+use Rattle.judge.specs.Walks.{Room, viewsFrom, bodyOf, bodySheet}
+use Rattle.judge.specs.Sheet.{refusedSheet, sheetFor, recordsSheet, sheetOf}
 
 -- ---- behind stage one: the sheet part, then the body
 module _ (stride : Stride) (file : List ℕ) (part : SheetPart) (found : part ≡ sheetPartOf (recordsOf stride file)) where
   abbrev rs : List (List ℕ)
   rs = recordsOf stride file
 
-  pub part-refused : (before : ℕ) (r : Sheet) → (part .fault ≡ 0 → ⊥) → r ≡ refusedSheet (part .fault) (part .at) → r ≡ openedSheet (judgeRecords rs) rs before
+  pub part-refused : (before : ℕ) (r : Sheet) → (part .fault ≡ 0 → ⊥) → r ≡ refusedSheet (part .fault) (part .at) → r ≡ recordsSheet rs before
   unfolding judgeRecords
   part-refused before r ne e = e ∙ rw (refused-part rs part found ne)
 
@@ -58,7 +58,7 @@ module _ (stride : Stride) (file : List ℕ) (part : SheetPart) (found : part �
     unfolding viewsFrom
     file-is = λ i. record { partLength = sound .length-is i; statedElements = sound .elements-is i; statedRecords = sound .records-is i; body = map view (drop (sound .length-is i) rs) }
 
-    pub file-body : (r : Sheet) → r ≡ sheetFor (judge (bodyOf file x part)) (part .unit) (part .corners) (bodyOf file x part) before → r ≡ openedSheet (judgeRecords rs) rs before
+    pub file-body : (r : Sheet) → r ≡ bodySheet file x part → r ≡ recordsSheet rs before
     unfolding judgeRecords
     file-body r e =
         e
@@ -92,9 +92,9 @@ module _ (used : ℕ) (buffer : List ℕ) (ok : Bool) (of : ok ≡ lengthOk Plai
     same-records : recordsOf Plain (take used buffer) ≡ chunks (used / 84) buffer
     same-records = front-records used buffer (whole .inside)
 
-    pub sheet-opened : (before : ℕ) (r : Sheet) → r ≡ openedSheet (judgeRecords (recordsOf Plain (take used buffer))) (recordsOf Plain (take used buffer)) before → r ≡ sheetOf used buffer before
+    pub sheet-opened : (before : ℕ) (r : Sheet) → r ≡ recordsSheet (recordsOf Plain (take used buffer)) before → r ≡ sheetOf used buffer before
     unfolding sheetOf judgeSheet
-    sheet-opened before r e = e ∙ ap (λ (rs : List (List ℕ)). openedSheet (judgeRecords rs) rs before) same-records ∙ rw passes
+    sheet-opened before r e = e ∙ ap (λ (rs : List (List ℕ)). recordsSheet rs before) same-records ∙ rw passes
 
     -- an index
     module _ (answer : Fault) (found : answer ≡ indexFaultOf (recordsOf Plain (take used buffer))) where

@@ -2,26 +2,26 @@
 use mathlib.Core.Path.{_≡_, refl, ap, sym, _∙_}
 use mathlib.Core.Bool.{Bool, true, false}
 use mathlib.Core.List.{List, [], _∷_}
-use Prim.Native.Nat.{ℕ, zero, suc, _+_, _-_, _*_, _/_, _%_, _≤_, _<_}
+use Prim.Native.Nat.{ℕ, zero, suc, _+_, _-_, _*_, _/_, _≤_, _<_}
 use native.Mathlib.Omega.{arith}
 use native.Mathlib.Nat.{zero-add}
-use lib.ListN.{length, take, getD, drop, length-map, length-drop}
-use lib.Seq.{length-take-le, getD-drop}
-use Rattle.format.specs.Basics.{Answer, given, refused, Fault, none, fault, orElse, toFault, fine, chunks, stageOneOk}
+use lib.ListN.{length, take, getD, drop, length-drop}
+use lib.Seq.{getD-drop}
+use Rattle.format.specs.Basics.{Answer, given, refused, Fault, none, fault, orElse, toFault, chunks, stageOneOk}
 use Rattle.format.specs.Record.{Data, View, view, nothing}
 use Rattle.format.specs.Layout.{numberAt, sheetB}
 use Rattle.format.specs.Sheet.{corners, sheetFault, partLength, statedElements, statedRecords}
-use Rattle.format.specs.Judge.{Counts, File, fileOf, walk, missing, faultAt, openAfter, dueAfter, heldAfter, ownerAfter, countFault, headersAndItems, headerCountFault, sheetCountFault, bodyFault, items, accepted, verdict, judge, afterPart, judgeRecords, afterStageOne, judgeSheet}
-use Rattle.format.specs.Edit.{absent, dueBehind, openBehind}
+use Rattle.format.specs.Judge.{Counts, File, fileOf, walk, missing, faultAt, openAfter, dueAfter, heldAfter, ownerAfter, countFault, headersAndItems, headerCountFault, sheetCountFault, bodyFault, items, accepted, verdict, judge, afterPart, judgeRecords, afterStageOne, judgeSheet, sheetIn, AcceptedSheet}
+use Rattle.format.specs.Edit.{absent, dueBehind, openBehind, bodyPlace}
 use Rattle.format.specs.Answers.{judgedAnswer}
 use Rattle.format.specs.declared.Judged.the-variants.{Accepted, Refused}
-use Rattle.format.proofs.JudgeAccepted.{Ok, accepted-ok, ok-accepted}
+use Rattle.format.proofs.JudgeAccepted.{Ok, ok-accepted}
+use Rattle.format.proofs.AcceptedSheet as Accepted
+use Rattle.format.proofs.AcceptedSheet.{inside, body-judged, held, length-records, whole, sheet-two, sheet-inside, length-body, elements-are, records-are}
 use Rattle.format.proofs.Lists.{length-chunks, wide-chunks, wide-get}
-use Rattle.format.proofs.SheetCounts.{theLaws}
 use Rattle.files.specs.declared.Stride.the-variants.{Plain}
-use Rattle.files.specs.Records.{strideOf, recordsOf}
+use Rattle.files.specs.Records.{recordsOf}
 use Rattle.files.proofs.Records.{front-records}
-use Rattle.files.proofs.StageOne.{plain-length, Whole, length-passes}
 use Rattle.part_and_index.specs.Result.{sheetPartOf}
 use Rattle.part_and_index.proofs.Laws.{sound-part}
 use Rattle.judge.specs.declared.Sheet.{Sheet}
@@ -93,62 +93,45 @@ records-some rs = go (sheetFault rs) (part-some rs _ refl)
     go (fault number at) p = p
 
 -- ---- THE SHEET in the first `used` bytes of a buffer
-module _ (used : ℕ) (buffer : List ℕ) where
-  abbrev pub records : List (List ℕ)
-  records = chunks (used / 84) buffer
-
-  abbrev pub sheet : File
-  sheet = fileOf (chunks (used / 84) buffer)
-
-  sheet-some : SomeRefusal (judgeSheet used buffer)
-  unfolding SomeRefusal judgeSheet
-  sheet-some = go (stageOneOk used buffer)
-    where
-      go : (t : Bool) → SomeRefusal (afterStageOne t (judgeRecords (chunks (used / 84) buffer)))
-      go true = records-some (chunks (used / 84) buffer)
-      go false = λ z. omega arith
-
-  -- one that is accepted passes each stage
-  stages : (counts : Counts) → judgeSheet used buffer ≡ given counts → (stageOneOk used buffer ≡ true) × (sheetFault (chunks (used / 84) buffer) ≡ none) × (judge (fileOf (chunks (used / 84) buffer)) ≡ given counts)
-  unfolding judgeSheet judgeRecords
-  stages counts = go (stageOneOk used buffer) (sheetFault (chunks (used / 84) buffer))
-    where
-      go : (t : Bool) (f : Fault) → afterStageOne t (afterPart f (judge (fileOf (chunks (used / 84) buffer)))) ≡ given counts → (t ≡ true) × (f ≡ none) × (judge (fileOf (chunks (used / 84) buffer)) ≡ given counts)
-      go true none e = (refl, refl, e)
-      go true (fault number at) e = let z : _≡_ {A = ℕ} 0 1 = cc in absurd (omega arith)
-      go false f e = let z : _≡_ {A = ℕ} 0 1 = cc in absurd (omega arith)
+sheet-some : (used : ℕ) (buffer : List ℕ) → SomeRefusal (judgeSheet used buffer)
+unfolding SomeRefusal judgeSheet
+sheet-some used buffer = go (stageOneOk used buffer)
+  where
+    go : (t : Bool) → SomeRefusal (afterStageOne t (judgeRecords (chunks (used / 84) buffer)))
+    go true = records-some (chunks (used / 84) buffer)
+    go false = λ z. omega arith
 
 abbrev recordsIn : Answer Counts → ℕ
 recordsIn (given counts) = counts .records
 recordsIn (refused number at) = 0
 
-abbrev itemsIn : Answer Counts → ℕ
-itemsIn (given counts) = counts .items
-itemsIn (refused number at) = 0
+-- judging counts its records
+all-records : (used : ℕ) (buffer : List ℕ) (a : AcceptedSheet used buffer) → a .counts .records ≡ used / 84
+all-records used buffer a = ap recordsIn (sym (body-judged a) ∙ ok-accepted (sheetIn used buffer) (held a .ok)) ∙ omega (arith, length-body a, sheet-inside a, length-records a)
 
 -- what fault 0 says of an opened sheet `s`; `f` are its sheet part and body
 pub record Opened (used : ℕ) (buffer : List ℕ) (before : ℕ) (s : Sheet) : Type 0 where
   pub judged : judgeSheet used buffer ≡ accepted (used / 84) (s .items)
-  pub ok : Ok (sheet used buffer)
+  pub ok : Ok (sheetIn used buffer)
   pub used-inside : used ≤ length buffer
   pub used-records : used ≡ 84 * (used / 84)
-  pub body-length : length ((sheet used buffer) .body) ≡ used / 84 - s .part
-  pub part-is : s .part ≡ partLength (records used buffer)
+  pub body-length : length ((sheetIn used buffer) .body) ≡ used / 84 - s .part
+  pub part-is : s .part ≡ partLength (chunks (used / 84) buffer)
   pub inside : s .part ≤ used / 84
   pub two : 2 ≤ s .part
-  pub elements-are : s .items ≡ statedElements (getD (records used buffer) 1 [])
-  pub records-are : used / 84 - s .part ≡ statedRecords (getD (records used buffer) 1 [])
-  pub unit-is : s .unit ≡ numberAt sheetB "unit" (getD (records used buffer) 1 [])
-  pub corners-are : s .corners ≡ corners (records used buffer)
-  pub due-is : s .due ≡ dueBehind 0 (bodyBefore (sheet used buffer) before)
-  pub opened-is : s .opened ≡ openBehind 0 0 (bodyBefore (sheet used buffer) before)
-  pub start-is : s .start ≡ startBefore (sheet used buffer) before
-  pub header-is : (level : ℕ) → level ≤ 8 → getD (s .headers) level 0 ≡ headerBefore (sheet used buffer) before level
+  pub elements-are : s .items ≡ statedElements (getD (chunks (used / 84) buffer) 1 [])
+  pub records-are : used / 84 - s .part ≡ statedRecords (getD (chunks (used / 84) buffer) 1 [])
+  pub unit-is : s .unit ≡ numberAt sheetB "unit" (getD (chunks (used / 84) buffer) 1 [])
+  pub corners-are : s .corners ≡ corners (chunks (used / 84) buffer)
+  pub due-is : s .due ≡ dueBehind 0 (bodyBefore (sheetIn used buffer) before)
+  pub opened-is : s .opened ≡ openBehind 0 0 (bodyBefore (sheetIn used buffer) before)
+  pub start-is : s .start ≡ startBefore (sheetIn used buffer) before
+  pub header-is : (level : ℕ) → level ≤ 8 → getD (s .headers) level 0 ≡ headerBefore (sheetIn used buffer) before level
 
 module _ (used : ℕ) (buffer : List ℕ) (before : ℕ) (s : Sheet) (is : s ≡ sheetOf used buffer before) where
-  by : (answer : Answer Counts) → judgeSheet used buffer ≡ answer → s ≡ openedSheet answer (records used buffer) before
+  by : (answer : Answer Counts) → judgeSheet used buffer ≡ answer → s ≡ openedSheet answer (chunks (used / 84) buffer) before
   unfolding sheetOf
-  by answer e = is ∙ ap (λ (a : Answer Counts). openedSheet a (records used buffer) before) e
+  by answer e = is ∙ ap (λ (a : Answer Counts). openedSheet a (chunks (used / 84) buffer) before) e
 
   pub sheet-refused-is : (s .fault ≡ 0 → ⊥) → judgeSheet used buffer ≡ refused (s .fault) (s .at)
   sheet-refused-is ne = go (judgeSheet used buffer) refl
@@ -158,62 +141,62 @@ module _ (used : ℕ) (buffer : List ℕ) (before : ℕ) (s : Sheet) (is : s ≡
       go (refused number at) e = e ∙ rw (by (refused number at) e)
 
   pub opened-sheet : s .fault ≡ 0 → Opened used buffer before s
-  unfolding SomeRefusal strideOf
+  unfolding SomeRefusal
   opened-sheet z = go (judgeSheet used buffer) refl (sheet-some used buffer)
     where
       given-opened : (counts : Counts) → judgeSheet used buffer ≡ given counts → Opened used buffer before s
       given-opened counts e =
-          let fields : s ≡ openedSheet (given counts) (records used buffer) before = by (given counts) e in
-          let st = stages used buffer counts e in
-          let first-stage : Whole Plain used buffer = length-passes Plain used buffer (plain-length used buffer ∙ st .0) in
-          let multiple : used % 84 ≡ 0 = first-stage .whole in
-          let ok : Ok (sheet used buffer) = accepted-ok (sheet used buffer) (counts .records) (counts .items) (st .2) in
-          let long : length ((sheet used buffer) .body) ≡ used / 84 - partLength (records used buffer) = length-map (drop (partLength (records used buffer)) (records used buffer)) view ∙ length-drop (partLength (records used buffer)) (records used buffer) ∙ rw (length-chunks (used / 84) buffer) in
-          let same : given counts ≡ accepted (partLength (records used buffer) + length ((sheet used buffer) .body)) (items (headersAndItems 0 ((sheet used buffer) .body))) = sym (st .2) ∙ ok-accepted (sheet used buffer) ok in
-          let in-it : partLength (records used buffer) ≤ used / 84 = omega (arith, theLaws .inside (records used buffer) (ap fine (st .1)), length-chunks (used / 84) buffer) in
-          let part : s .part ≡ partLength (records used buffer) = ap (λ (r : Sheet). r .part) fields in
+          let fields : s ≡ openedSheet (given counts) (chunks (used / 84) buffer) before = by (given counts) e in
+          let a : AcceptedSheet used buffer = record { counts = counts; judged = e } in
+          let part : s .part ≡ partLength (chunks (used / 84) buffer) = ap (λ (r : Sheet). r .part) fields in
           let found : s .items ≡ counts .items = ap (λ (r : Sheet). r .items) fields in
-          let all : counts .records ≡ used / 84 = ap recordsIn same ∙ omega arith in
-          let some : counts .items ≡ items (headersAndItems 0 ((sheet used buffer) .body)) = ap itemsIn same in
           record {
-            judged = e ∙ rw (found, ← all);
-            ok = ok;
-            used-inside = first-stage .inside;
-            used-records = omega (arith, multiple);
-            body-length = long ∙ rw part;
+            judged = e ∙ rw (found, ← all-records used buffer a);
+            ok = held a .ok;
+            used-inside = inside a;
+            used-records = whole a ∙ rw (length-records a);
+            body-length = length-body a ∙ rw part;
             part-is = part;
-            inside = omega (arith, part);
-            two = omega (arith, part, theLaws .two (records used buffer) (ap fine (st .1)));
-            elements-are = found ∙ some ∙ sym (ok .statedElements);
-            records-are = omega (arith, part, long, ok .statedRecords);
+            inside = omega (arith, part, sheet-inside a, length-records a);
+            two = omega (arith, part, sheet-two a);
+            elements-are = found ∙ sym (elements-are a);
+            records-are = sym (records-are a ∙ rw part);
             unit-is = ap (λ (r : Sheet). r .unit) fields;
             corners-are = ap (λ (r : Sheet). r .corners) fields;
             due-is = ap (λ (r : Sheet). r .due) fields;
             opened-is = ap (λ (r : Sheet). r .opened) fields;
             start-is = ap (λ (r : Sheet). r .start) fields;
-            header-is = λ level h. ap (λ (r : Sheet). getD (r .headers) level 0) fields ∙ getD-values 9 0 (headerBefore (sheet used buffer) before) level (omega arith) ∙ ap (headerBefore (sheet used buffer) before) (zero-add level);
+            header-is = λ level h. ap (λ (r : Sheet). getD (r .headers) level 0) fields ∙ getD-values 9 0 (headerBefore (sheetIn used buffer) before) level (omega arith) ∙ ap (headerBefore (sheetIn used buffer) before) (zero-add level);
           }
 
       go : (answer : Answer Counts) → judgeSheet used buffer ≡ answer → SomeRefusal answer → Opened used buffer before s
       go (given counts) e p = given-opened counts e
       go (refused number at) e p = absurd (p (sym (ap (λ (r : Sheet). r .fault) (by (refused number at) e)) ∙ z))
 
-  -- its bytes are those of the records
+  -- one notion of an accepted sheet
   module _ (o : Opened used buffer before s) where
-    pub used-length : used ≡ length (take used buffer)
-    used-length = sym (length-take-le used buffer (o .used-inside))
+    pub accepted-is : AcceptedSheet used buffer
+    accepted-is = record { counts = record { records = used / 84; items = s .items }; judged = o .judged }
 
-    pub file-records : recordsOf Plain (take used buffer) ≡ records used buffer
+    -- its bytes are those of the records
+    pub used-length : used ≡ length (take used buffer)
+    used-length = Accepted.used-length accepted-is
+
+    pub file-records : recordsOf Plain (take used buffer) ≡ chunks (used / 84) buffer
     file-records = front-records used buffer (o .used-inside)
 
-    pub body-at : (i : ℕ) → s .part + i < used / 84 → getD ((sheet used buffer) .body) i absent ≡ view (getD (records used buffer) (s .part + i) [])
+    pub body-at : (i : ℕ) → s .part + i < used / 84 → getD ((sheetIn used buffer) .body) i absent ≡ view (getD (chunks (used / 84) buffer) (s .part + i) [])
     body-at i h =
-        let part = partLength (records used buffer) in
-        getD-views (drop part (records used buffer)) i (rw (length-drop part (records used buffer), length-chunks (used / 84) buffer) (omega (arith, o .part-is)))
-        ∙ ap view (getD-drop part (records used buffer) i [] ∙ rw (o .part-is))
+        let part = partLength (chunks (used / 84) buffer) in
+        getD-views (drop part (chunks (used / 84) buffer)) i (rw (length-drop part (chunks (used / 84) buffer), length-chunks (used / 84) buffer) (omega (arith, o .part-is)))
+        ∙ ap view (getD-drop part (chunks (used / 84) buffer) i [] ∙ rw (o .part-is))
 
-    pub record-wide : (k : ℕ) → k < used / 84 → length (getD (records used buffer) k []) ≡ 84
-    record-wide k h = wide-get k (records used buffer) (wide-chunks (used / 84) buffer (omega (arith, o .used-inside))) (rw (length-chunks (used / 84) buffer) h)
+    pub record-wide : (k : ℕ) → k < used / 84 → length (getD (chunks (used / 84) buffer) k []) ≡ 84
+    record-wide k h = wide-get k (chunks (used / 84) buffer) (wide-chunks (used / 84) buffer (omega (arith, o .used-inside))) (rw (length-chunks (used / 84) buffer) h)
+
+-- a place by its record number, as edits have it, stands behind one record less
+pub before-place : (f : File) (place : ℕ) → bodyBefore f (place - 1) ≡ take (bodyPlace f place) (f .body)
+before-place f place = let e : place - 1 - f .partLength ≡ place - suc (f .partLength) = omega arith in ap (λ (n : ℕ). take n (f .body)) e
 
 -- ---- the verdict alone
 module _ (used : ℕ) (buffer : List ℕ) (s : Sheet) (is : s ≡ sheetOf used buffer 0) where

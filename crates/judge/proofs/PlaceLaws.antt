@@ -6,13 +6,13 @@ use Prim.Native.Nat.{ℕ, zero, suc, pred, _+_, _-_, _^_, _≤_, _<_}
 use native.Mathlib.Omega.{arith}
 use borrow.Author.Tests.{ltb-true, ltb-false, le-leb, ne-eqb}
 use lib.Dec.{eqb, ltb}
-use lib.ListN.{length, take, drop, getD, length-append, length-drop, length-map, take-append-drop}
+use lib.ListN.{length, drop, getD, length-append, length-drop, length-map, take-append-drop}
 use lib.Seq.{length-take-le, take-all, getD-drop, getD-append-seam}
 use Rattle.format.specs.Record.{Kind, head, item, neither, View, view, nothing, countIndex}
-use Rattle.format.specs.Judge.{File, accepted, judge, dueOf, openOf, dueAfter}
+use Rattle.format.specs.Judge.{dueOf, openOf, dueAfter}
 use Rattle.format.specs.Edit.{absent, dueBehind, openBehind}
 use Rattle.format.specs.Above.{lastStart}
-use Rattle.format.proofs.JudgeWalks.{Passes, Good, dueBehind-append, openBehind-append}
+use Rattle.format.proofs.JudgeWalks.{Good, dueBehind-append, openBehind-append}
 use Rattle.format.proofs.JudgeAccepted.{accepted-ok}
 use Rattle.format.proofs.AboveWayUp.{Owner, owner, r-good}
 use Rattle.files.specs.Records.{recordsOf}
@@ -23,8 +23,8 @@ use Rattle.part_and_index.specs.declared.SheetPart.{SheetPart}
 use Rattle.judge.specs.declared.Extent.{Extent}
 use Rattle.judge.specs.declared.Seen.{Seen}
 use Rattle.judge.specs.declared.Sheet.{Sheet}
-use Rattle.judge.specs.Walks.{Room, recordAt, viewsFrom, bodyOf, dueOfEntry, openOfEntry, placeIn, sheetWith, Stands}
-use Rattle.judge.specs.Sheet.{bodyBefore, acceptedSheet}
+use Rattle.judge.specs.Walks.{Room, recordAt, viewsFrom, bodyOf, dueOfEntry, openOfEntry, placeIn, sheetWith, Stands, standingSheet}
+use Rattle.judge.specs.Sheet.{bodyBefore}
 use Rattle.judge.proofs.Steps.{wide-at}
 use Rattle.judge.proofs.Ends.{from-one}
 
@@ -94,19 +94,16 @@ module _ (file : List ℕ) (x : Extent) (room : Room file x) (k : ℕ) where
 
 -- ---- an accepted sheet
 module _ (file : List ℕ) (x : Extent) (room : Room file x) (part : SheetPart) (inside : part .length ≤ x .records) (s : Seen) (st : Stands file x part s) where
-  abbrev f : File
-  f = bodyOf file x part
-
   abbrev body : List View
   body = viewsFrom file x (part .length)
 
   abbrev front : List View
   front = bodyBefore (bodyOf file x part) (x .before)
 
-  same-sheet : (due opened : ℕ) → due ≡ dueBehind 0 front → opened ≡ openBehind 0 0 front → sheetWith part due opened s ≡ acceptedSheet (s .items) (part .unit) (part .corners) f (x .before)
+  same-sheet : (due opened : ℕ) → due ≡ dueBehind 0 front → opened ≡ openBehind 0 0 front → sheetWith part due opened s ≡ standingSheet file x part s
   same-sheet due opened d o = λ i. record { fault = 0; at = 0; items = s .items; part = part .length; unit = part .unit; corners = part .corners; due = d i; opened = o i; start = st .start-is i; headers = st .headers-are i }
 
-  pub none-stands : (r : Sheet) → s .start ≤ part .length → r ≡ sheetWith part 0 0 s → r ≡ acceptedSheet (s .items) (part .unit) (part .corners) f (x .before)
+  pub none-stands : (r : Sheet) → s .start ≤ part .length → r ≡ sheetWith part 0 0 s → r ≡ standingSheet file x part s
   none-stands r h e = e ∙ same-sheet 0 0 (sym (ap (dueBehind 0) nothing-there)) (sym (ap (openBehind 0 0) nothing-there))
     where
       nothing-there : front ≡ []
@@ -134,7 +131,7 @@ module _ (file : List ℕ) (x : Extent) (room : Room file x) (part : SheetPart) 
     it-inside = omega (arith, length-views file x room (part .length), simp length-append at (ap length body-is))
 
     well : Good (openBehind 0 0 (w .front)) (w .it)
-    well = r-good body ((accepted-ok f (x .records) (s .items) (st .judged)) .walks .0) (w .front) (w .it) (w .back ++ drop (x .before - part .length) body) body-is (w .closed)
+    well = r-good body ((accepted-ok (bodyOf file x part) (x .records) (s .items) (st .judged)) .walks .0) (w .front) (w .it) (w .back ++ drop (x .before - part .length) body) body-is (w .closed)
 
     it-reads : viewFault (w .it) ≡ 0
     unfolding viewFault
@@ -187,7 +184,7 @@ module _ (file : List ℕ) (x : Extent) (room : Room file x) (part : SheetPart) 
       pub end-fits : (due : ℕ) → due ≡ dueOfEntry e → length file < 2 ^ 64 → s .start + due < 2 ^ 64
       end-fits due of long = omega (arith, of, due-is, few, start-at, it-inside, room .few)
 
-      pub some-stands : (r : Sheet) (due beyond opened : ℕ) → due ≡ dueOfEntry e → beyond ≡ s .start + due - placeIn x → opened ≡ openOfEntry e → r ≡ sheetWith part beyond opened s → r ≡ acceptedSheet (s .items) (part .unit) (part .corners) f (x .before)
+      pub some-stands : (r : Sheet) (due beyond opened : ℕ) → due ≡ dueOfEntry e → beyond ≡ s .start + due - placeIn x → opened ≡ openOfEntry e → r ≡ sheetWith part beyond opened s → r ≡ standingSheet file x part s
       some-stands r due beyond opened of to op q = q ∙ same-sheet beyond opened (sym (due-behind front w ∙ beyond-is)) (op ∙ open-is ∙ sym (open-behind front w))
         where
           beyond-is : dueAfter 0 (w .it) - length (w .back) ≡ beyond

@@ -8,7 +8,7 @@ use Rattle.format.specs.Basics.{Answer, given, refused, chunks}
 use Rattle.format.specs.Record.{View}
 use Rattle.format.specs.Layout.{numberAt, sheetB}
 use Rattle.format.specs.Sheet.{corners}
-use Rattle.format.specs.Judge.{Counts, File, fileOf, judgeSheet}
+use Rattle.format.specs.Judge.{Counts, File, fileOf, judgeRecords, judgeSheet}
 use Rattle.format.specs.Edit.{dueBehind, openBehind, lastHeader}
 use Rattle.format.specs.Above.{lastStart}
 use Rattle.judge.specs.declared.Sheet.{Sheet}
@@ -54,6 +54,10 @@ sheetFor (refused number at) unit corners f before = refusedSheet number at
 -- by the answer of judging and the records: the unit that record 2 states, and the corners
 abbrev pub openedSheet : Answer Counts → List (List ℕ) → (before : ℕ) → Sheet
 openedSheet answer records before = sheetFor answer (numberAt sheetB "unit" (getD records 1 [])) (corners records) (fileOf records) before
+
+-- the sheet that a list of records is, and the place behind `before` of them
+abbrev pub recordsSheet : List (List ℕ) → (before : ℕ) → Sheet
+recordsSheet records before = openedSheet (judgeRecords records) records before
 
 -- the sheet file in the first `used` bytes of a buffer, and the place behind `before` of its records
 unfoldable pub sheetOf : (used : ℕ) → List ℕ → (before : ℕ) → Sheet

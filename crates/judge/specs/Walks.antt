@@ -20,7 +20,7 @@ use Rattle.judge.specs.declared.Walked.{Walked}
 use Rattle.judge.specs.declared.WalkedGroup.{WalkedGroup}
 use Rattle.judge.specs.declared.WalkedBody.{WalkedBody}
 use Rattle.judge.specs.declared.Sheet.{Sheet}
-use Rattle.judge.specs.Sheet.{values, startBefore, headerBefore}
+use Rattle.judge.specs.Sheet.{values, startBefore, headerBefore, acceptedSheet, sheetFor}
 
 -- ---- The records of a file, which count from 0 here; record k has number k + 1
 -- the file has as many records as the walk is told
@@ -195,3 +195,13 @@ pub record Stands (file : List ℕ) (x : Extent) (part : SheetPart) (s : Seen) :
   pub judged : judge (bodyOf file x part) ≡ accepted (x .records) (s .items)
   pub start-is : s .start ≡ startBefore (bodyOf file x part) (x .before)
   pub headers-are : s .headers ≡ values 9 0 (headerBefore (bodyOf file x part) (x .before))
+
+abbrev pub standingSheet : List ℕ → Extent → SheetPart → Seen → Sheet
+standingSheet file x part s = acceptedSheet (s .items) (part .unit) (part .corners) (bodyOf file x part) (x .before)
+
+-- the walk of a whole body, behind the sheet part; what opening answers of it
+abbrev pub WholeBody : List ℕ → Extent → SheetPart → WalkedBody → Type 0
+WholeBody file x part w = Body file x (part .length) 0 (seenNone (part .length)) w
+
+abbrev pub bodySheet : List ℕ → Extent → SheetPart → Sheet
+bodySheet file x part = sheetFor (judge (bodyOf file x part)) (part .unit) (part .corners) (bodyOf file x part) (x .before)

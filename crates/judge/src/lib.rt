@@ -1,5 +1,6 @@
-// Judging a sheet file and an index file, in the three stages of document 01, and opening a sheet: the verdict with what stands before a place of it. The walk
-// of stage two also counts, so that stage three reads no more than each header's own counts, and keeps what stands before the place.
+// Judging a sheet file and an index file, in the three stages of document 01, and opening a sheet: the verdict with what stands before a place
+// of it. The walk of stage two also counts, so that stage three reads no more than each header's own counts, and keeps what stands before the
+// place.
 use files::Stride;
 use format::Judged;
 use part_and_index::SheetPart;
@@ -9,16 +10,18 @@ ghost use mathlib.Core.Path.{_≡_};
 ghost use Prim.Native.Nat.{_+_, _-_, _<_, _≤_};
 ghost use lib.ListN.{length};
 ghost use Rattle.format.specs.Basics.{first};
-ghost use Rattle.format.specs.Judge.{judge, judgeRecords, judgeSheet, judgeIndex};
+ghost use Rattle.format.specs.Judge.{judgeSheet, judgeIndex};
 ghost use Rattle.format.specs.Answers.{judgedAnswer};
 ghost use Rattle.files.specs.Records.{recordsOf};
 ghost use Rattle.records.specs.Entry.{toData, entryOf, dataFaultOf, statesCounts};
-ghost use Rattle.judge.specs.Walks.{Room, recordAt, lowestOf, highestOf, levelFits, entryFault, lastBefore, withHeader, SeenUpTo, passedOf, passedGroupOf, passedBodyOf, Item, HeaderAt, Child, Body, bodyOf, wrongSheetOf, dueOfEntry, openOfEntry, placeIn, sheetWith, Stands, seenNone};
-ghost use Rattle.judge.specs.Sheet.{refusedSheet, acceptedSheet, sheetFor, openedSheet, sheetOf};
+ghost use Rattle.judge.specs.Walks.{Room, recordAt, lowestOf, highestOf, levelFits, entryFault, lastBefore, seenNone, withHeader, SeenUpTo};
+ghost use Rattle.judge.specs.Walks.{passedOf, passedGroupOf, passedBodyOf, Item, HeaderAt, Child, Body, WholeBody, wrongSheetOf, bodySheet};
+ghost use Rattle.judge.specs.Walks.{dueOfEntry, openOfEntry, placeIn, sheetWith, Stands, standingSheet};
+ghost use Rattle.judge.specs.Sheet.{refusedSheet, recordsSheet, sheetOf};
 
-// An opened sheet: the fault, 0 for none, and its record; else how many items it has, how many records its sheet part, its unit and corners. Of a place of it: how many data records
-// are still due there, and the open level; and by their numbers in the file the last header or item before it and the last header of each level, the sheet part's
-// last record where there is none.
+// An opened sheet: the fault, 0 for none, and its record; else how many items it has, how many records its sheet part, its unit and corners.
+// Of a place of it: how many data records are still due there, and the open level; and by their numbers in the file the last header or item
+// before it and the last header of each level, the sheet part's last record where there is none.
 pub struct Sheet {
     pub fault: u8,
     pub at: usize,
@@ -39,8 +42,8 @@ struct Extent {
     before: usize,
 }
 
-// What a walk has seen so far: how many items; and of what stands before the place the last header or item, and the last header of each level, by their
-// numbers in the file.
+// What a walk has seen so far: how many items; and of what stands before the place the last header or item, and the last header of each level,
+// by their numbers in the file.
 struct Seen {
     items: usize,
     start: usize,
@@ -444,7 +447,7 @@ fn due_beyond(end: usize, extent: Extent) -> usize
 // The sheet that is accepted, with what its last header or item before the place says of it.
 fn at_place(file: &[u8], extent: Extent, part: SheetPart, seen: Seen) -> Sheet
     requires { ⌜ (Room (now file) extent) × (part .length ≤ extent .records) × (Stands (now file) extent part seen) ⌝ }
-    ensures { λ r. ⌜ r ≡ acceptedSheet (seen .items) (part .unit) (part .corners) (bodyOf (now (file .entry)) extent part) (extent .before) ⌝ }
+    ensures { λ r. ⌜ r ≡ standingSheet (now (file .entry)) extent part seen ⌝ }
 {
     if seen.start <= part.length {
         return accepted(part, 0, 0, seen);
@@ -467,8 +470,8 @@ fn seen_none(part: usize) -> Seen
 
 // Stage three of a body that passes stage two: the sheet's own counts, then those of its headers, lowest record first.
 fn stage_three(file: &[u8], extent: Extent, part: SheetPart, body: WalkedBody) -> Sheet
-    requires { ⌜ (Room (now file) extent) × (part .length ≤ extent .records) × (body .number ≡ 0) × (Body (now file) extent (part .length) 0 (seenNone (part .length)) body) ⌝ }
-    ensures { λ r. ⌜ r ≡ sheetFor (judge (bodyOf (now (file .entry)) extent part)) (part .unit) (part .corners) (bodyOf (now (file .entry)) extent part) (extent .before) ⌝ }
+    requires { ⌜ (Room (now file) extent) × (part .length ≤ extent .records) × (body .number ≡ 0) × (WholeBody (now file) extent part body) ⌝ }
+    ensures { λ r. ⌜ r ≡ bodySheet (now (file .entry)) extent part ⌝ }
 {
     let seen = body.seen;
     let sheet = wrong_sheet(part, seen.items, extent.records - part.length);
@@ -482,7 +485,7 @@ fn stage_three(file: &[u8], extent: Extent, part: SheetPart, body: WalkedBody) -
 // The body of a sheet, behind its sheet part: stage two, then stage three.
 fn open_body(file: &[u8], extent: Extent, part: SheetPart) -> Sheet
     requires { ⌜ (Room (now file) extent) × (part .length ≤ extent .records) ⌝ }
-    ensures { λ r. ⌜ r ≡ sheetFor (judge (bodyOf (now (file .entry)) extent part)) (part .unit) (part .corners) (bodyOf (now (file .entry)) extent part) (extent .before) ⌝ }
+    ensures { λ r. ⌜ r ≡ bodySheet (now (file .entry)) extent part ⌝ }
 {
     let first = begin(file, part.length);
     let body = walk_body(file, extent, first, 0, seen_none(first));
@@ -494,7 +497,7 @@ fn open_body(file: &[u8], extent: Extent, part: SheetPart) -> Sheet
 
 // A file of records at a stride, behind stage one: its sheet part, then its body.
 fn open_file(file: &[u8], stride: Stride, before: usize) -> Sheet
-    ensures { λ r. ⌜ r ≡ openedSheet (judgeRecords (recordsOf stride (now (file .entry)))) (recordsOf stride (now (file .entry))) before ⌝ }
+    ensures { λ r. ⌜ r ≡ recordsSheet (recordsOf stride (now (file .entry))) before ⌝ }
 {
     let part = part_and_index::sheet_part(file, stride);
     if part.fault != 0 {

@@ -1,15 +1,15 @@
 -- The way up in the code's own words, from an opened sheet. Assumes nothing.
-use mathlib.Core.Path.{_≡_, refl, ap, sym, _∙_}
+use mathlib.Core.Path.{_≡_, ap, sym, _∙_}
 use mathlib.Core.List.{List, []}
-use Prim.Native.Nat.{ℕ, zero, suc, pred, _+_, _-_, _/_, _^_, _≤_, _<_}
+use Prim.Native.Nat.{ℕ, pred, _+_, _-_, _/_, _≤_, _<_}
 use native.Mathlib.Omega.{arith}
 use mathlib.Core.Bool.{cond}
 use lib.Dec.{eqb}
 use borrow.Author.Tests.{le-ltb, lt-ltb, lt-leb, le-leb, ne-eqb}
 use lib.ListN.{length, take, getD}
-use Rattle.format.specs.Basics.{Answer, given}
+use Rattle.format.specs.Basics.{Answer, given, chunks}
 use Rattle.format.specs.Record.{View, view, nothing}
-use Rattle.format.specs.Judge.{Counts, File}
+use Rattle.format.specs.Judge.{Counts, File, sheetIn}
 use Rattle.format.specs.Edit.{absent, lastHeader}
 use Rattle.format.specs.Above.{own, levelAt, aboveAt, noHeader, toHeader, afterJudging, upFrom, up}
 use Rattle.format.specs.Answers.{wayUpAnswer}
@@ -40,13 +40,13 @@ module _ (used : ℕ) (buffer : List ℕ) (number : ℕ) (s : Sheet) (is : s ≡
     used-length = Opened.used-length used buffer number s is o
 
     abbrev sheet : File
-    sheet = Opened.sheet used buffer
+    sheet = sheetIn used buffer
 
     abbrev part : ℕ
-    part = (Opened.sheet used buffer) .partLength
+    part = (sheetIn used buffer) .partLength
 
     abbrev body : List View
-    body = (Opened.sheet used buffer) .body
+    body = (sheetIn used buffer) .body
 
     passes : Passes 0 0 nothing body
     passes = o .ok .walks .0
@@ -67,7 +67,7 @@ module _ (used : ℕ) (buffer : List ℕ) (number : ℕ) (s : Sheet) (is : s ≡
     -- ---- a record behind the sheet part
     module _ (behind : s .part < number) (inside : number ≤ used / 84) where
       abbrev at : ℕ
-      at = number - (Opened.sheet used buffer) .partLength
+      at = number - (sheetIn used buffer) .partLength
 
       low : 0 < at
       low = omega (arith, o .part-is)
@@ -97,11 +97,11 @@ module _ (used : ℕ) (buffer : List ℕ) (number : ℕ) (s : Sheet) (is : s ≡
         index-inside : s .start - 1 < used / 84
         index-inside = omega (arith, start-is, w .some, w .inside, o .part-is)
 
-        read-is : r ≡ getD (Opened.records used buffer) (s .start - 1) []
+        read-is : r ≡ getD (chunks (used / 84) buffer) (s .start - 1) []
         read-is = read ∙ ap (λ (rs : List (List ℕ)). getD rs (s .start - 1) []) (file-records used buffer number s is o)
 
         view-is : getD body (pred (own body at)) absent ≡ view r
-        view-is = body-at used buffer number s is o (pred (own body at)) (omega (arith, index-is, index-inside)) ∙ ap view (sym (read-is ∙ ap (λ (i : ℕ). getD (Opened.records used buffer) i []) index-is))
+        view-is = body-at used buffer number s is o (pred (own body at)) (omega (arith, index-is, index-inside)) ∙ ap view (sym (read-is ∙ ap (λ (i : ℕ). getD (chunks (used / 84) buffer) i []) index-is))
 
         wide : length r ≡ 84
         wide = ap length read-is ∙ record-wide used buffer number s is o (s .start - 1) index-inside

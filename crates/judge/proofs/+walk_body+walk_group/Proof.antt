@@ -6,7 +6,7 @@ use denote.Ref.{now}
 use Rattle.judge.proofs.BodyLaws.{Going, going, body-fault, body-ends, body-stops, Turn, turn-kind, turn-count, turn-items, turn-level, turn-header, group-stops, group-further, group-goes, item-stops, item-further, item-goes}
 use Rattle.judge.proofs.EntryLaws.{Sound, sound}
 use Rattle.judge.proofs.ChildLaws.{see-header-upto, group-fails, group-agrees, group-differs}
-use Prim.Native.Nat.{ℕ, _<_, _≤_, _+_, _-_, _*_}
+use Prim.Native.Nat.{ℕ, _<_, _+_, _-_, _*_}
 use borrow.Fn.Kinds.{In}
 use borrow.Fn.PlainCycle.{Measures, is, falls, and}
 use Rattle.judge.proofs.walk_body.Reads as walk-body
