@@ -8,7 +8,7 @@ mod ChildLaws
 mod BodyLaws
 mod ItemLaws
 mod SheetLaws
-mod PlaceLaws
+pub mod PlaceLaws
 mod AnswerLaws
 mod FileLaws
 pub mod Opened

@@ -66,6 +66,11 @@ some-before : (front : List View) → 0 < lastStart 0 1 0 front → 0 < length f
 some-before [] h = absurd (omega arith)
 some-before (r ∷ rs) h = omega arith
 
+-- ---- a header or an item that passes has no fault of its own
+pub good-reads : (opened : ℕ) (v : View) → Good opened v → viewFault v ≡ 0
+unfolding viewFault
+good-reads opened v well = rw (le-leb (countIndex (v .kind)) 9 (well .known), well .sound)
+
 -- ---- a header's and an item's data records and open level, by the kind
 due-by : (k : Kind) (n : ℕ) → cond (eqb (countIndex k) 0) 0 n ≡ dueOf k n
 due-by head n = refl
@@ -133,10 +138,6 @@ module _ (file : List ℕ) (x : Extent) (room : Room file x) (part : SheetPart) 
     well : Good (openBehind 0 0 (w .front)) (w .it)
     well = r-good body ((accepted-ok (bodyOf file x part) (x .records) (s .items) (st .judged)) .walks .0) (w .front) (w .it) (w .back ++ drop (x .before - part .length) body) body-is (w .closed)
 
-    it-reads : viewFault (w .it) ≡ 0
-    unfolding viewFault
-    it-reads = rw (le-leb (countIndex (w .it .kind)) 9 (well .known), well .sound)
-
     module _ (e : Entry) (is : e ≡ entryOf (recordAt file x (s .start - 1))) where
       abbrev own : List ℕ
       own = recordAt file x (part .length + length (w .front))
@@ -151,7 +152,7 @@ module _ (file : List ℕ) (x : Extent) (room : Room file x) (part : SheetPart) 
       view-is = sym (views-at file x room (part .length) (length (w .front)) it-inside) ∙ ap (λ (l : List View). getD l (length (w .front)) absent) body-is ∙ getD-append-seam (w .front) (w .it) (w .back ++ drop (x .before - part .length) body) absent
 
       reads : (entryOf own) .fault ≡ 0
-      reads = entry-fault own wide ∙ ap viewFault view-is ∙ it-reads
+      reads = entry-fault own wide ∙ ap viewFault view-is ∙ good-reads (openBehind 0 0 (w .front)) (w .it) well
 
       kind-is : e .kind ≡ countIndex (w .it .kind)
       kind-is = ap (λ (q : Entry). q .kind) own-is ∙ entry-kind own wide reads ∙ ap (λ (v : View). countIndex (v .kind)) view-is

@@ -4,16 +4,17 @@ use mathlib.Core.Bool.{Bool, true, false, cond, _&&_}
 use mathlib.Core.List.{List, [], _∷_, _++_, append-assoc}
 use Prim.Native.Nat.{ℕ, zero, suc, pred, _+_, _-_, _≤_, _<_}
 use native.Mathlib.Omega.{arith}
-use borrow.Author.Tests.{ne-eqb, le-leb}
+use borrow.Author.Tests.{ne-eqb}
 use lib.ListN.{length, take, drop, getD, length-append, take-append-drop}
 use lib.Seq.{getD-append-seam, length-take-le}
-use Rattle.format.specs.Record.{View, nothing, isHead, countIndex}
+use Rattle.format.specs.Record.{View, nothing, isHead}
 use Rattle.format.specs.Judge.{dueAfter, isHeaderAt}
 use Rattle.format.specs.Edit.{dueBehind, openBehind, lastHeader, absent}
-use Rattle.format.specs.Above.{lastStart, own, levelAt, aboveAt}
+use Rattle.format.specs.Above.{own, levelAt, aboveAt}
 use Rattle.format.proofs.JudgeWalks.{Passes, Good}
-use Rattle.format.proofs.AboveWayUp.{Owner, Owned, mine, none-yet, owned, owner, Climbs, climbs, level-at, above-at, r-good}
+use Rattle.format.proofs.AboveWayUp.{Owner, owner, Climbs, climbs, level-at, above-at, r-good}
 use Rattle.records.specs.Entry.{viewFault}
+use Rattle.judge.proofs.PlaceLaws.{good-reads}
 
 -- a header is one of the records
 header-inside : (level due number latest last : ℕ) (rs : List View) → latest ≤ last → number + length rs ≤ suc last → lastHeader level due number latest rs ≤ last
@@ -37,17 +38,6 @@ past-own level zero number latest [] it back closed other few = ap (λ (t : Bool
 past-own level (suc due) number latest [] it back closed other few = absurd (omega arith)
 past-own level zero number latest (r ∷ front) it back closed other few = past-own level (dueAfter 0 r) (suc number) _ front it back closed other few
 past-own level (suc due) number latest (r ∷ front) it back closed other few = past-own level due (suc number) latest front it back closed other few
-
--- behind the last header or item stands nothing but its data
-its-data : (due number latest : ℕ) (front : List View) (it : View) (back : List View) → dueBehind due front ≡ 0 → lastStart due number latest (front ++ it ∷ back) ≡ number + length front → length back ≤ dueAfter 0 it
-its-data zero number latest [] it back closed e = go (owned (dueAfter 0 it) back)
-  where
-    go : Owned (dueAfter 0 it) back → length back ≤ dueAfter 0 it
-    go (mine w) = absurd (omega (arith, e, w .found (suc number) number))
-    go (none-yet few same) = few
-its-data (suc due) number latest [] it back closed e = absurd (omega arith)
-its-data zero number latest (r ∷ front) it back closed e = its-data (dueAfter 0 r) (suc number) number front it back closed (e ∙ omega arith)
-its-data (suc due) number latest (r ∷ front) it back closed e = its-data due (suc number) latest front it back closed (e ∙ omega arith)
 
 and-false : (b : Bool) → b && false ≡ false
 and-false true = refl
@@ -90,27 +80,20 @@ module _ (body : List View) (passes : Passes 0 0 nothing body) (place : ℕ) (lo
   well : Good (openBehind 0 0 (w .front)) (w .it)
   well = r-good body passes (w .front) (w .it) (w .back ++ drop place body) is (w .closed)
 
-  it-reads : viewFault (w .it) ≡ 0
-  unfolding viewFault
-  it-reads = rw (le-leb (countIndex (w .it .kind)) 9 (well .known), well .sound)
-
   level-is : levelAt body place ≡ w .it .level
   level-is = level-at body passes (w .front) (w .it) (w .back ++ drop place body) is (w .closed) place own-is
 
   above-is : aboveAt body place ≡ lastHeader (pred (levelAt body place)) 0 1 0 (take place body)
-  above-is = above-at body passes (w .front) (w .it) (w .back ++ drop place body) is (w .closed) place own-is ∙ sym (rw (level-is, w .whole) (past-own (pred (w .it .level)) 0 1 0 (w .front) (w .it) (w .back) (w .closed) other few))
+  above-is = above-at body passes (w .front) (w .it) (w .back ++ drop place body) is (w .closed) place own-is ∙ sym (rw (level-is, w .whole) (past-own (pred (w .it .level)) 0 1 0 (w .front) (w .it) (w .back) (w .closed) other (w .few)))
     where
       other : isHeaderAt (pred (w .it .level)) (w .it) ≡ false
       other = rw (ne-eqb (w .it .level) (pred (w .it .level)) (λ e. omega (arith, c .least, level-is))) (and-false (isHead (w .it .kind)))
-
-      few : length (w .back) ≤ dueAfter 0 (w .it)
-      few = its-data 0 1 0 (w .front) (w .it) (w .back) (w .closed) (ap (lastStart 0 1 0) (sym (w .whole)) ∙ w .found 1 0)
 
   pub own-record : OwnRecord body place
   own-record = record {
     some = omega (arith, own-is);
     inside = omega (arith, own-is, size);
-    reads = rw it-is it-reads;
+    reads = rw it-is (good-reads (openBehind 0 0 (w .front)) (w .it) well);
     above = above-is;
     none-above = c .none-above;
     one-above = λ more. omega (arith, (c .one-above more) .1);
