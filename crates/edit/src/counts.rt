@@ -10,9 +10,6 @@ ghost use Rattle.edit.specs.Counts.{countStart, countWidth, Fitting, wit
 use layouts::Header;
 use layouts::SheetB;
 
-// Bytes of a record.
-const RECORD: usize = 84;
-
 // What an edit changes. `header` is the index of the header above, counted from 0; `kind` is the count that the item belongs to; then the
 // header's total and that count, and the element count and the record count of the sheet, as they are to be written. The item's
 // bytes go in or out at `start`, `length` of them.
@@ -79,7 +76,7 @@ pub(crate) fn write_counts(buffer: &mut [u8], change: Change)
     requires { ⌜ Fitting change (length (now buffer)) ⌝ }
     ensures { λ _. ⌜ now (buffer .exit) ≡ withCounts change (now (buffer .entry)) ⌝ }
 {
-    let header = RECORD * change.header;
+    let header = files::RECORD * change.header;
     let start = header + count_start(change.kind);
     let width = count_width(change.kind);
     write_number(
@@ -91,13 +88,13 @@ pub(crate) fn write_counts(buffer: &mut [u8], change: Change)
     write_number(buffer, start, width, change.count);
     write_number(
         buffer,
-        RECORD + SheetB::ELEMENT_COUNT_START,
+        files::RECORD + SheetB::ELEMENT_COUNT_START,
         SheetB::ELEMENT_COUNT_WIDTH,
         change.elements,
     );
     write_number(
         buffer,
-        RECORD + SheetB::RECORD_COUNT_START,
+        files::RECORD + SheetB::RECORD_COUNT_START,
         SheetB::RECORD_COUNT_WIDTH,
         change.records,
     );

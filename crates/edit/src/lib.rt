@@ -1,4 +1,5 @@
-// Inserting and removing items in a sheet: refuse first, store later. An edit costs one judging pass, one pass over headers and items, and one move.
+// Inserting and removing items in a sheet: refuse first, store later. An edit costs one pass, which judges the sheet and keeps what stands
+// before the place, and one move.
 ghost use mathlib.Core.Path.{_≡_};
 ghost use Rattle.format.specs.Calls.{insert, remove};
 ghost use Rattle.format.specs.Run.{call};

@@ -15,12 +15,6 @@ use format::Block;
 use judge::Sheet;
 use records::Entry;
 
-// Bytes of a record.
-const RECORD: usize = 84;
-
-// Records of a file, at most.
-const MOST: usize = 200000;
-
 pub(crate) enum Plan {
     Refuse(u8, usize),
     Store(Change),
@@ -78,12 +72,12 @@ fn counted_in(
 {
     let above = header_above(&buffer[..used], sheet, level, kind);
     let length = block.len();
-    let records = length / RECORD;
+    let records = length / files::RECORD;
     let fault = refusals::room(
         above,
         kind,
-        used / RECORD + records,
-        MOST,
+        used / files::RECORD + records,
+        files::MOST,
         buffer.len() - used,
         length,
     );
@@ -96,8 +90,8 @@ fn counted_in(
         total: above.total + 1,
         count: above.count + 1,
         elements: sheet.items + 1,
-        records: used / RECORD - sheet.part + records,
-        start: RECORD * (place - 1),
+        records: used / files::RECORD - sheet.part + records,
+        start: files::RECORD * (place - 1),
         length,
     })
 }
@@ -115,9 +109,9 @@ fn counted_out(buffer: &[u8], used: usize, sheet: Sheet, place: usize, item: Ent
         total: less(above.total, 1),
         count: less(above.count, 1),
         elements: less(sheet.items, 1),
-        records: used / RECORD - sheet.part - records,
-        start: RECORD * (place - 1),
-        length: RECORD * records,
+        records: used / files::RECORD - sheet.part - records,
+        start: files::RECORD * (place - 1),
+        length: files::RECORD * records,
     })
 }
 
@@ -126,7 +120,7 @@ fn insertion_in_sheet(buffer: &[u8], used: usize, sheet: Sheet, place: usize, bl
     requires { ⌜ OpenedAt (now buffer) used place sheet ⌝ }
     ensures { λ r. ⌜ InsertionPlanned (now (buffer .entry)) used place (now (block .entry)) r ⌝ }
 {
-    if !refusals::is_place(sheet.part, used / RECORD + 1, sheet.due, place) {
+    if !refusals::is_place(sheet.part, used / files::RECORD + 1, sheet.due, place) {
         return Plan::Refuse(refusals::NO_PLACE, 0);
     }
     let Block::Item(kind, level) = edit_block::read_block(block) else {
@@ -144,7 +138,7 @@ fn removal_in_sheet(buffer: &[u8], used: usize, sheet: Sheet, place: usize) -> P
     requires { ⌜ OpenedAt (now buffer) used place sheet ⌝ }
     ensures { λ r. ⌜ RemovalPlanned (now (buffer .entry)) used place r ⌝ }
 {
-    if !refusals::is_place(sheet.part, used / RECORD, sheet.due, place) {
+    if !refusals::is_place(sheet.part, used / files::RECORD, sheet.due, place) {
         return Plan::Refuse(refusals::NO_PLACE, 0);
     }
     let item = entry_at(&buffer[..used], place - 1);

@@ -14,9 +14,6 @@ use format::Block;
 use records::Entry;
 use records::Held;
 
-// Bytes of a record.
-const RECORD: usize = 84;
-
 // The first record of a block: an item in order, of level 2 to 9, that states the data records behind it.
 fn is_item(entry: Entry, behind: usize) -> bool
     ensures { λ r. ⌜ r ≡ isItem entry behind ⌝ }
@@ -33,7 +30,7 @@ fn is_item(entry: Entry, behind: usize) -> bool
 fn data_in_order(block: &[u8], held: Held) -> bool
     ensures { λ r. ⌜ ((opened : ℕ) → r ≡ dataWalk (map view (recordsOf Plain (now (block .entry)))) (toData held) opened 1) ⌝ }
 {
-    let n = block.len() / RECORD;
+    let n = block.len() / files::RECORD;
     let mut index = 1;
     while index < n {
         let record = files::record_at(block, Stride::Plain, index);
@@ -50,14 +47,14 @@ fn data_in_order(block: &[u8], held: Held) -> bool
 pub fn read_block(block: &[u8]) -> Block
     ensures { λ r. ⌜ blockAnswer r ≡ blockItem (now (block .entry)) ⌝ }
 {
-    if block.len() % RECORD != 0 {
+    if block.len() % files::RECORD != 0 {
         return Block::NoItem;
     }
     if block.len() == 0 {
         return Block::NoItem;
     }
     let entry = records::entry(files::record_at(block, Stride::Plain, 0));
-    if !is_item(entry, block.len() / RECORD - 1) {
+    if !is_item(entry, block.len() / files::RECORD - 1) {
         return Block::NoItem;
     }
     let held = entry.held;

@@ -12,7 +12,7 @@ pub const RECORD: usize = 84;
 const LINE: usize = RECORD + 2;
 
 // "above 200,000 records"
-const MOST: usize = 200000;
+pub const MOST: usize = 200000;
 
 // How far a record starts behind the one before it: records of 84 bytes end to end, or with a line end of two bytes behind each.
 pub enum Stride {

@@ -101,7 +101,7 @@ digits-mean zero n b = means-one n b
 digits-mean (suc f) n b = mean-next f n (size-of n) (digits-mean f (n / 10)) b
 
 -- ---- at most w digits, where n is below 10 ^ w
-length-one : (f n : ℕ) → n < 10 → length (digitsIn f n) ≡ 1
+pub length-one : (f n : ℕ) → n < 10 → length (digitsIn f n) ≡ 1
 unfolding digitsIn
 length-one zero n h = refl
 length-one (suc f) n h = simp (lt-ltb n 10 h)

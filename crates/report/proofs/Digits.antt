@@ -7,17 +7,11 @@ use native.Mathlib.Numerals.{add-one}
 use native.Mathlib.Omega.{arith}
 use borrow.Author.Tests.{lt-ltb, le-ltb}
 use lib.ListN.{take-append-drop, length, take, drop, set, length-append, length-set}
-use lib.Seq.{take-set-le, drop-cons, getD-set-same, drop-set-lt}
+use lib.Seq.{take-set-le}
 use Rattle.format.specs.Column.{digitsIn, digits}
 use Rattle.format.proofs.Lists.{drop-set}
-use Rattle.format.proofs.Columns.{Size, below, above, size-of, length-more}
+use Rattle.format.proofs.Columns.{Size, below, above, size-of, length-one, length-more}
 use Rattle.report.specs.Steps.{placed, lastDigits, storedDigits}
-
--- ---- the count: of f + 1 digits at most
-length-one : (f n : ℕ) → n < 10 → length (digitsIn f n) ≡ 1
-unfolding digitsIn
-length-one zero n h = refl
-length-one (suc f) n h = simp (lt-ltb n 10 h)
 
 -- ---- the loop: `left` is what is still to be counted, `count` one more than the digits counted
 module _ (n left count : ℕ) (h : 10 ≤ left) (b : left < 10 ^ (21 - count)) (c : count ≤ 20) where
