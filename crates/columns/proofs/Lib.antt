@@ -1,7 +1,6 @@
 pub mod Numbers
 pub mod Steps
 pub mod Reading
-pub mod PlainPass
 pub mod Writing
 pub mod Choosing
 pub mod Laws

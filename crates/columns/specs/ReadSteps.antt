@@ -1,15 +1,13 @@
 -- The reading of a column byte by byte, as the code does it: what is kept after a byte follows from what was kept before and that
 -- byte alone. Private functions cite it; that it ends in what the column says is `means` of proofs/Reading. Assumes nothing.
-use mathlib.Core.Path.{_≡_}
-use Prim.Native.Nat.{ℕ, _+_, _-_, _*_, _^_, _<_}
+use Prim.Native.Nat.{ℕ, _+_, _-_, _*_}
 use mathlib.Core.Bool.{Bool, true, false, cond}
 use mathlib.Core.List.{List, [], _∷_}
 use lib.Dec.{eqb}
 use lib.IntN.{pos, negℤ}
-use Rattle.format.specs.Column.{isDigit, columnOf}
+use Rattle.format.specs.Column.{isDigit}
 use Rattle.format.specs.declared.Column.{Column}
 use Rattle.format.specs.declared.Column.the-variants.{Value, MinusZero, Malformed}
-use Rattle.columns.specs.declared.Plain.{Plain}
 use Rattle.columns.specs.declared.Role.{Role}
 use Rattle.columns.specs.declared.Role.the-variants.{Space, Minus, Digit, Other}
 use Rattle.columns.specs.declared.State.{State}
@@ -58,8 +56,3 @@ numberKept Blank = 0
 numberKept Signed = 0
 numberKept (Digits m n) = n
 numberKept Bad = 0
-
--- what the pass without a branch says of some bytes: where they are spaces, then one digit or more, their number
-pub record PlainRead (l : List ℕ) (p : Plain) : Type 0 where
-  pub small : p .number < 2 ^ 63
-  pub says : p .«is_plain» ≡ true → columnOf l ≡ Value (pos (p .number))

@@ -8,7 +8,7 @@ ghost use Rattle.format.specs.Column.{columnOf, integer, readAlone, writeAlone}
 ghost use Rattle.format.specs.Layout.{spaces};
 ghost use Rattle.format.specs.Answers.{numberAnswer, writtenAnswer};
 ghost use Rattle.columns.specs.InRecord.{columnAt, numberIn, spacesAt, writeAt};
-ghost use Rattle.columns.specs.ReadSteps.{roleOf, stepOf, finishOf, numberKept, PlainRead};
+ghost use Rattle.columns.specs.ReadSteps.{roleOf, stepOf, finishOf, numberKept};
 ghost use Rattle.columns.specs.WriteSteps.{byteOf, beforeOf, filled, choiceOf};
 use format::Column;
 use format::Number;
@@ -108,8 +108,8 @@ fn finish(s: State) -> Column
     }
 }
 
-// The bytes of one column, in one pass by the state. Eighteen digits are below 2 ^ 63.
-fn scan_by_state(part: &[u8]) -> Column
+// The bytes of one column, in one pass. Eighteen digits are below 2 ^ 63.
+fn scan(part: &[u8]) -> Column
     requires { ⌜ length (now part) ≤ 18 ⌝ }
     ensures { λ r. ⌜ r ≡ columnOf (now (part .entry)) ⌝ }
 {
@@ -120,48 +120,6 @@ fn scan_by_state(part: &[u8]) -> Column
         i += 1;
     }
     finish(s)
-}
-
-// Whether bytes are spaces, then one digit or more, and their number then.
-struct Plain {
-    is_plain: bool,
-    number: u64,
-}
-
-// The same in one pass with no branch, as most columns are: a byte's lower half is the number of a digit, and 0 for a space.
-fn plain_pass(part: &[u8]) -> Plain
-    requires { ⌜ length (now part) ≤ 18 ⌝ }
-    ensures { λ r. ⌜ PlainRead (now (part .entry)) r ⌝ }
-{
-    let mut n: u64 = 0;
-    let mut blank = true;
-    let mut plain = true;
-    let mut i = 0;
-    while i < part.len() {
-        let b = part[i];
-        let space = b == b' ';
-        let digit = (b'0' <= b) & (b <= b'9');
-        plain = plain & (digit | (blank & space));
-        blank = blank & space;
-        n = n * 10 + (b % 16) as u64;
-        i += 1;
-    }
-    Plain {
-        is_plain: plain & !blank,
-        number: n,
-    }
-}
-
-// What the bytes of one column say.
-fn scan(part: &[u8]) -> Column
-    requires { ⌜ length (now part) ≤ 18 ⌝ }
-    ensures { λ r. ⌜ r ≡ columnOf (now (part .entry)) ⌝ }
-{
-    let plain = plain_pass(part);
-    if plain.is_plain {
-        return Column::Value(plain.number as i64);
-    }
-    scan_by_state(part)
 }
 
 // A column read alone: 16 for a width that is not 1 to 18, 5 for a malformed one.

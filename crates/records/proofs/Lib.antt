@@ -4,6 +4,7 @@ pub mod Types
 pub mod DataRules
 pub mod Used
 pub mod Counts
+pub mod Plain
 pub mod Entries
 pub mod DataFaults
 pub mod Laws

@@ -86,9 +86,9 @@ fn stated_count(record: &[u8], kind: usize) -> usize
 {
     if kind < 9 {
         let start = Header::GROUPS_START + kind * Header::GROUPS_WIDTH;
-        return columns::number_at(record, start, Header::GROUPS_WIDTH);
+        return reading::plain_number(record, start, Header::GROUPS_WIDTH);
     }
-    columns::number_at(
+    reading::plain_number(
         record,
         Header::GRID_AND_NET_START,
         Header::GRID_AND_NET_WIDTH,
@@ -114,7 +114,7 @@ pub fn counts_agree(record: &[u8], tally: &Tally) -> bool
         sum += stated;
         kind += 1;
     }
-    let total = columns::number_at(record, Header::TOTAL_START, Header::TOTAL_WIDTH);
+    let total = reading::plain_number(record, Header::TOTAL_START, Header::TOTAL_WIDTH);
     agree & (total == sum)
 }
 

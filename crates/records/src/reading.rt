@@ -19,3 +19,28 @@ pub(crate) fn natural(record: &[u8], start: usize, width: usize) -> usize
     }
     n
 }
+
+// The number of a column: of spaces, then digits, in one pass with no branch, in which a byte's lower half is a digit's number, and 0 for a
+// space; of other bytes by `columns::number_at`.
+pub(crate) fn plain_number(record: &[u8], start: usize, width: usize) -> usize
+    requires { ⌜ (length (now «record») ≡ 84) × (start + width ≤ 84) × (width ≤ 7) ⌝ }
+    ensures { λ r. ⌜ r ≡ numberIn (now («record» .entry)) start width ⌝ }
+{
+    let mut n: usize = 0;
+    let mut blank = true;
+    let mut plain = true;
+    let mut i = 0;
+    while i < width {
+        let b = record[start + i];
+        let space = b == b' ';
+        let digit = (b'0' <= b) & (b <= b'9');
+        plain = plain & (digit | (blank & space));
+        blank = blank & space;
+        n = n * 10 + (b % 16) as usize;
+        i += 1;
+    }
+    if plain & !blank {
+        return n;
+    }
+    columns::number_at(record, start, width)
+}

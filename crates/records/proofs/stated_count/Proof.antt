@@ -10,18 +10,18 @@ mul-start c = search needs
 add-start : tie.Need-add-start
 add-start c = search needs
 
-number-at-requires : tie.Need-number-at-requires
-number-at-requires c κs = search needs
+plain-number-requires : tie.Need-plain-number-requires
+plain-number-requires c κs = search needs
 
 returns : tie.Need-returns
 returns c = search count-of-nine
 
-number-at-requires-2 : tie.Need-number-at-requires-2
-number-at-requires-2 c κs = search needs
+plain-number-requires-2 : tie.Need-plain-number-requires-2
+plain-number-requires-2 c κs = search needs
 
 returns-2 : tie.Need-returns-2
 returns-2 c = search count-of-grids
 
 pub stated-count-spec : {M : Type 1} → statement M
 stated-count-spec =
-    tie.close (tie.spec mul-start add-start number-at-requires returns number-at-requires-2 returns-2)
+    tie.close (tie.spec mul-start add-start plain-number-requires returns plain-number-requires-2 returns-2)

@@ -1,0 +1,119 @@
+-- A column of spaces, then digits, read with no branch: `plain_number` in the code's own words. Assumes nothing.
+use mathlib.Core.Path.{_≡_, refl, ap, sym, _∙_}
+use mathlib.Core.Bool.{Bool, true, false, cond, not, _&&_, _||_, false≢true}
+use mathlib.Core.List.{List, [], _∷_}
+use Prim.Native.Nat.{ℕ, zero, suc, _+_, _-_, _*_, _%_, _^_, _≤_, _<_}
+use native.Mathlib.Nat.{add-mul, mul-assoc, pow-succ', pow-suc, one-le-pow, pow-le-pow-right}
+use native.Mathlib.Numerals.{add-one}
+use native.Mathlib.Omega.{arith}
+use borrow.Author.Tests.{leb-true, eqb-true}
+use lib.Dec.{leb, eqb}
+use lib.IntN.{pos}
+use lib.ListN.{length, take, drop, getD, drop-of-length-le}
+use lib.Seq.{drop-cons, getD-take, getD-drop}
+use mir.Syntax.{w64}
+use mir.Val.{Fits}
+use Rattle.format.specs.declared.Column.{Column}
+use Rattle.format.specs.declared.Column.the-variants.{Value, Malformed}
+use Rattle.format.specs.Column.{strip, isDigit, allDigits, valueOf, isNumber, positive, signed, columnOf, numberOf}
+use Rattle.format.specs.Layout.{column}
+use Rattle.format.proofs.Basics.{and-true}
+use Rattle.format.proofs.Columns.{Byte, v-space, v-minus, v-digit, v-other, byte, length-column}
+use Rattle.columns.specs.InRecord.{columnAt, numberIn}
+use Rattle.columns.proofs.Laws.{column-at-inside}
+
+-- what a column says of whose bytes so far all were spaces, or spaces and digits of the number n, by the bytes that are left
+abbrev saysAfter : (blank : Bool) → (n : ℕ) → List ℕ → Column
+saysAfter true n left = columnOf left
+saysAfter false n left = cond (allDigits left) (Value (pos (n * 10 ^ length left + valueOf left))) Malformed
+
+-- the tests of one byte
+abbrev isPlain : (blank : Bool) → (b : ℕ) → Bool
+isPlain blank b = (leb 48 b && leb b 57) || (blank && eqb b 32)
+
+-- ---- one byte more
+
+low-half : (b : ℕ) → isDigit b ≡ true → b % 16 ≡ b - 48
+unfolding isDigit
+low-half b d =
+    let t = and-true (leb 48 b) (leb b 57) d in
+    omega (arith, leb-true 48 b (t .0), leb-true b 57 (t .1))
+
+-- n, a digit d and k digits of value v
+more : (n d k v : ℕ) → n * 10 ^ suc k + (d * 10 ^ k + v) ≡ (n * 10 + d) * 10 ^ k + v
+more n d k v = omega (arith, add-mul (n * 10) d (10 ^ k), mul-assoc n 10 (10 ^ k), ap (λ (x : ℕ). n * x) (pow-succ' 10 k))
+
+first-digit : (n d k v : ℕ) → n ≡ 0 → d * 10 ^ k + v ≡ (n * 10 + d) * 10 ^ k + v
+first-digit n d k v z = rw z (let e : 0 * 10 + d ≡ d = omega arith in rw e)
+
+step-plain : (blank : Bool) (n b : ℕ) (bs : List ℕ) → Byte b → (blank ≡ true → n ≡ 0) → isPlain blank b ≡ true → saysAfter blank n (b ∷ bs) ≡ saysAfter (blank && eqb b 32) (n * 10 + b % 16) bs
+unfolding columnOf strip signed positive isNumber allDigits valueOf isDigit
+step-plain true n b bs (v-space e) z p = rw e
+step-plain false n b bs (v-space e) z p = absurd (false≢true (rw e at p))
+step-plain true n b bs (v-minus e) z p = absurd (false≢true (rw e at p))
+step-plain false n b bs (v-minus e) z p = absurd (false≢true (rw e at p))
+step-plain true n b bs (v-digit p q r) z k = simp (p, q, r, low-half b r) (ap (λ (x : ℕ). cond (allDigits bs) (Value (pos x)) Malformed) (first-digit n (b - 48) (length bs) (valueOf bs) (z refl)))
+step-plain false n b bs (v-digit p q r) z k = simp (r, low-half b r) (ap (λ (x : ℕ). cond (allDigits bs) (Value (pos x)) Malformed) (more n (b - 48) (length bs) (valueOf bs)))
+step-plain true n b bs (v-other p q r) z k = absurd (false≢true (simp (p, r) at k))
+step-plain false n b bs (v-other p q r) z k = absurd (false≢true (simp r at k))
+
+still-nothing : (blank : Bool) (n b : ℕ) → (blank ≡ true → n ≡ 0) → blank && eqb b 32 ≡ true → n * 10 + b % 16 ≡ 0
+still-nothing blank n b z e =
+    let t = and-true blank (eqb b 32) e in
+    omega (arith, z (t .0), eqb-true b 32 (t .1))
+
+-- ---- what is kept after i bytes
+pub record Kept (l : List ℕ) (start width n : ℕ) (blank plain : Bool) (i : ℕ) : Type 0 where
+  pub inside : i ≤ width
+  pub small : n < 16 ^ i
+  pub nothing : blank ≡ true → n ≡ 0
+  pub says : plain ≡ true → saysAfter blank n (drop i (column start width l)) ≡ columnOf (column start width l)
+
+pub kept-first : (l : List ℕ) (start width : ℕ) → Kept l start width 0 true true 0
+kept-first l start width = record { inside = omega arith; small = omega arith; nothing = λ e. refl; says = λ e. refl }
+
+module _ (l : List ℕ) (start width n : ℕ) (blank plain : Bool) (i : ℕ) (k : Kept l start width n blank plain i) (whole : length l ≡ 84) (room : start + width ≤ 84) (narrow : width ≤ 7) where
+  module _ (h : i < width) where
+    abbrev b : ℕ
+    b = getD l (start + i) 0
+
+    below : n < 16 ^ 7
+    below = omega (arith, k .small, pow-le-pow-right {n = 16} (omega arith) {i = i} {j = 7} (omega arith))
+
+    pub tens-fit : Fits w64 (n * 10)
+    tens-fit = record { fits = omega (arith, below) }
+
+    pub digit-fits : Fits w64 (n * 10 + getD l (start + i) 0 % 16)
+    digit-fits = record { fits = omega (arith, below) }
+
+    larger : n * 10 + b % 16 < 16 ^ (i + 1)
+    larger = rw (add-one i, pow-suc 16 i) (omega (arith, k .small, one-le-pow i 16 (omega arith)))
+
+    here : drop i (column start width l) ≡ b ∷ drop (i + 1) (column start width l)
+    unfolding column
+    here = rw (add-one i) (drop-cons (column start width l) i 0 (rw (length-column start width l (omega arith)) h) ∙ ap (λ (x : ℕ). x ∷ drop (suc i) (column start width l)) (getD-take width (drop start l) i 0 h ∙ getD-drop start l i 0))
+
+    pub kept-more : Kept l start width (n * 10 + getD l (start + i) 0 % 16) (blank && eqb (getD l (start + i) 0) 32) (plain && ((leb 48 (getD l (start + i) 0) && leb (getD l (start + i) 0) 57) || (blank && eqb (getD l (start + i) 0) 32))) (i + 1)
+    kept-more = record {
+      inside = omega arith;
+      small = larger;
+      nothing = still-nothing blank n b (k .nothing);
+      says = λ e. let t = and-true plain (isPlain blank b) e in sym (ap (saysAfter blank n) here ∙ step-plain blank n b (drop (i + 1) (column start width l)) (byte b) (k .nothing) (t .1)) ∙ k .says (t .0);
+    }
+
+  -- all bytes
+  pub plainly : width ≤ i → plain && not blank ≡ true → n ≡ numberIn l start width
+  unfolding numberIn allDigits valueOf
+  plainly h e = go blank plain (k .says) e ∙ ap numberOf (sym (column-at-inside l start width (omega arith) (omega arith)))
+    where
+      all : drop i (column start width l) ≡ []
+      all = drop-of-length-le (column start width l) {i = i} (rw (length-column start width l (omega arith)) h)
+
+      read : saysAfter false n [] ≡ columnOf (column start width l) → n ≡ numberOf (columnOf (column start width l))
+      read s = (let z : n ≡ n * 10 ^ 0 + 0 = omega arith in z) ∙ ap numberOf s
+
+      go : (blank plain : Bool) → (plain ≡ true → saysAfter blank n (drop i (column start width l)) ≡ columnOf (column start width l)) → plain && not blank ≡ true → n ≡ numberOf (columnOf (column start width l))
+      go true true s e = absurd (false≢true e)
+      go true false s e = absurd (false≢true e)
+      go false false s e = absurd (false≢true e)
+      go false true s e = read (sym (ap (saysAfter false n) all) ∙ s refl)
