@@ -1,6 +1,6 @@
 -- The loops and returns of `table_fault` and what it calls, `is_one` and `listed` in the code's own words. Assumes nothing.
 use mathlib.Core.Path.{_≡_, refl, ap, sym, _∙_}
-use mathlib.Core.Bool.{Bool, true, false, _&&_, _||_, and-assoc, or-assoc, or-false, false≢true, true≢false}
+use mathlib.Core.Bool.{Bool, true, false, cond, _&&_, _||_, and-assoc, or-assoc, or-false, false≢true, true≢false}
 use mathlib.Core.List.{List, [], _∷_}
 use Prim.Native.Nat.{ℕ, _+_, _≤_, _<_, _^_}
 use native.Mathlib.Numerals.{add-one}
@@ -23,7 +23,7 @@ use Rattle.format.specs.Basics.{first, unless, member}
 use Rattle.format.specs.Column.{formed, integer}
 use Rattle.format.specs.Layout.{isOne}
 use Rattle.columns.specs.InRecord.{columnAt, spacesAt}
-use Rattle.layout_faults.specs.Tables.{formedAs, between, betweenAs, faultAs, faultOf, formedAt, betweenAt, tableFault, listedAt}
+use Rattle.layout_faults.specs.Tables.{unlessSpaces, formedAs, between, betweenAs, faultAs, faultOf, formedAt, betweenAt, tableFault, listedAt}
 
 -- what `let Column::Value(z) = .. else` tells of the column in its other way
 pub other-tag : (c : Column) → OneOf (1 ∷ 2 ∷ []) (tagOf the-type c) → formed c ≡ false
@@ -51,37 +51,43 @@ module _ (l : List ℕ) (start width : ℕ) (low high : ℤ) (c : Column) (e : c
     integer-outside = integer-fault false
 
 -- an integer or spaces
-module _ (l : List ℕ) (start width : ℕ) (t : Bool) (k : t ≡ spacesAt l start width) where
-  pub spaces-taken : t ≡ true → 0 ≡ unless (formedAs 1 l start width) 5
-  unfolding formedAs
-  spaces-taken h = rw (← k, h)
+module _ (l : List ℕ) (start width fault : ℕ) where
+  pub not-malformed : (fault ≡ 5 → ⊥) → 0 ≡ unlessSpaces l start width fault
+  unfolding unlessSpaces
+  not-malformed ne = rw (ne-eqb fault 5 ne)
 
-  module _ (h : t ≡ false) (c : Column) (e : c ≡ columnAt l start width) where
-    pub integer-taken : (z : ℤ) → c ≡ Value z → 0 ≡ unless (formedAs 1 l start width) 5
-    unfolding formedAs
-    integer-taken z v = rw (← k, h, ← e, v)
+  module _ (is : fault ≡ 5) (t : Bool) (k : t ≡ spacesAt l start width) where
+    pub spaces-taken : t ≡ true → 0 ≡ unlessSpaces l start width fault
+    unfolding unlessSpaces
+    spaces-taken h = rw (is, ← k, h)
 
-    pub neither-taken : (d : Column) → c ≡ d → formed d ≡ false → 5 ≡ unless (formedAs 1 l start width) 5
-    unfolding formedAs
-    neither-taken d f g = rw (← k, h, ← e, f, g)
+    pub neither-taken : t ≡ false → 5 ≡ unlessSpaces l start width fault
+    unfolding unlessSpaces
+    neither-taken h = rw (is, ← k, h)
 
 -- any form
 module _ (l : List ℕ) (start width form : ℕ) (low high : ℤ) where
   pub as-integer : form ≡ 0 → (r : ℕ) → SFits w64 low → SFits w64 high → r ≡ faultAs l start width 0 (toZ w64 (ofZ w64 low)) (toZ w64 (ofZ w64 high)) → r ≡ faultAs l start width form low high
   as-integer e r m n h = rw (e, ← toZ-ofZ w64 low m, ← toZ-ofZ w64 high n) h
 
-  module _ (n : form ≡ 0 → ⊥) where
-    pub as-integer-or-spaces : form ≡ 1 → (r : ℕ) → r ≡ unless (formedAs 1 l start width) 5 → r ≡ faultAs l start width form low high
-    unfolding faultAs betweenAs
-    as-integer-or-spaces e r h = h ∙ rw e (go (formedAs 1 l start width))
-      where
-        go : (f : Bool) → unless f 5 ≡ first (unless f 5) 0
-        go true = refl
-        go false = refl
+  pub as-integer-or-spaces : (form ≡ 0 → ⊥) → form ≤ 1 → SFits w64 low → SFits w64 high → (fault : ℕ) → fault ≡ faultAs l start width 0 (toZ w64 (ofZ w64 low)) (toZ w64 (ofZ w64 high)) → (r : ℕ) → r ≡ unlessSpaces l start width fault → r ≡ faultAs l start width form low high
+  unfolding faultAs formedAs betweenAs unlessSpaces
+  as-integer-or-spaces n k m h fault f r e = e ∙ rw (one, f) (go (formed (columnAt l start width)) (between (toZ w64 (ofZ w64 low)) (toZ w64 (ofZ w64 high)) (integer (columnAt l start width))) (spacesAt l start width))
+    where
+      one : form ≡ 1
+      one = omega arith
 
-    pub as-blank : (form ≡ 1 → ⊥) → 0 ≡ faultAs l start width form low high
-    unfolding faultAs formedAs betweenAs
-    as-blank m = rw (ne-eqb form 0 n, ne-eqb form 1 m)
+      go : (t b u : Bool) → cond (eqb (first (unless t 5) (unless b 6)) 5) (unless u 5) 0 ≡ first (unless (u || t) 5) 0
+      go true true true = refl
+      go true true false = refl
+      go true false true = refl
+      go true false false = refl
+      go false b true = refl
+      go false b false = refl
+
+  pub as-blank : 1 < form → 0 ≡ faultAs l start width form low high
+  unfolding faultAs formedAs betweenAs
+  as-blank m = rw (ne-eqb form 0 (λ e. omega arith), ne-eqb form 1 (λ e. omega arith))
 
 -- ---- `column_fault`
 

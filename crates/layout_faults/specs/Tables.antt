@@ -31,6 +31,10 @@ betweenAs form l start width low high = cond (eqb form 0) (between low high (int
 unfoldable pub faultAs : List ℕ → (start width form : ℕ) → (low high : ℤ) → ℕ
 faultAs l start width form low high = first (unless (formedAs form l start width) 5) (unless (betweenAs form l start width low high) 6)
 
+-- an integer or spaces, by the fault that an integer has there
+unfoldable pub unlessSpaces : List ℕ → (start width fault : ℕ) → ℕ
+unlessSpaces l start width fault = cond (eqb fault 5) (unless (spacesAt l start width) 5) 0
+
 -- tables of one length
 abbrev pub Alike : (starts widths forms : List ℕ) → (lows highs : List ℤ) → Type 0
 Alike starts widths forms lows highs =

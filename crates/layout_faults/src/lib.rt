@@ -7,12 +7,12 @@ ghost use Prim.Native.Nat.{_<_};
 ghost use lib.IntN.{pos};
 ghost use lib.Signed.{leZ};
 ghost use lib.ListN.{length};
-ghost use Rattle.format.specs.Basics.{unless, member};
+ghost use Rattle.format.specs.Basics.{member};
 ghost use Rattle.format.specs.Column.{integer};
 ghost use Rattle.format.specs.Layout.{indexA, indexC, sheetA, sheetB, sheetD, sheetE, sheetF, header, element, gridHeader, netHeader, dataNote};
 ghost use Rattle.columns.specs.InRecord.{columnAt};
 ghost use Rattle.layout_faults.specs.Faults.{faultIn};
-ghost use Rattle.layout_faults.specs.Tables.{formedAs, faultAs, Alike, faultOf, tableFault, listedAt};
+ghost use Rattle.layout_faults.specs.Tables.{unlessSpaces, faultAs, Alike, faultOf, tableFault, listedAt};
 use format::Column;
 use layouts::DataNote;
 use layouts::Element;
@@ -42,31 +42,32 @@ fn integer_fault(record: &[u8], start: usize, width: usize, low: i64, high: i64)
     if (low <= z) & (z <= high) { 0 } else { 6 }
 }
 
-// An integer or spaces: 5 where it is neither.
-fn integer_or_spaces_fault(record: &[u8], start: usize, width: usize) -> u8
-    ensures { λ r. ⌜ r ≡ unless (formedAs 1 (now («record» .entry)) start width) 5 ⌝ }
+// An integer or spaces, by the fault that an integer has there: malformed bytes pass where they are spaces, and a number has no limits.
+fn unless_spaces(record: &[u8], start: usize, width: usize, fault: u8) -> u8
+    ensures { λ r. ⌜ r ≡ unlessSpaces (now («record» .entry)) start width fault ⌝ }
 {
-    if columns::spaces_at(record, start, width) {
+    if fault != 5 {
         return 0;
     }
-    match columns::column_at(record, start, width) {
-        Column::Value(_) => 0,
-        Column::MinusZero => 5,
-        Column::Malformed => 5,
+    if columns::spaces_at(record, start, width) {
+        0
+    } else {
+        5
     }
 }
 
-// A column by its form: a blank is not judged.
+// A column by its form, read once: a blank is not judged.
 fn fault_by_form(record: &[u8], start: u8, width: u8, form: u8, low: i64, high: i64) -> u8
     ensures { λ r. ⌜ r ≡ faultAs (now («record» .entry)) start width form low high ⌝ }
 {
+    if INTEGER_OR_SPACES < form {
+        return 0;
+    }
+    let fault = integer_fault(record, start as usize, width as usize, low, high);
     if form == INTEGER {
-        return integer_fault(record, start as usize, width as usize, low, high);
+        return fault;
     }
-    if form == INTEGER_OR_SPACES {
-        return integer_or_spaces_fault(record, start as usize, width as usize);
-    }
-    0
+    unless_spaces(record, start as usize, width as usize, fault)
 }
 
 // Column i of the tables.
