@@ -12,12 +12,12 @@ use mir.Syntax.{w64}
 use mir.Val.{SFits, toZ, ofZ}
 use Rattle.format.specs.Column.{fits, written, widthOk}
 use Rattle.format.proofs.Basics.{and-true}
+use Rattle.format.proofs.Signed.{back, tested}
 use Rattle.columns.specs.declared.Rest.{Rest}
 use Rattle.columns.specs.declared.Rest.the-variants.{Digits}
 use Rattle.columns.specs.declared.Choice.{Choice}
 use Rattle.columns.specs.declared.Choice.the-variants.{Write, Refuse}
 use Rattle.columns.specs.WriteSteps.{filled, choiceOf}
-use Rattle.columns.proofs.Numbers.{back, tested}
 use Rattle.columns.proofs.Writing.{roomFor, fits-room, filled-written}
 
 -- ---- `choose`

@@ -1,7 +1,6 @@
--- Signed numbers of 64 bits: the negation of a number that was cast to i64, and the size of an i64, the least one too. A value goes
--- through its bits at each copy, `toZ w64 (ofZ w64 z)`. Assumes nothing.
+-- Signed numbers of 64 bits: the negation of a number that was cast to i64, and the size of an i64, the least one too. Assumes nothing.
 use mathlib.Core.Path.{_≡_, refl, ap, sym, _∙_, subst, subst⁻¹}
-use mathlib.Core.Bool.{Bool, true, false, true≢false, false≢true}
+use mathlib.Core.Bool.{true, false, true≢false, false≢true}
 use native.Mathlib.Numerals.{add-one}
 use Prim.Native.Nat.{ℕ, zero, suc, _+_, _<_, _^_}
 use native.Mathlib.Omega.{arith}
@@ -9,8 +8,10 @@ use lib.Dec.{T, leb·suc-zero}
 use lib.IntN.{ℤ, pos, negsuc, negℤ, natAbs, _+ℤ_, _-ℤ_, +ℤ-idl, +ℤ-one, negℤ-negℤ}
 use lib.Signed.{mag, ltZ, nonNeg, natAbs-le}
 use mir.Syntax.{w64}
-use mir.Val.{Fits, SFits, toZ, ofZ}
-use mir.ValLaws.{toZ-pos, toZ-ofZ}
+use mir.Val.{Fits, SFits, toZ}
+use mir.ValLaws.{toZ-pos}
+pub use Rattle.format.proofs.Signed.{back, tested}
+use Rattle.format.proofs.Signed.{stored}
 
 -- ---- minus a number below 2 ^ 63
 
@@ -25,27 +26,19 @@ module _ (n : ℕ) (h : n < 2 ^ 63) where
   pub minus-fits : SFits w64 (pos 0 -ℤ toZ w64 n)
   minus-fits = rw minus-is (record { sfits = mag-neg n h })
 
-  pub minus-back : toZ w64 (ofZ w64 (pos 0 -ℤ toZ w64 n)) ≡ negℤ (pos n)
-  minus-back = toZ-ofZ w64 (pos 0 -ℤ toZ w64 n) minus-fits ∙ minus-is
+  pub minus-back : stored (pos 0 -ℤ toZ w64 n) ≡ negℤ (pos n)
+  minus-back = back (pos 0 -ℤ toZ w64 n) minus-fits ∙ minus-is
 
 -- ---- the size of a value, as `size` computes it
-
-module _ (z : ℤ) (f : SFits w64 z) where
-  pub back : toZ w64 (ofZ w64 z) ≡ z
-  back = toZ-ofZ w64 z f
-
-  -- a test of the value, as the logic has it, and the same of z
-  pub tested : (b : Bool) → ltZ (toZ w64 (ofZ w64 z)) (pos 0) ≡ b → ltZ z (pos 0) ≡ b
-  tested b t = subst (λ (x : ℤ). ltZ x (pos 0) ≡ b) back t
 
 not-negative : (z : ℤ) → ltZ z (pos 0) ≡ false → T (nonNeg z)
 not-negative (pos a) t = tt
 not-negative (negsuc a) t = absurd (true≢false t)
 
-pub plain-sign : (z : ℤ) → SFits w64 z → ltZ (toZ w64 (ofZ w64 z)) (pos 0) ≡ false → T (nonNeg (toZ w64 (ofZ w64 z)))
-plain-sign z f t = not-negative (toZ w64 (ofZ w64 z)) t
+pub plain-sign : (z : ℤ) → SFits w64 z → ltZ (stored z) (pos 0) ≡ false → T (nonNeg (stored z))
+plain-sign z f t = not-negative (stored z) t
 
-pub size-fits : (z : ℤ) → SFits w64 z → Fits w64 (natAbs (toZ w64 (ofZ w64 z)))
+pub size-fits : (z : ℤ) → SFits w64 z → Fits w64 (natAbs (stored z))
 size-fits z f = rw (back z f) (record { fits = omega (arith, natAbs-le z (f .sfits)) })
 
 -- -(z + 1) is not negative and one less than the size of z
@@ -62,12 +55,12 @@ minus-minus n = +ℤ-idl (negℤ (negℤ (pos n))) ∙ negℤ-negℤ (pos n)
 
 -- z + 1, and minus that, as the code makes them
 abbrev raised : ℤ → ℤ
-raised z = toZ w64 (ofZ w64 z) +ℤ pos 1
+raised z = stored z +ℤ pos 1
 
 abbrev turned : ℤ → ℤ
-turned z = pos 0 -ℤ toZ w64 (ofZ w64 (raised z))
+turned z = pos 0 -ℤ stored (raised z)
 
-module _ (z : ℤ) (f : SFits w64 z) (t : ltZ (toZ w64 (ofZ w64 z)) (pos 0) ≡ true) where
+module _ (z : ℤ) (f : SFits w64 z) (t : ltZ (stored z) (pos 0) ≡ true) where
   raised-is : raised z ≡ negℤ (pos (mag z))
   raised-is = ap (λ (x : ℤ). x +ℤ pos 1) (back z f ∙ negative-is z (tested z f true t)) ∙ one-more (mag z)
 
@@ -75,22 +68,22 @@ module _ (z : ℤ) (f : SFits w64 z) (t : ltZ (toZ w64 (ofZ w64 z)) (pos 0) ≡ 
   raised-fits = subst⁻¹ (SFits w64) raised-is (record { sfits = mag-neg (mag z) (f .sfits) })
 
   turned-is : turned z ≡ pos (mag z)
-  turned-is = ap (λ (x : ℤ). pos 0 -ℤ x) (toZ-ofZ w64 (raised z) raised-fits ∙ raised-is) ∙ minus-minus (mag z)
+  turned-is = ap (λ (x : ℤ). pos 0 -ℤ x) (back (raised z) raised-fits ∙ raised-is) ∙ minus-minus (mag z)
 
   pub turned-fits : SFits w64 (turned z)
   turned-fits = subst⁻¹ (SFits w64) turned-is (record { sfits = f .sfits })
 
-  turned-back : toZ w64 (ofZ w64 (turned z)) ≡ pos (mag z)
-  turned-back = toZ-ofZ w64 (turned z) turned-fits ∙ turned-is
+  turned-back : stored (turned z) ≡ pos (mag z)
+  turned-back = back (turned z) turned-fits ∙ turned-is
 
-  pub turned-sign : T (nonNeg (toZ w64 (ofZ w64 (turned z))))
+  pub turned-sign : T (nonNeg (stored (turned z)))
   turned-sign = rw turned-back tt
 
-  pub turned-size : Fits w64 (natAbs (toZ w64 (ofZ w64 (turned z))))
+  pub turned-size : Fits w64 (natAbs (stored (turned z)))
   turned-size = rw turned-back (record { fits = omega (arith, f .sfits) })
 
-  pub sum-fits : Fits w64 (natAbs (toZ w64 (ofZ w64 (turned z))) + 1)
+  pub sum-fits : Fits w64 (natAbs (stored (turned z)) + 1)
   sum-fits = rw turned-back (record { fits = omega (arith, f .sfits) })
 
-  pub sum-is : natAbs (toZ w64 (ofZ w64 (turned z))) + 1 ≡ natAbs z
+  pub sum-is : natAbs (stored (turned z)) + 1 ≡ natAbs z
   sum-is = rw turned-back (add-one (mag z) ∙ sym (ap natAbs (negative-is z (tested z f true t))))

@@ -16,7 +16,9 @@ use Rattle.format.specs.Answers.{numberAnswer}
 use Rattle.format.specs.declared.Number.the-variants.{Is, Refused}
 use Rattle.format.proofs.ColumnFits.{fits-range, fits-size}
 use Rattle.format.proofs.Basics.{abs-neg}
-use Rattle.corners.proofs.Signed.{held, back, fits-abs, abs-mul, abs-add, size-range}
+use Rattle.format.proofs.ColumnFits.{size-range}
+use Rattle.format.proofs.Signed.{stored, back}
+use Rattle.corners.proofs.Signed.{fits-abs, abs-mul, abs-add}
 
 -- ---- signs
 below-zero : (w : ℤ) → ltZ w (pos 0) ≡ true → ltZ (pos 0) w ≡ false
@@ -24,13 +26,13 @@ below-zero (pos n) t = absurd (omega (arith, ltb-true n 0 t))
 below-zero (negsuc n) t = refl
 
 module _ (w f : ℤ) (fw : SFits w64 w) (ff : SFits w64 f) where
-  pub minus-whole : ltZ (held w) (pos 0) ≡ true → ltZ (pos 0) (held f) ≡ opposite w f
+  pub minus-whole : ltZ (stored w) (pos 0) ≡ true → ltZ (pos 0) (stored f) ≡ opposite w f
   minus-whole t = let e : ltZ w (pos 0) ≡ true = rw (back w fw) at t in rw (back f ff, e, below-zero w e) (sym (or-false (ltZ (pos 0) f)))
 
-  pub plus-whole : ltZ (held w) (pos 0) ≡ false → ltZ (pos 0) (held w) ≡ true → ltZ (held f) (pos 0) ≡ opposite w f
+  pub plus-whole : ltZ (stored w) (pos 0) ≡ false → ltZ (pos 0) (stored w) ≡ true → ltZ (stored f) (pos 0) ≡ opposite w f
   plus-whole t u = let e : ltZ w (pos 0) ≡ false = rw (back w fw) at t in let g : ltZ (pos 0) w ≡ true = rw (back w fw) at u in rw (back f ff, e, g)
 
-  pub zero-whole : ltZ (held w) (pos 0) ≡ false → ltZ (pos 0) (held w) ≡ false → ltZ (pos 0) (held w) ≡ opposite w f
+  pub zero-whole : ltZ (stored w) (pos 0) ≡ false → ltZ (pos 0) (stored w) ≡ false → ltZ (pos 0) (stored w) ≡ opposite w f
   zero-whole t u = let e : ltZ w (pos 0) ≡ false = rw (back w fw) at t in let g : ltZ (pos 0) w ≡ false = rw (back w fw) at u in rw (back w fw, e, g)
 
 -- ---- the unit and the columns
@@ -41,14 +43,14 @@ module _ (unit : ℕ) (w f : ℤ) (s : Bool) (es : s ≡ isUnit unit) where
   pub no-unit : not s ≡ true → false ≡ allowed unit w f
   no-unit n = rw (sym es ∙ not-true s n)
 
-  module _ (fw : SFits w64 w) (ff : SFits w64 f) (n : not s ≡ false) (t : Bool) (et : t ≡ leZ (negsuc 999998) (held w) && leZ (held w) (pos 9999999)) where
+  module _ (fw : SFits w64 w) (ff : SFits w64 f) (n : not s ≡ false) (t : Bool) (et : t ≡ leZ (negsuc 999998) (stored w) && leZ (stored w) (pos 9999999)) where
     whole-is : isUnit unit && fits 7 w ≡ t
     whole-is = rw (sym es ∙ not-false s n, et, back w fw) (fits-range 6 w (omega arith))
 
     pub whole-wide : t ≡ false → t ≡ allowed unit w f
     whole-wide l = l ∙ rw (whole-is ∙ l)
 
-    pub whole-fits : t ≡ true → (u : Bool) → u ≡ leZ (negsuc 998) (held f) && leZ (held f) (pos 9999) → u ≡ allowed unit w f
+    pub whole-fits : t ≡ true → (u : Bool) → u ≡ leZ (negsuc 998) (stored f) && leZ (stored f) (pos 9999) → u ≡ allowed unit w f
     whole-fits l u eu = rw (eu, back f ff, whole-is ∙ l) (sym (fits-range 3 f (omega arith)))
 
 -- ---- what goes by the unit
@@ -68,29 +70,29 @@ each-some unit = either (λ n. 0 < n) (eqb unit 1) (omega arith) (omega arith)
 each-fits : (unit : ℕ) → SFits w64 (pos (millimetresEach unit))
 each-fits unit = fits-abs (pos (millimetresEach unit)) (omega (arith, each-small unit 1))
 
-pub held-each : (unit : ℕ) (k : ℤ) → k ≡ pos (millimetresEach unit) → held k ≡ pos (millimetresEach unit)
-held-each unit k e = rw e (back (pos (millimetresEach unit)) (each-fits unit))
+pub stored-each : (unit : ℕ) (k : ℤ) → k ≡ pos (millimetresEach unit) → stored k ≡ pos (millimetresEach unit)
+stored-each unit k e = rw e (back (pos (millimetresEach unit)) (each-fits unit))
 
 -- ---- the fraction: at most the largest in size, and its sign
 module _ (unit : ℕ) (m : ℤ) (is : m ≡ pos (most unit)) where
-  held-most : held m ≡ pos (most unit)
-  held-most = rw is (back (pos (most unit)) (fits-abs (pos (most unit)) (omega (arith, most-small unit))))
+  stored-most : stored m ≡ pos (most unit)
+  stored-most = rw is (back (pos (most unit)) (fits-abs (pos (most unit)) (omega (arith, most-small unit))))
 
-  least-is : pos 0 -ℤ held m ≡ minus (most unit)
-  least-is = rw held-most (+ℤ-idl (minus (most unit)))
+  least-is : pos 0 -ℤ stored m ≡ minus (most unit)
+  least-is = rw stored-most (+ℤ-idl (minus (most unit)))
 
-  pub least-fits : SFits w64 (pos 0 -ℤ held m)
+  pub least-fits : SFits w64 (pos 0 -ℤ stored m)
   least-fits = rw least-is (fits-abs (minus (most unit)) (omega (arith, most-small unit, abs-neg (most unit))))
 
   module _ (w f : ℤ) (fw : SFits w64 w) (ff : SFits w64 f) where
-    small : leZ (held (pos 0 -ℤ held m)) (held f) && leZ (held f) (held m) ≡ leb (natAbs f) (most unit)
-    small = rw (back (pos 0 -ℤ held m) least-fits, least-is, held-most, back f ff) (size-range (most unit) f)
+    small : leZ (stored (pos 0 -ℤ stored m)) (stored f) && leZ (stored f) (stored m) ≡ leb (natAbs f) (most unit)
+    small = rw (back (pos 0 -ℤ stored m) least-fits, least-is, stored-most, back f ff) (size-range (most unit) f)
 
-    pub fraction-large : (t : Bool) → t ≡ leZ (held (pos 0 -ℤ held m)) (held f) && leZ (held f) (held m) → t ≡ false → t ≡ fractionOk unit w f
+    pub fraction-large : (t : Bool) → t ≡ leZ (stored (pos 0 -ℤ stored m)) (stored f) && leZ (stored f) (stored m) → t ≡ false → t ≡ fractionOk unit w f
     unfolding fractionOk
     fraction-large t e l = l ∙ rw (sym (e ∙ small) ∙ l)
 
-    pub fraction-small : (t o : Bool) → t ≡ leZ (held (pos 0 -ℤ held m)) (held f) && leZ (held f) (held m) → t ≡ true → o ≡ opposite (held w) (held f) → not o ≡ fractionOk unit w f
+    pub fraction-small : (t o : Bool) → t ≡ leZ (stored (pos 0 -ℤ stored m)) (stored f) && leZ (stored f) (stored m) → t ≡ true → o ≡ opposite (stored w) (stored f) → not o ≡ fractionOk unit w f
     unfolding fractionOk
     fraction-small t o e l g = rw (g, back w fw, back f ff, sym (e ∙ small) ∙ l)
 
@@ -100,7 +102,7 @@ module _ (unit : ℕ) (w f : ℤ) where
   unfolding join
   join-tests s t p q = rw (p, q)
 
-  module _ (fw : SFits w64 w) (ff : SFits w64 f) (s : Bool) (es : s ≡ allowed unit (held w) (held f)) where
+  module _ (fw : SFits w64 w) (ff : SFits w64 f) (s : Bool) (es : s ≡ allowed unit (stored w) (stored f)) where
     allowed-is : allowed unit w f ≡ s
     allowed-is = rw (es, back w fw, back f ff)
 
@@ -108,7 +110,7 @@ module _ (unit : ℕ) (w f : ℤ) where
     unfolding numberAnswer
     not-allowed n = sym (join-tests false _ (allowed-is ∙ not-true s n) refl)
 
-    module _ (ns : not s ≡ false) (t : Bool) (et : t ≡ fractionOk unit (held w) (held f)) where
+    module _ (ns : not s ≡ false) (t : Bool) (et : t ≡ fractionOk unit (stored w) (stored f)) where
       fraction-is : fractionOk unit w f ≡ t
       fraction-is = rw (et, back w fw, back f ff)
 
@@ -125,16 +127,16 @@ module _ (unit : ℕ) (w f : ℤ) where
       fraction-size : natAbs f < 10 ^ 4
       fraction-size = fits-size 3 f (omega arith) (columns .1)
 
-      pub whole-scaled : SFits w64 (held w *ℤ pos 1000)
+      pub whole-scaled : SFits w64 (stored w *ℤ pos 1000)
       whole-scaled = rw (back w fw) (fits-abs (w *ℤ pos 1000) (omega (arith, abs-mul w (pos 1000), whole-size)))
 
       module _ (k : ℤ) (ek : k ≡ pos (millimetresEach unit)) where
-        pub fraction-scaled : SFits w64 (held f *ℤ held k)
-        fraction-scaled = rw (back f ff, held-each unit k ek) (fits-abs (f *ℤ pos (millimetresEach unit)) (omega (arith, abs-mul f (pos (millimetresEach unit)), each-small unit (natAbs f), fraction-size)))
+        pub fraction-scaled : SFits w64 (stored f *ℤ stored k)
+        fraction-scaled = rw (back f ff, stored-each unit k ek) (fits-abs (f *ℤ pos (millimetresEach unit)) (omega (arith, abs-mul f (pos (millimetresEach unit)), each-small unit (natAbs f), fraction-size)))
 
-        sum-is : held (held w *ℤ pos 1000) +ℤ held (held f *ℤ held k) ≡ millimetres unit w f
+        sum-is : stored (stored w *ℤ pos 1000) +ℤ stored (stored f *ℤ stored k) ≡ millimetres unit w f
         unfolding millimetres
-        sum-is = rw (back (held w *ℤ pos 1000) whole-scaled, back (held f *ℤ held k) fraction-scaled, back w fw, back f ff, held-each unit k ek)
+        sum-is = rw (back (stored w *ℤ pos 1000) whole-scaled, back (stored f *ℤ stored k) fraction-scaled, back w fw, back f ff, stored-each unit k ek)
 
         sum-size : SFits w64 (millimetres unit w f)
         unfolding millimetres
@@ -142,9 +144,9 @@ module _ (unit : ℕ) (w f : ℤ) where
             fits-abs (millimetres unit w f)
             (omega (arith, abs-add (w *ℤ pos 1000) (f *ℤ pos (millimetresEach unit)), abs-mul w (pos 1000), abs-mul f (pos (millimetresEach unit)), each-small unit (natAbs f), whole-size, fraction-size))
 
-        pub sum-fits : SFits w64 (held (held w *ℤ pos 1000) +ℤ held (held f *ℤ held k))
+        pub sum-fits : SFits w64 (stored (stored w *ℤ pos 1000) +ℤ stored (stored f *ℤ stored k))
         sum-fits = rw sum-is sum-size
 
-        pub joined : not t ≡ false → numberAnswer (Is (held (held (held w *ℤ pos 1000) +ℤ held (held f *ℤ held k)))) ≡ join unit w f
+        pub joined : not t ≡ false → numberAnswer (Is (stored (stored (stored w *ℤ pos 1000) +ℤ stored (stored f *ℤ stored k)))) ≡ join unit w f
         unfolding numberAnswer
         joined n = rw (sum-is, back (millimetres unit w f) sum-size) (sym (join-tests true true (allowed-is ∙ not-false s ns) (fraction-is ∙ not-false t n)))

@@ -1,29 +1,17 @@
--- Signed 64-bit numbers: through their bits and back, their sizes, and that what is small enough fits. Assumes nothing.
-use mathlib.Core.Path.{_≡_, refl, ap, sym, _∙_}
-use mathlib.Core.Bool.{Bool, true, false, cond, _&&_, and-true}
+-- Signed 64-bit numbers: their sizes, and that what is small enough fits. Assumes nothing.
+use mathlib.Core.Path.{_≡_, refl}
+use mathlib.Core.Bool.{Bool, true, false, cond, _&&_}
 use Prim.Native.Nat.{ℕ, zero, suc, _+_, _-_, _*_, _/_, _^_, _≤_, _<_}
 use native.Mathlib.Nat.{div-le-self}
 use native.Mathlib.Omega.{arith}
-use lib.Dec.{ltb, leb}
+use lib.Dec.{ltb}
 use lib.IntN.{ℤ, pos, negsuc, negℤ, natAbs, _+ℤ_, _*ℤ_}
 use lib.Signed.{mag, leZ, quotZ, remZ, mag-rem}
 use mir.Syntax.{w64}
-use mir.Val.{SFits, toZ, ofZ}
-use mir.ValLaws.{toZ-ofZ, sfits-le}
-use Rattle.format.specs.Basics.{minus}
+use mir.Val.{SFits}
+use mir.ValLaws.{sfits-le}
 use Rattle.format.proofs.Basics.{abs-neg}
-use Rattle.format.proofs.ColumnFits.{minus-pos, minus-negsuc}
-
--- ---- bits: a number as an `i64` holds it, which is how code reads each operand
-abbrev pub held : ℤ → ℤ
-held z = toZ w64 (ofZ w64 z)
-
-pub back : (z : ℤ) → SFits w64 z → held z ≡ z
-back z f = toZ-ofZ w64 z f
-
--- numbers that fit are equal where their bits are
-pub same-bits : (y z : ℤ) → SFits w64 y → SFits w64 z → ofZ w64 y ≡ ofZ w64 z → y ≡ z
-same-bits y z fy fz e = sym (back y fy) ∙ ap (toZ w64) e ∙ back z fz
+use Rattle.format.proofs.Signed.{stored, back}
 
 -- ---- sizes
 mag-le : (z : ℤ) → mag z ≤ natAbs z
@@ -64,15 +52,10 @@ quot-fits z d f = sfits-le (mag-quot z d) f
 pub rem-fits : (z : ℤ) (d : ℕ) → SFits w64 z → SFits w64 (remZ z (pos d))
 rem-fits z d f = sfits-le (mag-rem z (pos d)) f
 
--- ---- a range about zero is a bound on the size
-pub size-range : (m : ℕ) (z : ℤ) → leZ (minus m) z && leZ z (pos m) ≡ leb (natAbs z) m
-size-range m (pos n) = rw (minus-pos m n)
-size-range m (negsuc n) = rw (minus-negsuc m n) (and-true (leb (suc n) m))
-
 -- ---- a range as code tests it: at the left end, then at the right one
 module _ (least z most : ℤ) (fl : SFits w64 least) (fz : SFits w64 z) (fm : SFits w64 most) where
-  pub left-fails : leZ (held least) (held z) ≡ false → leZ (held least) (held z) ≡ leZ least z && leZ z most
+  pub left-fails : leZ (stored least) (stored z) ≡ false → leZ (stored least) (stored z) ≡ leZ least z && leZ z most
   left-fails t = let e : leZ least z ≡ false = rw (back least fl, back z fz) at t in rw (back least fl, back z fz, e)
 
-  pub left-holds : leZ (held least) (held z) ≡ true → leZ (held z) (held most) ≡ leZ least z && leZ z most
+  pub left-holds : leZ (stored least) (stored z) ≡ true → leZ (stored z) (stored most) ≡ leZ least z && leZ z most
   left-holds t = let e : leZ least z ≡ true = rw (back least fl, back z fz) at t in rw (back z fz, back most fm, e)

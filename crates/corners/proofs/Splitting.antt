@@ -14,30 +14,31 @@ use Rattle.format.specs.declared.Number.the-variants as Number
 use Rattle.format.specs.declared.Parts.{Parts}
 use Rattle.format.specs.declared.Parts.the-variants as Parts
 use Rattle.format.proofs.Corners.{wholeOf, fractionOf, split-only, split-refuses}
-use Rattle.corners.proofs.Signed.{held, back, same-bits, quot-fits, rem-fits}
-use Rattle.corners.proofs.Joining.{held-each, each-some}
+use Rattle.format.proofs.Signed.{stored, back, same-bits}
+use Rattle.corners.proofs.Signed.{quot-fits, rem-fits}
+use Rattle.corners.proofs.Joining.{stored-each, each-some}
 
 module _ (z : ℤ) (fz : SFits w64 z) where
-  pub whole-divides : (0 < 1000) × SFits w64 (quotZ (held z) (pos 1000))
+  pub whole-divides : (0 < 1000) × SFits w64 (quotZ (stored z) (pos 1000))
   whole-divides = (omega arith, rw (back z fz) (quot-fits z 1000 fz))
 
-  whole-is : held (quotZ (held z) (pos 1000)) ≡ wholeOf z
+  whole-is : stored (quotZ (stored z) (pos 1000)) ≡ wholeOf z
   whole-is = rw (back z fz) (back (wholeOf z) (quot-fits z 1000 fz))
 
-  rest-is : held (remZ (held z) (pos 1000)) ≡ remZ z (pos 1000)
+  rest-is : stored (remZ (stored z) (pos 1000)) ≡ remZ z (pos 1000)
   rest-is = rw (back z fz) (back (remZ z (pos 1000)) (rem-fits z 1000 fz))
 
   module _ (unit : ℕ) (k : ℤ) (ek : k ≡ pos (millimetresEach unit)) where
     fraction-fits : SFits w64 (fractionOf unit z)
     fraction-fits = quot-fits (remZ z (pos 1000)) (millimetresEach unit) (rem-fits z 1000 fz)
 
-    pub fraction-divides : (0 < ofZ w64 k) × SFits w64 (quotZ (held (remZ (held z) (pos 1000))) (held k))
-    fraction-divides = (rw ek (each-some unit), rw (rest-is, held-each unit k ek) fraction-fits)
+    pub fraction-divides : (0 < ofZ w64 k) × SFits w64 (quotZ (stored (remZ (stored z) (pos 1000))) (stored k))
+    fraction-divides = (rw ek (each-some unit), rw (rest-is, stored-each unit k ek) fraction-fits)
 
-    fraction-is : held (quotZ (held (remZ (held z) (pos 1000))) (held k)) ≡ fractionOf unit z
-    fraction-is = rw (rest-is, held-each unit k ek) (back (fractionOf unit z) fraction-fits)
+    fraction-is : stored (quotZ (stored (remZ (stored z) (pos 1000))) (stored k)) ≡ fractionOf unit z
+    fraction-is = rw (rest-is, stored-each unit k ek) (back (fractionOf unit z) fraction-fits)
 
-    module _ (n : Number) (en : numberAnswer n ≡ join unit (held (quotZ (held z) (pos 1000))) (held (quotZ (held (remZ (held z) (pos 1000))) (held k)))) where
+    module _ (n : Number) (en : numberAnswer n ≡ join unit (stored (quotZ (stored z) (pos 1000))) (stored (quotZ (stored (remZ (stored z) (pos 1000))) (stored k)))) where
       tried : join unit (wholeOf z) (fractionOf unit z) ≡ numberAnswer n
       tried = sym (ap₂ (join unit) whole-is fraction-is) ∙ sym en
 
@@ -49,6 +50,6 @@ module _ (z : ℤ) (fz : SFits w64 z) where
       unfolding numberAnswer partsAnswer
       other-joins y e differs = sym (split-refuses unit z (λ j. let g = tried ∙ ap numberAnswer e in let s : y ≡ z = cc in differs (ap (ofZ w64) s)))
 
-      pub pair-joins : (y : ℤ) → SFits w64 y → n ≡ Number.Is y → ofZ w64 y ≡ ofZ w64 z → partsAnswer (Parts.Corner (held (quotZ (held z) (pos 1000))) (held (quotZ (held (remZ (held z) (pos 1000))) (held k)))) ≡ split unit z
+      pub pair-joins : (y : ℤ) → SFits w64 y → n ≡ Number.Is y → ofZ w64 y ≡ ofZ w64 z → partsAnswer (Parts.Corner (stored (quotZ (stored z) (pos 1000))) (stored (quotZ (stored (remZ (stored z) (pos 1000))) (stored k)))) ≡ split unit z
       unfolding numberAnswer partsAnswer
       pair-joins y fy e same = rw (whole-is, fraction-is) (sym (split-only unit (wholeOf z) (fractionOf unit z) z (tried ∙ ap numberAnswer e ∙ ap given (same-bits y z fy fz same))))

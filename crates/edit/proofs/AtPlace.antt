@@ -15,7 +15,7 @@ use Rattle.format.specs.Sheet.{partLength}
 use Rattle.format.specs.Judge.{File, sheetIn, AcceptedSheet}
 use Rattle.format.specs.Edit.{absent, aboveIn, lastHeader, dueBehind, openBehind, notBelow, before, after, bodyPlace}
 use Rattle.format.proofs.Above.{Split, find-in, lastHeader-split}
-use Rattle.format.proofs.AcceptedSheet.{held, length-records, length-body, passed, behind}
+use Rattle.format.proofs.AcceptedSheet.{accepted-list, length-records, length-body, passed, behind}
 use Rattle.format.proofs.EditInsert.{above-is}
 use Rattle.format.proofs.Lists.{wide-get, getD-views}
 use Rattle.format.proofs.JudgeWalks.{Passes, Good, good, sort}
@@ -40,7 +40,7 @@ module _ {used : ℕ} {l : List ℕ} (a : AcceptedSheet used l) (place : ℕ) wh
   body-view i h = getD-views (drop (partLength rs) rs) i (omega (arith, h, length-body a, length-drop (partLength rs) rs, length-records a)) ∙ ap view (getD-drop (partLength rs) rs i [])
 
   body-wide : (i : ℕ) → i < length (file .body) → length (getD rs (partLength rs + i) []) ≡ 84
-  body-wide i h = wide-get (partLength rs + i) rs (held a .wide) (omega (arith, h, length-body a, length-records a))
+  body-wide i h = wide-get (partLength rs + i) rs (accepted-list a .wide) (omega (arith, h, length-body a, length-records a))
 
   -- ---- the header or item at the place
   module _ (follows : partLength (chunks (used / 84) l) < place) (closed : dueBehind 0 (before (sheetIn used l) place) ≡ 0) where

@@ -21,7 +21,7 @@ use Rattle.edit.specs.Counts.{withCounts}
 use Rattle.edit.specs.Moves.{putIn}
 use Rattle.edit.specs.Plans.{storedStep}
 use Rattle.edit.proofs.Rewrites.{getD-front, as-records-changed, put-moved}
-use Rattle.format.proofs.AcceptedSheet.{held, length-records, whole, bytes-are, call-is, length-body, sheet-two, sheet-inside}
+use Rattle.format.proofs.AcceptedSheet.{accepted-list, length-records, whole, bytes-are, call-is, length-body, sheet-two, sheet-inside}
 use Rattle.edit.proofs.AtPlace.{above-low, above-high}
 
 module _ (l : List ℕ) (used place : ℕ) (a : AcceptedSheet used l) where
@@ -43,7 +43,7 @@ module _ (l : List ℕ) (used place : ℕ) (a : AcceptedSheet used l) where
   -- the header's own count is at most its total
   pub count-of-total : (views : List View) → insertFault file place tail views 200000 ≡ 0 → (aboveBlock file place views) .count (countIndex ((getD views 0 absent) .kind)) ≤ (aboveBlock file place views) .total
   count-of-total [] e = absurd (empty-refused file tail place e)
-  count-of-total (b ∷ ds) e = rw (above-is (b .level) pre (sp file place b ds (held a .ok) (fits file tail place b ds e))) (above-counts file place b ds (held a .ok) (fits file tail place b ds e))
+  count-of-total (b ∷ ds) e = rw (above-is (b .level) pre (sp file place b ds (accepted-list a .ok) (fits file tail place b ds e))) (above-counts file place b ds (accepted-list a .ok) (fits file tail place b ds e))
 
   module _ (block : List ℕ) (bytes-block : flat (blockOf block) ≡ block) (c : Change) (fault : insertFault file place tail (map view (blockOf block)) 200000 ≡ 0) (k : q ≤ length (file .body)) where
     abbrev item : View
@@ -63,13 +63,13 @@ module _ (l : List ℕ) (used place : ℕ) (a : AcceptedSheet used l) where
       index-inside = omega (arith, above-low a place (item .level) k low near, above-high a place (item .level) k low near)
 
       moved : putIn l used (c .start) block ≡ flat between ++ drop (84 * length (blockOf block)) tail
-      moved = rw start-is (put-moved l used rs (held a .wide) (bytes-are a) (whole a) (partLength rs + q) (blockOf block) block place-inside (block-wide block) bytes-block)
+      moved = rw start-is (put-moved l used rs (accepted-list a .wide) (bytes-are a) (whole a) (partLength rs + q) (blockOf block) block place-inside (block-wide block) bytes-block)
 
       length-between : length between ≡ length rs + length (blockOf block)
       length-between = simp (length-append, length-drop) (omega (arith, place-inside, length-take-le (partLength rs + q) rs place-inside))
 
       wide-between : Wide between
-      wide-between = wide-append _ _ (wide-take (partLength rs + q) rs (held a .wide)) (wide-append _ _ (block-wide block) (wide-drop (partLength rs + q) rs (held a .wide)))
+      wide-between = wide-append _ _ (wide-take (partLength rs + q) rs (accepted-list a .wide)) (wide-append _ _ (block-wide block) (wide-drop (partLength rs + q) rs (accepted-list a .wide)))
 
       header-there : getD between (c .header) [] ≡ getD rs index []
       header-there = ap (λ (i : ℕ). getD between i []) header-is ∙ getD-front (partLength rs + q) index rs (blockOf block ++ drop (partLength rs + q) rs) place-inside (omega (arith, index-inside))

@@ -13,7 +13,7 @@ use Rattle.format.specs.Record.{isHead, countIndex, View, countIn}
 use Rattle.format.specs.Sheet.{partLength}
 use Rattle.format.specs.Judge.{File, sheetIn}
 use Rattle.format.specs.Edit.{remove11, absent, aboveIn, openBehind, before, bodyPlace}
-use Rattle.format.proofs.AcceptedSheet.{held, sheet-two, records-are}
+use Rattle.format.proofs.AcceptedSheet.{accepted-list, sheet-two, records-are}
 use Rattle.format.proofs.EditItems.{item-low}
 use Rattle.format.proofs.EditRemove.{cuts, enough, b-good}
 use Rattle.records.specs.declared.items.Entry.{Entry}
@@ -110,7 +110,7 @@ module _ (l : List ℕ) (used place : ℕ) (sheet : Sheet) (s : OpenedAt l used 
             level-low = omega (arith, level-is, low);
             level-high = omega (arith, level-is, high);
             behind = start .follows;
-            data-inside = omega (arith, data-is, enough file place (held (s .accepted) .ok) (cuts file place eleven), length-drop (bodyPlace file place) (file .body), body-long l used place sheet s, s .part-is, start .follows);
+            data-inside = omega (arith, data-is, enough file place (accepted-list (s .accepted) .ok) (cuts file place eleven), length-drop (bodyPlace file place) (file .body), body-long l used place sheet s, s .part-is, start .follows);
           }
 
 -- ---- the counts
@@ -122,7 +122,7 @@ module _ (l : List ℕ) (used place : ℕ) (sheet : Sheet) (item : Entry) (m : R
   pre = before (sheetIn used l) place
 
   near : pred (item .level) ≤ openBehind 0 0 pre
-  near = omega (arith, m .level-is, b-good (sheetIn used l) place (held (m .opened-at .accepted) .ok) (cuts (sheetIn used l) place (m .eleven)) .near)
+  near = omega (arith, m .level-is, b-good (sheetIn used l) place (accepted-list (m .opened-at .accepted) .ok) (cuts (sheetIn used l) place (m .eleven)) .near)
 
   up-to : place ≤ used / 84 + 1
   up-to = omega (arith, m .data-inside)

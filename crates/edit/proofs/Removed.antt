@@ -20,7 +20,7 @@ use Rattle.edit.specs.Counts.{withCounts}
 use Rattle.edit.specs.Moves.{takenOut}
 use Rattle.edit.specs.Plans.{storedStep}
 use Rattle.edit.proofs.Rewrites.{getD-front, as-records-changed, take-moved}
-use Rattle.format.proofs.AcceptedSheet.{held, length-records, whole, bytes-are, call-is, length-body, sheet-two, sheet-inside}
+use Rattle.format.proofs.AcceptedSheet.{accepted-list, length-records, whole, bytes-are, call-is, length-body, sheet-two, sheet-inside}
 use Rattle.edit.proofs.AtPlace.{above-low, above-high}
 
 module _ (l : List ℕ) (used place : ℕ) (a : AcceptedSheet used l) (c : Change) where
@@ -59,13 +59,13 @@ module _ (l : List ℕ) (used place : ℕ) (a : AcceptedSheet used l) (c : Chang
     index-inside = omega (arith, above-low a place (item .level) (omega (arith, enough)) low near, above-high a place (item .level) (omega (arith, enough)) low near)
 
     moved : takenOut l used (c .start) (c .length) ≡ flat left ++ (replicate (84 * gone) 32 ++ tail)
-    moved = rw (start-is, length-is) (take-moved l used rs (held a .wide) (bytes-are a) (whole a) (partLength rs + q) gone (omega (arith, place-inside)))
+    moved = rw (start-is, length-is) (take-moved l used rs (accepted-list a .wide) (bytes-are a) (whole a) (partLength rs + q) gone (omega (arith, place-inside)))
 
     length-left : length left ≡ length rs - gone
     length-left = simp (length-append, length-drop) (omega (arith, place-inside, length-take-le (partLength rs + q) rs (omega (arith, place-inside))))
 
     wide-left : Wide left
-    wide-left = wide-append _ _ (wide-take (partLength rs + q) rs (held a .wide)) (wide-drop gone (drop (partLength rs + q) rs) (wide-drop (partLength rs + q) rs (held a .wide)))
+    wide-left = wide-append _ _ (wide-take (partLength rs + q) rs (accepted-list a .wide)) (wide-drop gone (drop (partLength rs + q) rs) (wide-drop (partLength rs + q) rs (accepted-list a .wide)))
 
     header-there : getD left (c .header) [] ≡ getD rs index []
     header-there = ap (λ (i : ℕ). getD left i []) header-is ∙ getD-front (partLength rs + q) index rs ([] ++ drop gone (drop (partLength rs + q) rs)) (omega (arith, place-inside)) (omega (arith, index-inside))

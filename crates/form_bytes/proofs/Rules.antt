@@ -7,12 +7,12 @@ use Prim.Native.Nat.{ℕ, zero, suc, _+_, _-_, _≤_, _<_}
 use native.Mathlib.Omega.{arith}
 use borrow.Author.Tests.{le-leb, leb-true, ltb-false, eqb-true, eqb-false, ne-eqb}
 use lib.Dec.{eqb, leb, ltb}
-use lib.IntN.{pos, negℤ, natAbs}
+use lib.IntN.{pos, negℤ}
 use lib.ListN.{length, take, replicate, length-replicate}
 use Rattle.format.specs.declared.Column.the-variants.{Value}
 use Rattle.format.specs.Column.{strip, isDigit, allDigits, valueOf, isNumber, negative, positive, signed, columnOf, formed, integer}
 use Rattle.format.specs.Layout.{Rule, anySign, atLeast, range, within, oneOf, inside, What, text, blank, integral, integralOrSpaces, isFormed, isInside}
-use Rattle.format.proofs.Basics.{and-true, true-and}
+use Rattle.format.proofs.Basics.{and-true, true-and, abs-neg}
 use Rattle.form_bytes.specs.Doubt.{leastAt, mostAt}
 use Rattle.form_bytes.specs.Places.{ruled, placesFor, doubtsIn}
 use Rattle.form_bytes.specs.Told.{fromZero, zeroAllowed}
@@ -112,10 +112,6 @@ Good rule bs = (formed (columnOf bs) ≡ true) × (inside rule (integer (columnO
 in-range : (n m b : ℕ) → isDigit b ≡ true → n ≤ b - 48 → b - 48 ≤ m → Good (range n m) (b ∷ [])
 in-range n m b d h k = rw (one-digit b d) (refl, true-and (leb n (b - 48)) (leb (b - 48) m) (le-leb n (b - 48) h) (le-leb (b - 48) m k))
 
-abs-minus : (n : ℕ) → natAbs (negℤ (pos n)) ≡ n
-abs-minus zero = refl
-abs-minus (suc n) = refl
-
 within-nine : (p b q : ℕ) → Seen 90 p b → Seen 100 b q → Good (within 9) (b ∷ q ∷ [])
 unfolding leastAt mostAt columnOf strip
 within-nine p b q (t-digit l k z) t =
@@ -128,7 +124,7 @@ within-nine p b q (t-space e x f) t =
 within-nine p b q (t-minus e x f) t =
     let d = last-digit b q t .0 in
     let n : eqb q 48 ≡ false = rw e at (last-digit b q t .1) in
-    rw (e, minus-digit q d n) (refl, rw (abs-minus (q - 48)) (le-leb (q - 48) 9 (omega (arith, digit-at-most q d))))
+    rw (e, minus-digit q d n) (refl, rw (abs-neg (q - 48)) (le-leb (q - 48) 9 (omega (arith, digit-at-most q d))))
 
 -- ---- one column
 

@@ -11,6 +11,7 @@ use lib.Seq.{take-nil, take-all, take-take, drop-drop}
 use Rattle.format.specs.Basics.{first, unless, roundUp}
 use Rattle.format.specs.Layout.{anySign, Col, I, column, allFormed, allInside, columnFault, data3D, data2D, dataGrid, dataNet}
 use Rattle.format.specs.Record.{points3D, points2D, triangles, heights, usedIn, dataColumns, dataFault}
+use Rattle.format.proofs.Basics.{first-alone}
 use Rattle.form_columns.specs.Columns.{eachFormed, columnsFormed}
 
 -- ---- layouts of twelve integers of any sign
@@ -54,13 +55,9 @@ inside-sevens zero at cs r = refl
 inside-sevens (suc n) at [] r = refl
 inside-sevens (suc n) at (c ∷ cs) r = inside-sevens n (at + 7) cs r
 
-last-fault : (n : ℕ) → first n 0 ≡ n
-last-fault zero = refl
-last-fault (suc n) = refl
-
 columnFault-sevens : (n : ℕ) (cs : List Col) (r : List ℕ) → n ≤ length cs → columnFault (take n (sevens 0 cs)) r ≡ cond (eachFormed n r) 0 5
 unfolding columnFault
-columnFault-sevens n cs r h = rw (formed-sevens n 0 cs r h, inside-sevens n 0 cs r) (last-fault (unless (eachFormed n r) 5) ∙ five (eachFormed n r))
+columnFault-sevens n cs r h = rw (formed-sevens n 0 cs r h, inside-sevens n 0 cs r) (first-alone (unless (eachFormed n r) 5) ∙ five (eachFormed n r))
   where
     five : (t : Bool) → unless t 5 ≡ cond t 0 5
     five true = refl
@@ -112,7 +109,7 @@ module _ (r bytes : List ℕ) (start : ℕ) (here : r ≡ take 84 (drop start by
 
   -- the fault of a data record: of points in 3D, points in 2D, triangles, heights. None of them has a rule beside its columns
   no-rule : (layout : List Col) (n : ℕ) → Twelve layout → n ≤ 12 → first (columnFault (take n layout) r) 0 ≡ cond (columnsFormed bytes start n) 0 5
-  no-rule layout n t h = last-fault (columnFault (take n layout) r) ∙ columnFault-in-record layout n t h
+  no-rule layout n t h = first-alone (columnFault (take n layout) r) ∙ columnFault-in-record layout n t h
 
   pub columnFault-3D : (count n : ℕ) → dataFault (points3D count) n r ≡ cond (columnsFormed bytes start (3 * usedIn 4 count n)) 0 5
   unfolding dataFault dataColumns

@@ -42,6 +42,17 @@ pub first-zero : (a b : ℕ) → first a b ≡ 0 → (a ≡ 0) × (b ≡ 0)
 first-zero zero b e = (refl, e)
 first-zero (suc a) b e = absurd (omega arith)
 
+pub first-alone : (n : ℕ) → first n 0 ≡ n
+first-alone zero = refl
+first-alone (suc n) = refl
+
+pub first-none : (a b : ℕ) → a ≡ 0 → b ≡ first a b
+first-none a b e = rw e
+
+pub first-some : (a b : ℕ) → (a ≡ 0 → ⊥) → a ≡ first a b
+first-some zero b ne = absurd (ne refl)
+first-some (suc a) b ne = refl
+
 pub zero-first : (a b : ℕ) → a ≡ 0 → b ≡ 0 → first a b ≡ 0
 zero-first a b p q = rw (p, q)
 

@@ -333,14 +333,14 @@ module _ (b : Buffer) (n m : ℕ) (judged : judgeSheet (b .used) (b .bytes) ≡ 
   f = sheetOf b
 
   pub whole : (sheetOf b) .partLength + length ((sheetOf b) .body) ≡ b .used / 84
-  whole = records-of theLaws (listOf b) (o .held) ∙ length-chunks (b .used / 84) (b .bytes)
+  whole = records-of theLaws (listOf b) (o .accepted-list) ∙ length-chunks (b .used / 84) (b .bytes)
 
   closed : dueBehind 0 ((sheetOf b) .body) ≡ 0
-  closed = o .held .ok .walks .1
+  closed = o .accepted-list .ok .walks .1
 
   -- the buffer behind the records
   tail-length : b .used + length ((listOf b) .tail) ≡ length (b .bytes)
-  tail-length = omega (arith, ap (λ (x : Buffer). length (x .bytes)) (o .same), ap (λ (x : Buffer). x .used) (o .same), length-append (flat ((listOf b) .records)) ((listOf b) .tail), length-flat ((listOf b) .records) (o .held .wide))
+  tail-length = omega (arith, ap (λ (x : Buffer). length (x .bytes)) (o .same), ap (λ (x : Buffer). x .used) (o .same), length-append (flat ((listOf b) .records)) ((listOf b) .tail), length-flat ((listOf b) .records) (o .accepted-list .wide))
 
   module _ (place : ℕ) (block : List ℕ) where
     abbrev views : List View
@@ -376,7 +376,7 @@ module _ (b : Buffer) (n m : ℕ) (judged : judgeSheet (b .used) (b .bytes) ≡ 
       says13 = rw (block-view i) (says-and (near-says (sheetOf b) place (start .level)) (now-says (sheetOf b) place (start .level) (here .0) (here .2)))
 
       above : start .level ≤ suc (openBehind 0 0 (beforePlace b place block)) → HeaderAbove (start .level) (beforePlace b place block)
-      above near = split-above (start .level) (beforePlace b place block) (omega (arith, block-low i)) (find-in (pred (start .level)) nothing (beforePlace b place block) ((passes-split 0 0 nothing (beforePlace b place block) (drop (bodyPlace (sheetOf b) place) ((sheetOf b) .body)) (rw (take-append-drop (bodyPlace (sheetOf b) place) ((sheetOf b) .body)) (o .held .ok .walks .0))) .0) (omega (arith, block-low i)) (omega (arith, block-low i)))
+      above near = split-above (start .level) (beforePlace b place block) (omega (arith, block-low i)) (find-in (pred (start .level)) nothing (beforePlace b place block) ((passes-split 0 0 nothing (beforePlace b place block) (drop (bodyPlace (sheetOf b) place) ((sheetOf b) .body)) (rw (take-append-drop (bodyPlace (sheetOf b) place) ((sheetOf b) .body)) (o .accepted-list .ok .walks .0))) .0) (omega (arith, block-low i)) (omega (arith, block-low i)))
 
       says14 : start .level ≤ suc (openBehind 0 0 (beforePlace b place block)) → Says (leb ((aboveBlock (sheetOf b) place views) .total + 1) 99999 && (not (eqb (countIndex ((getD views 0 absent) .kind)) 9) || leb ((aboveBlock (sheetOf b) place views) .count (countIndex ((getD views 0 absent) .kind)) + 1) 9) && leb ((sheetOf b) .partLength + length ((sheetOf b) .body) + length views) 200000) (TooMany b place block)
       says14 near = rw (block-view i, whole, block-count i) (says-and (header-says (start .level) (beforePlace b place block) (take 84 block) (above near)) (says-leb (b .used / 84 + length block / 84) 200000))

@@ -19,8 +19,9 @@ use Rattle.format.specs.Sheet.{Phase, due-a, due-b, due-c, due-d, due-e,
 use Rattle.format.specs.Index as Index
 use Rattle.format.specs.Index.{Stage, bCountOk}
 use Rattle.format.specs.Checks.{FirstOf, OneOf, inOrder, columnFaults, UnitWrong, Starts, FCountKept, FractionWrong, SomeFractionWrong, partFaults, indexFaults}
+use Rattle.format.proofs.Basics.{first-alone}
 use Rattle.format.proofs.ChecksOrder.{Says, Decides, decides-says, decides-and, decides-or, decides-map, decides-eqb, says-never, says-map, says-and, says-eqb, says-leb, check-first, check-never, check-end}
-use Rattle.format.proofs.ChecksRecords.{first-none, outside-says, columns-first, decides-rounded}
+use Rattle.format.proofs.ChecksRecords.{outside-says, columns-first, decides-rounded}
 
 -- ---- 2
 same-decides : (xs ys : List ℕ) → Decides (same xs ys) (xs ≡ ys)
@@ -89,7 +90,7 @@ module _ (layout : List Col) (r : List ℕ) where
 
   -- with nothing else
   plain-columns : FirstOf (inOrder (columnFaults ⊥ layout ⊥ ⊥ r)) (columnFault layout r)
-  plain-columns = rw (first-none (columnFault layout r)) at (columns-in-order true true true ⊥ ⊥ ⊥ says-never says-never says-never)
+  plain-columns = rw (first-alone (columnFault layout r)) at (columns-in-order true true true ⊥ ⊥ ⊥ says-never says-never says-never)
 
 two-bytes-M : length (bytes "M ") ≡ 2
 unfolding bytes
@@ -107,16 +108,16 @@ f-count-decides : (courses fs : ℕ) → Decides (fCountOk courses fs) (FCountKe
 f-count-decides courses fs = decides-or (decides-eqb fs 0) (decides-rounded courses 3 fs (omega arith))
 
 pub part-first : (p : Phase) (r : List ℕ) → FirstOf (inOrder (partFaults p r)) (wrongIn p r)
-part-first due-a r = rw (first-none (columnFault sheetA r)) at (columns-in-order sheetA r (begins "M " r) true true _ ⊥ ⊥ (starts-says "M " r two-bytes-M) says-never says-never)
-part-first (due-b level more) r = rw (first-none (unless (eqb (numberAt sheetB "unit" r) (unitOf level)) 6)) at (columns-in-order sheetB r true (eqb (numberAt sheetB "unit" r) (unitOf level)) true ⊥ _ ⊥ says-never (unit-says level (numberAt sheetB "unit" r)) says-never)
+part-first due-a r = rw (first-alone (columnFault sheetA r)) at (columns-in-order sheetA r (begins "M " r) true true _ ⊥ ⊥ (starts-says "M " r two-bytes-M) says-never says-never)
+part-first (due-b level more) r = rw (first-alone (unless (eqb (numberAt sheetB "unit" r) (unitOf level)) 6)) at (columns-in-order sheetB r true (eqb (numberAt sheetB "unit" r) (unitOf level)) true ⊥ _ ⊥ says-never (unit-says level (numberAt sheetB "unit" r)) says-never)
 part-first (due-c unit wholes more) r = plain-columns sheetC r
-part-first (due-d unit wholes more) r = rw (first-none (unless (fCountOk (numberAt sheetD "courses" r) (numberAt sheetD "f records" r)) 6)) at (columns-in-order sheetD r true (fCountOk (numberAt sheetD "courses" r) (numberAt sheetD "f records" r)) true ⊥ _ ⊥ says-never (decides-says (f-count-decides (numberAt sheetD "courses" r) (numberAt sheetD "f records" r))) says-never)
+part-first (due-d unit wholes more) r = rw (first-alone (unless (fCountOk (numberAt sheetD "courses" r) (numberAt sheetD "f records" r)) 6)) at (columns-in-order sheetD r true (fCountOk (numberAt sheetD "courses" r) (numberAt sheetD "f records" r)) true ⊥ _ ⊥ says-never (decides-says (f-count-decides (numberAt sheetD "courses" r) (numberAt sheetD "f records" r))) says-never)
 part-first (due-e unit wholes more fs) r = columns-in-order sheetE r true true (fractionsOk unit wholes (fractionsOf r)) ⊥ ⊥ _ says-never says-never (fractions-says unit wholes (fractionsOf r))
 part-first (due-f unit wholes more fs) r = plain-columns sheetF r
 part-first body r = nothing-due r
 
 pub index-first : (s : Stage) (r : List ℕ) → FirstOf (inOrder (indexFaults s r)) (Index.wrongIn s r)
-index-first Index.due-a r = rw (first-none (unless (bCountOk r) 6)) at (columns-in-order indexA r (begins "I " r) (bCountOk r) true _ _ ⊥ (starts-says "I " r two-bytes-I) (decides-says (decides-rounded (numberAt indexA "sheets" r) 10 (numberAt indexA "b records" r) (omega arith))) says-never)
+index-first Index.due-a r = rw (first-alone (unless (bCountOk r) 6)) at (columns-in-order indexA r (begins "I " r) (bCountOk r) true _ _ ⊥ (starts-says "I " r two-bytes-I) (decides-says (decides-rounded (numberAt indexA "sheets" r) 10 (numberAt indexA "b records" r) (omega arith))) says-never)
 index-first (Index.due-b bs cs) r = plain-columns indexB r
 index-first (Index.due-c cs) r = plain-columns indexC r
 index-first Index.over r = nothing-due r

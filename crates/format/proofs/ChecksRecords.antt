@@ -3,7 +3,7 @@ use mathlib.Core.Path.{_≡_, refl, ap, sym, _∙_}
 use mathlib.Core.Logic.{inl, inr, _≢_}
 use mathlib.Core.Bool.{Bool, true, false, cond, _&&_, false≢true}
 use mathlib.Core.List.{List, [], _∷_}
-use Prim.Native.Nat.{ℕ, zero, suc, _+_, _-_, _*_, _%_, _≤_, _<_}
+use Prim.Native.Nat.{ℕ, suc, _+_, _-_, _*_, _%_, _≤_, _<_}
 use native.Mathlib.Omega.{arith}
 use native.Mathlib.Nat.{mod-add-div, mod-lt, div-eq-of-lt-le, mul-comm, mul-add}
 use lib.Dec.{leb, eqb}
@@ -18,7 +18,7 @@ use Rattle.format.specs.declared.Column.the-variants.{Value, MinusZero, 
 use Rattle.format.specs.Layout.{Rule, anySign, atLeast, range, within, oneOf, inside, isOne, spaces, What, text, blank, integral, integralOrSpaces, Col, column, find, integerAt, numberAt, dataNote, element, gridHeader, netHeader, header, bytesOf, isFormed, isInside, allFormed, allInside, columnFault}
 use Rattle.format.specs.Record.{RecordType, H, E1, E2, E3, E4, E5, E6, E7, E8, G, T, other, typeOf, Kind, head, item, neither, kindOf, view, viewAs, kindAndCount, elementRecords, elementRule, isHeaderOrItem, headerView, elementView, gridView, netView, otherView, gridStates, gridNeeds, netNeeds, Data, nothing, points3D, points2D, triangles, heights, notes, attributes, dataColumns, dataRule, dataFault, directionOk}
 use Rattle.format.specs.Judge.{lowestLevel, highestLevel, faultAt}
-use Rattle.format.proofs.Basics.{and-true, true-and}
+use Rattle.format.proofs.Basics.{and-true, true-and, first-alone}
 use Rattle.format.proofs.ChecksOrder.{Says, Decides, check-first, check-never, decides-says, surely, says-never, says-and, says-still, says-then, says-or, says-leb, always, decides-and, decides-or, decides-map, decides-eqb, decides-leb}
 use Rattle.format.specs.Checks.{Check, FirstOf, Some, inOrder, MalformedAs, Inside, OutsideAs, Outside, OneOf, Coordinates, LevelBroken, RoundedUp, KindAndCount, Records, ElementKept, faultsAs, headerOrItemFaults, DirectionKept, NoteWrong, dataFaults}
 use Rattle.format.specs.Checks.{Malformed as MalformedIn}
@@ -218,13 +218,9 @@ unfolding view
 due-first opened held r = as-first opened r held (typeOf r)
 
 -- ---- A data record, 2 to 9 in order
-pub first-none : (a : ℕ) → first a 0 ≡ a
-first-none zero = refl
-first-none (suc a) = refl
-
 -- columns alone, and one test more that is 6
 pub columns-last : (layout : List Col) (r : List ℕ) (extra : Bool) (Six : Type 0) (cs : List Check) → (allFormed layout r ≡ true → Says (allInside layout r && extra) Six) → (allFormed layout r ≡ true → allInside layout r && extra ≡ true → FirstOf cs 0) → FirstOf (record { number = 5; applies = MalformedIn layout r } ∷ record { number = 6; applies = Six } ∷ cs) (first (columnFault layout r) (unless extra 6))
-columns-last layout r extra Six cs six rest = rw (first-none (unless extra 6)) at (columns-first layout r extra Six cs 0 six rest)
+columns-last layout r extra Six cs six rest = rw (first-alone (unless extra 6)) at (columns-first layout r extra Six cs 0 six rest)
 
 first-of-two : (r : List ℕ) → allInside dataNote r ≡ true → numberAt dataNote "writing direction" r ≤ 1
 unfolding allInside dataNote numberAt find

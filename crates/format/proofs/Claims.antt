@@ -23,10 +23,11 @@ use Rattle.format.proofs.JudgeWalks.{headersAndItems-append, walk-passe
 use Rattle.format.proofs.JudgeCounts.{Agree, counted-at}
 use Rattle.format.proofs.Above.{dataRecords-head}
 use Rattle.format.proofs.JudgeAccepted.{Ok, accepted-ok}
+use Rattle.format.proofs.JudgeStages.{sheet-stages, record-stages}
 use Rattle.format.proofs.JudgeMeaning.{meaning}
 use Rattle.format.proofs.ColumnRoundTrip.{round-trip}
 use Rattle.format.proofs.Corners.{split-only, split-joins, split-answers, refused-unjoined, unjoined-refused}
-use Rattle.format.proofs.Run.{Opened, accepted-opened, held-judged, sound, demand3}
+use Rattle.format.proofs.Run.{sound, demand3}
 use Rattle.format.proofs.SheetCounts.{theLaws}
 use Rattle.format.proofs.ChecksAlone.{input-index, input-sheet}
 
@@ -57,10 +58,7 @@ any-sheet = sound theLaws
 
 -- the body of an accepted sheet is accepted by itself
 pub body-judged : (b : Buffer) (n m : ℕ) → judgeSheet (b .used) (b .bytes) ≡ accepted n m → judge (fileOf (chunks (b .used / 84) (b .bytes))) ≡ accepted n m
-body-judged b n m e = sym (held-judged theLaws _ (o .held)) ∙ ap (λ (x : Buffer). judgeSheet (x .used) (x .bytes)) (o .same) ∙ e
-  where
-    o : Opened theLaws b
-    o = accepted-opened theLaws b n m e
+body-judged b n m e = (record-stages _ _ ((sheet-stages (b .used) (b .bytes) _ e) .1)) .1
 
 -- the counts in document 01's own words, of every body that passes stage two: what stands one level below under a header, of a kind, are the
 -- headers and items of that kind whose header above it is. So the counts that 10 compares are these, accepted or refused

@@ -9,11 +9,15 @@ use native.Mathlib.Numerals.{add-one}
 use native.Mathlib.Omega.{arith}
 use borrow.Author.Tests.{le-leb, lt-ltb, le-ltb, leb-true, ltb-true, ltb-false, eqb-true}
 use lib.Dec.{eqb, leb, ltb}
-use lib.ListN.{length, take, drop, replicate, length-append, length-replicate, length-drop, take-append-drop}
-use lib.Seq.{take-at, drop-at, length-take-le, take-all, drop-append-le, take-append-le, drop-append-add, drop-drop}
+use lib.ListN.{length, take, drop, getD, replicate, length-append, length-replicate, length-drop, take-append-drop}
+use lib.Seq.{take-at, drop-at, length-take-le, take-all, drop-append-le, take-append-le, drop-append-add, drop-drop, getD-take, getD-drop}
 use lib.IntN.{ℤ, pos, negℤ}
+use types.Run.{OneOf, miss}
+use denote.Enum.Declared.{tagOf}
+use Rattle.format.proofs.Column.{the-type}
+use Rattle.format.specs.declared.Column.{Column}
 use Rattle.format.specs.declared.Column.the-variants.{Value, MinusZero, Malformed}
-use Rattle.format.specs.Column.{strip, isDigit, allDigits, valueOf, isNumber, negative, positive, signed, columnOf, size, numberOf, digitsIn, digits, textOf, fits, written}
+use Rattle.format.specs.Column.{strip, isDigit, allDigits, valueOf, isNumber, negative, positive, signed, columnOf, formed, size, numberOf, digitsIn, digits, textOf, fits, written}
 use Rattle.format.specs.Layout.{column, splice}
 
 -- the four kinds of byte, each with what the tests say of it
@@ -268,3 +272,17 @@ module _ (at w : ℕ) (new r : List ℕ) (len : length new ≡ w) (fits : at + w
 pub length-column : (at w : ℕ) (r : List ℕ) → at + w ≤ length r → length (column at w r) ≡ w
 unfolding column
 length-column at w r l = length-take-le w (drop at r) (rw (length-drop at r) (omega arith))
+
+-- a byte is a column of width 1
+pub byte-column : (i : ℕ) (r : List ℕ) → getD r i 0 ≡ getD (column i 1 r) 0 0
+unfolding column
+byte-column i r = sym (getD-take 1 (drop i r) 0 0 (omega arith) ∙ getD-drop i r 0 0 ∙ ap (λ (k : ℕ). getD r k 0) none-more)
+  where
+    none-more : i + 0 ≡ i
+    none-more = omega arith
+
+-- what `let Column::Value(z) = .. else` tells of the column in its other way
+pub other-tag : (c : Column) → OneOf (1 ∷ 2 ∷ []) (tagOf the-type c) → formed c ≡ false
+other-tag (Value z) h = absurd (miss (1 ∷ 2 ∷ []) 0 tt h)
+other-tag MinusZero h = refl
+other-tag Malformed h = refl

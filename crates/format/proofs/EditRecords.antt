@@ -37,7 +37,8 @@ pub record Lawful : Type 0 where
   pub lower-wide : (j : ℕ) (r : List ℕ) → j ≤ 9 → length r ≡ 84 → length (lower j r) ≡ 84
   pub write-wide : (e s : ℕ) (r : List ℕ) → length r ≡ 84 → length (writeCounts e s r) ≡ 84
 
-pub record Held (g : RecordList) : Type 0 where
+-- the record list of an accepted sheet
+pub record AcceptedList (g : RecordList) : Type 0 where
   pub wide : Wide (g .records)
   pub few : length (g .records) ≤ 200000
   pub sheet : sheetOk (g .records) ≡ true
@@ -70,7 +71,7 @@ items-few (suc n) (r ∷ rs) = omega (arith, items-few n rs)
 
 module _ (L : Lawful) where
   -- the sheet part written anew before any body
-  module _ (g : RecordList) (k : Held g) (e s : ℕ) (e-fits : e ≤ 999999) (s-fits : s ≤ 9999999) (X : List (List ℕ)) where
+  module _ (g : RecordList) (k : AcceptedList g) (e s : ℕ) (e-fits : e ≤ 999999) (s-fits : s ≤ 9999999) (X : List (List ℕ)) where
     abbrev front : List (List ℕ)
     front = alterAt (writeCounts e s) 1 (take (partLength (g .records)) (g .records))
 
@@ -87,7 +88,7 @@ module _ (L : Lawful) where
     file-written = file-path _ _ (L .partLength-kept (g .records) X e s (k .wide) (k .sheet) e-fits s-fits) (rw second (L .statedElements-written e s _ second-wide e-fits)) (rw second (L .statedRecords-written e s _ second-wide s-fits)) (rw (L .partLength-kept (g .records) X e s (k .wide) (k .sheet) e-fits s-fits, drop-at front X (partLength (g .records)) front-length))
 
   -- insertion
-  module _ (g : RecordList) (p : ℕ) (x : List ℕ) (xs : List (List ℕ)) (k : Held g) (t : Fits (before (fileOf (g .records)) p) (after (fileOf (g .records)) p) (view x) (map view xs) ((fileOf (g .records)) .partLength + length ((fileOf (g .records)) .body) + length (view x ∷ map view xs))) where
+  module _ (g : RecordList) (p : ℕ) (x : List ℕ) (xs : List (List ℕ)) (k : AcceptedList g) (t : Fits (before (fileOf (g .records)) p) (after (fileOf (g .records)) p) (view x) (map view xs) ((fileOf (g .records)) .partLength + length ((fileOf (g .records)) .body) + length (view x ∷ map view xs))) where
     -- the header that is written anew, as a data record
     abbrev says-more : Data → ℕ → ℕ
     says-more = asData (raise (countIndex ((view x) .kind)) (getD (take (bodyPlace (fileOf (g .records)) p) (bodyRecords g p)) (pred (aboveIn ((view x) .level) (before (fileOf (g .records)) p))) []))
@@ -126,8 +127,8 @@ module _ (L : Lawful) where
         bodies : map view (changed g p raise (view x) ++ (x ∷ xs ++ drop (bodyPlace (fileOf (g .records)) p) (bodyRecords g p))) ≡ change (more says-more) (view x) (before (fileOf (g .records)) p) ++ (view x ∷ map view xs ++ after (fileOf (g .records)) p)
         bodies = rw (map-append view (changed g p raise (view x)) (x ∷ xs ++ drop (bodyPlace (fileOf (g .records)) p) (bodyRecords g p)), changed-view, map-append view xs (drop (bodyPlace (fileOf (g .records)) p) (bodyRecords g p)), map-drop view (bodyPlace (fileOf (g .records)) p) (bodyRecords g p))
 
-    pub put-held : Wide (x ∷ xs) → Held (inserted g p (x ∷ xs))
-    put-held w = record {
+    pub put-accepted : Wide (x ∷ xs) → AcceptedList (inserted g p (x ∷ xs))
+    put-accepted w = record {
       wide = let small : countIndex ((view x) .kind) ≤ 9 = (good 8 nothing (view x) (t .passes .0)) .known in search (wide-append, wide-alter, wide-take, wide-drop, L .write-wide, L .raise-wide, k .wide) depth 8;
       few = simp (length-append, length-alterAt) (omega (arith, t .file-fits, length-map xs view, length-map (bodyRecords g p) view, length-take-le (partLength (g .records)) (g .records) (L .inside (g .records) (k .sheet)), simp length-append at (ap length (take-append-drop (bodyPlace (fileOf (g .records)) p) (bodyRecords g p)))));
       sheet = L .sheet-kept (g .records) _ _ _ (k .wide) (k .sheet) (omega (arith, statedElements-few, t .file-fits)) (omega (arith, k .ok .statedRecords, t .file-fits, length-map xs view));
@@ -135,7 +136,7 @@ module _ (L : Lawful) where
     }
 
   -- removal
-  module _ (g : RecordList) (p : ℕ) (k : Held g) (t : Cuts ((fileOf (g .records)) .body) (bodyPlace (fileOf (g .records)) p)) where
+  module _ (g : RecordList) (p : ℕ) (k : AcceptedList g) (t : Cuts ((fileOf (g .records)) .body) (bodyPlace (fileOf (g .records)) p)) where
     -- the header that is written anew, as a data record
     abbrev says-less : Data → ℕ → ℕ
     says-less = asData (lower (countIndex ((removedItem g p) .kind)) (getD (take (bodyPlace (fileOf (g .records)) p) (bodyRecords g p)) (pred (aboveIn ((removedItem g p) .level) (before (fileOf (g .records)) p))) []))
@@ -173,8 +174,8 @@ module _ (L : Lawful) where
         bodies : map view (changed g p lower (removedItem g p) ++ drop (suc ((removedItem g p) .dataRecords)) (drop (bodyPlace (fileOf (g .records)) p) (bodyRecords g p))) ≡ change (less says-less) (removedItem g p) (before (fileOf (g .records)) p) ++ drop (suc ((removedItem g p) .dataRecords)) (after (fileOf (g .records)) p)
         bodies = rw (map-append view (changed g p lower (removedItem g p)) (drop (suc ((removedItem g p) .dataRecords)) (drop (bodyPlace (fileOf (g .records)) p) (bodyRecords g p))), changed-view′, map-drop view (suc ((removedItem g p) .dataRecords)) (drop (bodyPlace (fileOf (g .records)) p) (bodyRecords g p)), map-drop view (bodyPlace (fileOf (g .records)) p) (bodyRecords g p))
 
-    pub cut-held : Held (removed g p)
-    cut-held = record {
+    pub cut-accepted : AcceptedList (removed g p)
+    cut-accepted = record {
       wide = let small : countIndex ((removedItem g p) .kind) ≤ 9 = (b-good (fileOf (g .records)) p (k .ok) t) .known in search (wide-append, wide-alter, wide-take, wide-drop, L .write-wide, L .lower-wide, k .wide) depth 8;
       few = simp (length-append, length-alterAt, length-drop) (omega (arith, k .few, L .inside (g .records) (k .sheet), length-take-le (partLength (g .records)) (g .records) (L .inside (g .records) (k .sheet)), simp (length-append, length-drop) at (ap length (take-append-drop (bodyPlace (fileOf (g .records)) p) (bodyRecords g p)))));
       sheet = L .sheet-kept (g .records) _ _ _ (k .wide) (k .sheet) (omega (arith, statedElements-few′, body-few)) (omega (arith, k .ok .statedRecords, body-few));

@@ -3,6 +3,7 @@ pub mod Basics
 pub mod Lists
 pub mod Columns
 pub mod ColumnFits
+pub mod Signed
 pub mod ColumnRoundTrip
 pub mod ColumnMeaning
 pub mod ColumnAlone

@@ -8,7 +8,7 @@ use native.Mathlib.Omega.{arith}
 use lib.Dec.{eqb, leb}
 use borrow.Author.Tests.{eqb-true}
 use lib.ListN.{length, take, drop, getD, take-append-drop}
-use lib.Seq.{getD-drop, getD-take, drop-drop}
+use lib.Seq.{drop-drop}
 use Rattle.format.specs.declared.Column.{Column}
 use Rattle.format.specs.declared.Column.the-variants.{Value, MinusZero, Malformed}
 use Rattle.format.specs.Basics.{unless}
@@ -17,7 +17,7 @@ use Rattle.format.specs.Layout.{columnFault, What, text, blank, integral
 use Rattle.format.specs.Normal.{normalBytes, normalRecord}
 use Rattle.format.specs.JudgedColumns.{WrittenAnew, ColumnNormal, EachColumn, isInteger, InNoInteger, Normalised}
 use Rattle.format.proofs.Basics.{and-true, true-and, first-zero, unless-zero}
-use Rattle.format.proofs.Columns.{length-written, length-splice, column-own, column-before, column-behind, length-column}
+use Rattle.format.proofs.Columns.{length-written, length-splice, column-own, column-before, column-behind, length-column, byte-column}
 
 -- ---- columns that lie end to end from `at` on, within 84 bytes
 abbrev pub EndToEnd : (at : ℕ) → List Col → Type 0
@@ -96,13 +96,6 @@ length-normal integralOrSpaces w bs e = at-test (spaces bs)
     at-test false = length-written w (integer (columnOf bs))
 
 -- ---- bytes of a record with a column written anew
-byte-column : (i : ℕ) (r : List ℕ) → getD r i 0 ≡ getD (column i 1 r) 0 0
-unfolding column
-byte-column i r = sym (getD-take 1 (drop i r) 0 0 (omega arith) ∙ getD-drop i r 0 0 ∙ ap (λ (k : ℕ). getD r k 0) none-more)
-  where
-    none-more : i + 0 ≡ i
-    none-more = omega arith
-
 -- a column written with its own bytes is as it was
 pub splice-same : (s w : ℕ) (r : List ℕ) → splice s w (column s w r) r ≡ r
 unfolding splice column

@@ -8,11 +8,11 @@ use native.Mathlib.Omega.{arith}
 use lib.Dec.{leb, ltb, eqb}
 use lib.IntN.{pos}
 use lib.ListN.{length, length-append, length-drop, length-map, length-replicate, take, drop, take-append-drop, getD, replicate, List·getD-append}
-use lib.Seq.{getD-append-add, getD-take, getD-drop, length-take-le}
+use lib.Seq.{getD-append-add, length-take-le}
 use borrow.Author.Tests.{leb-true, leb-false, ltb-true, ltb-false}
 use Rattle.format.specs.Basics.{Answer, given, refused, flat}
 use Rattle.format.specs.Column.{written}
-use Rattle.format.specs.Layout.{Col, column, find, numberAt, header, sheetB}
+use Rattle.format.specs.Layout.{Col, find, numberAt, header, sheetB}
 use Rattle.format.specs.Record.{View, view, nothing, countIn, countIndex, countName, rewrite, raise, lower}
 use Rattle.format.specs.Sheet.{partLength, writeCounts}
 use Rattle.format.specs.Judge.{File, fileOf}
@@ -20,7 +20,7 @@ use Rattle.format.specs.Edit.{RecordList, file, alterAt, aboveIn, before
 use Rattle.format.specs.Calls.{conclude, Edit, insert, remove, plain}
 use Rattle.format.specs.Run.{bufferOf, placeOf, itemOf, inColumn, inFour, headerAbove, withBlock, withoutItem, moved}
 use Rattle.format.proofs.Basics.{and-true, or-false, first-zero, unless-zero}
-use Rattle.format.proofs.Columns.{Apart, left, right, column-other, length-splice, length-written}
+use Rattle.format.proofs.Columns.{Apart, left, right, column-other, length-splice, length-written, byte-column}
 use Rattle.format.proofs.Lists.{Wide, map-drop, block-wide, length-flat, length-alterAt, wide-nil, wide-alter, wide-append, wide-take, wide-drop}
 use Rattle.format.proofs.RecordHeaders.{place}
 use Rattle.format.proofs.JudgeWalks.{good}
@@ -29,7 +29,7 @@ use Rattle.format.proofs.AboveWayUp.{above-split}
 use Rattle.format.proofs.EditInsert.{Fits, fits, sp, empty-refused}
 use Rattle.format.proofs.EditRemove.{Cuts, cuts, enough, b-good, sp as cut-sp}
 use Rattle.format.proofs.EditMoves.{as-records}
-use Rattle.format.proofs.EditRecords.{Lawful, Held, put-held, cut-held}
+use Rattle.format.proofs.EditRecords.{Lawful, AcceptedList, put-accepted, cut-accepted}
 
 -- ---- one byte of joined lists
 right-byte : (i : ℕ) (a c : List ℕ) → length a ≤ i → getD (a ++ c) i 0 ≡ getD c (i - length a) 0
@@ -60,20 +60,13 @@ alter-byte f wide zero i (r ∷ rs) t w h = rw (append-assoc (f r) (flat rs) t, 
 alter-byte f wide (suc j) i (r ∷ rs) t w h = rw (append-assoc r (flat (alterAt f j rs)) t, append-assoc r (flat rs) t) (behind-byte i r _ _ (λ k e. alter-byte f wide j k rs t (w .1) (λ x m lx em. h x m lx (omega (arith, w .0)))))
 
 -- ---- a column written anew
-byte-of : (k : ℕ) (x : List ℕ) → getD (column k 1 x) 0 0 ≡ getD x k 0
-unfolding column
-byte-of k x = getD-take 1 (drop k x) 0 0 (omega arith) ∙ getD-drop k x 0 0 ∙ ap (λ (n : ℕ). getD x n 0) none
-  where
-    none : k + 0 ≡ k
-    none = omega arith
-
 rewrite-length : (layout : List Col) (name : String) (x : ℕ) (r : List ℕ) → (find name layout) .start + (find name layout) .width ≤ length r → length (rewrite layout name x r) ≡ length r
 unfolding rewrite
 rewrite-length layout name x r room = length-splice _ _ _ r (length-written _ (pos x)) room
 
 rewrite-byte : (layout : List Col) (name : String) (x : ℕ) (r : List ℕ) (k : ℕ) → (find name layout) .start + (find name layout) .width ≤ length r → Apart k 1 ((find name layout) .start) ((find name layout) .width) → getD (rewrite layout name x r) k 0 ≡ getD r k 0
 unfolding rewrite
-rewrite-byte layout name x r k room a = sym (byte-of k _) ∙ ap (λ (bs : List ℕ). getD bs 0 0) (column-other _ _ (written ((find name layout) .width) (pos x)) r (length-written _ (pos x)) room k 1 a) ∙ byte-of k r
+rewrite-byte layout name x r k room a = byte-column k _ ∙ ap (λ (bs : List ℕ). getD bs 0 0) (column-other _ _ (written ((find name layout) .width) (pos x)) r (length-written _ (pos x)) room k 1 a) ∙ sym (byte-column k r)
 
 -- byte i, which is byte k of its record, lies outside a column
 outside : (number : ℕ) (c : Col) (i k : ℕ) → inColumn number c i ≡ false → i ≡ 84 * pred number + k → Apart k 1 (c .start) (c .width)
@@ -153,7 +146,7 @@ remove-place f p e =
     let b = and-true (ltb (f .partLength) p && ltb (bodyPlace f p) (length (f .body))) _ (a .0) in
     ltb-true _ _ ((and-true (ltb (f .partLength) p) (ltb (bodyPlace f p) (length (f .body))) (b .0)) .0)
 
-module _ (L : Lawful) (g : RecordList) (p : ℕ) (k : Held g) (behind : partLength (g .records) < p) (room : bodyPlace (fileOf (g .records)) p ≤ length ((fileOf (g .records)) .body)) where
+module _ (L : Lawful) (g : RecordList) (p : ℕ) (k : AcceptedList g) (behind : partLength (g .records) < p) (room : bodyPlace (fileOf (g .records)) p ≤ length ((fileOf (g .records)) .body)) where
   abbrev q : ℕ
   q = bodyPlace (fileOf (g .records)) p
 
@@ -187,7 +180,7 @@ KeepsList (given u) four old between new = (i : ℕ) → four i ≡ false → ge
 KeepsList (refused n r) four old between new = new ≡ old
 
 module _ (L : Lawful) where
-  keeps-put : (g : RecordList) (p : ℕ) (blk : List (List ℕ)) → Held g → Wide blk → (n : ℕ) → insertFault (fileOf (g .records)) p (g .tail) (map view blk) 200000 ≡ n → KeepsList ((conclude n g (inserted g p blk)) .reply) (inFour (headerAbove g p (firstView g p blk)) (firstView g p blk)) g (withBlock g p blk) ((conclude n g (inserted g p blk)) .list)
+  keeps-put : (g : RecordList) (p : ℕ) (blk : List (List ℕ)) → AcceptedList g → Wide blk → (n : ℕ) → insertFault (fileOf (g .records)) p (g .tail) (map view blk) 200000 ≡ n → KeepsList ((conclude n g (inserted g p blk)) .reply) (inFour (headerAbove g p (firstView g p blk)) (firstView g p blk)) g (withBlock g p blk) ((conclude n g (inserted g p blk)) .list)
   keeps-put g p [] k w zero e = absurd (empty-refused (fileOf (g .records)) (g .tail) p e)
   keeps-put g p (x ∷ xs) k w zero e = λ i out. edit-keeps L g p k (there .0) (there .1) (view x) (sp (fileOf (g .records)) p (view x) (map view xs) (k .ok) t) raise raise-is ((good 8 nothing (view x) (t .passes .0)) .known) (x ∷ xs) 0 _ _ i (drop (84 * length (x ∷ xs)) (g .tail)) w out
     where
@@ -198,14 +191,14 @@ module _ (L : Lawful) where
       t = fits (fileOf (g .records)) (g .tail) p (view x) (map view xs) e
   keeps-put g p blk k w (suc n) e = refl
 
-  keeps-cut : (g : RecordList) (p : ℕ) → Held g → (n : ℕ) → remove11 (fileOf (g .records)) p ≡ n → KeepsList ((conclude n g (removed g p)) .reply) (inFour (headerAbove g p (removedItem g p)) (removedItem g p)) g (withoutItem g p) ((conclude n g (removed g p)) .list)
+  keeps-cut : (g : RecordList) (p : ℕ) → AcceptedList g → (n : ℕ) → remove11 (fileOf (g .records)) p ≡ n → KeepsList ((conclude n g (removed g p)) .reply) (inFour (headerAbove g p (removedItem g p)) (removedItem g p)) g (withoutItem g p) ((conclude n g (removed g p)) .list)
   keeps-cut g p k zero e = λ i out. edit-keeps L g p k (remove-place (fileOf (g .records)) p e) (omega (arith, t .inside)) (removedItem g p) (cut-sp (fileOf (g .records)) p (k .ok) t) lower lower-is ((b-good (fileOf (g .records)) p (k .ok) t) .known) [] (suc ((removedItem g p) .dataRecords)) _ _ i (replicate (84 * suc ((removedItem g p) .dataRecords)) 32 ++ g .tail) wide-nil out
     where
       t : Cuts ((fileOf (g .records)) .body) (bodyPlace (fileOf (g .records)) p)
       t = cuts (fileOf (g .records)) p e
   keeps-cut g p k (suc n) e = refl
 
-  pub plain-keeps : (c : Edit) (g : RecordList) → Held g → KeepsList ((plain c g) .reply) (inFour (headerAbove g (placeOf c) (itemOf c g)) (itemOf c g)) g (moved c g) ((plain c g) .list)
+  pub plain-keeps : (c : Edit) (g : RecordList) → AcceptedList g → KeepsList ((plain c g) .reply) (inFour (headerAbove g (placeOf c) (itemOf c g)) (itemOf c g)) g (moved c g) ((plain c g) .list)
   unfolding plain
   plain-keeps (insert p bs) g k = keeps-put g p (blockOf bs) k (block-wide bs) _ refl
   plain-keeps (remove p) g k = keeps-cut g p k _ refl
@@ -220,23 +213,23 @@ insert-room f tail p block e =
     leb-true _ _ (unless-zero _ _ (d .1))
 
 module _ (L : Lawful) where
-  bytes-length : (g : RecordList) → Held g → length ((bufferOf g) .bytes) ≡ 84 * length (g .records) + length (g .tail)
+  bytes-length : (g : RecordList) → AcceptedList g → length ((bufferOf g) .bytes) ≡ 84 * length (g .records) + length (g .tail)
   bytes-length g k = rw (length-append (flat (g .records)) (g .tail), length-flat (g .records) (k .wide))
 
   -- the sheet part and the body, and the body before and behind a place
   halves : (g : RecordList) (p : ℕ) → (length (partRecords g p) + length (bodyRecords g p) ≡ length (g .records)) × (length (take (bodyPlace (file g p) p) (bodyRecords g p)) + length (drop (bodyPlace (file g p) p) (bodyRecords g p)) ≡ length (bodyRecords g p))
   halves g p = (simp length-append at (ap length (take-append-drop (partLength (g .records)) (g .records))), simp length-append at (ap length (take-append-drop (bodyPlace (file g p) p) (bodyRecords g p))))
 
-  size-put : (g : RecordList) (p : ℕ) (blk : List (List ℕ)) → Held g → Wide blk → (n : ℕ) → insertFault (fileOf (g .records)) p (g .tail) (map view blk) 200000 ≡ n → length ((bufferOf ((conclude n g (inserted g p blk)) .list)) .bytes) ≡ length ((bufferOf g) .bytes)
+  size-put : (g : RecordList) (p : ℕ) (blk : List (List ℕ)) → AcceptedList g → Wide blk → (n : ℕ) → insertFault (fileOf (g .records)) p (g .tail) (map view blk) 200000 ≡ n → length ((bufferOf ((conclude n g (inserted g p blk)) .list)) .bytes) ≡ length ((bufferOf g) .bytes)
   size-put g p [] k w zero e = absurd (empty-refused (fileOf (g .records)) (g .tail) p e)
-  size-put g p (x ∷ xs) k w zero e = bytes-length _ (put-held L g p x xs k (fits (fileOf (g .records)) (g .tail) p (view x) (map view xs) e) w) ∙ simp (length-append, length-alterAt) (omega (arith, length-flat (g .records) (k .wide), room, length-map xs view, length-drop (84 * length (x ∷ xs)) (g .tail), halves g p .0, halves g p .1))
+  size-put g p (x ∷ xs) k w zero e = bytes-length _ (put-accepted L g p x xs k (fits (fileOf (g .records)) (g .tail) p (view x) (map view xs) e) w) ∙ simp (length-append, length-alterAt) (omega (arith, length-flat (g .records) (k .wide), room, length-map xs view, length-drop (84 * length (x ∷ xs)) (g .tail), halves g p .0, halves g p .1))
     where
       room : 84 * length (view x ∷ map view xs) ≤ length (g .tail)
       room = insert-room (fileOf (g .records)) (g .tail) p (map view (x ∷ xs)) e
   size-put g p blk k w (suc n) e = refl
 
-  size-cut : (g : RecordList) (p : ℕ) → Held g → (n : ℕ) → remove11 (fileOf (g .records)) p ≡ n → length ((bufferOf ((conclude n g (removed g p)) .list)) .bytes) ≡ length ((bufferOf g) .bytes)
-  size-cut g p k zero e = bytes-length _ (cut-held L g p k t) ∙ simp (length-append, length-alterAt, length-replicate) (omega (arith, length-flat (g .records) (k .wide), room, length-drop (suc ((removedItem g p) .dataRecords)) (drop (bodyPlace (file g p) p) (bodyRecords g p)), halves g p .0, halves g p .1))
+  size-cut : (g : RecordList) (p : ℕ) → AcceptedList g → (n : ℕ) → remove11 (fileOf (g .records)) p ≡ n → length ((bufferOf ((conclude n g (removed g p)) .list)) .bytes) ≡ length ((bufferOf g) .bytes)
+  size-cut g p k zero e = bytes-length _ (cut-accepted L g p k t) ∙ simp (length-append, length-alterAt, length-replicate) (omega (arith, length-flat (g .records) (k .wide), room, length-drop (suc ((removedItem g p) .dataRecords)) (drop (bodyPlace (file g p) p) (bodyRecords g p)), halves g p .0, halves g p .1))
     where
       t : Cuts ((fileOf (g .records)) .body) (bodyPlace (fileOf (g .records)) p)
       t = cuts (fileOf (g .records)) p e
@@ -245,7 +238,7 @@ module _ (L : Lawful) where
       room = rw (← length-map (drop (bodyPlace (file g p) p) (bodyRecords g p)) view, map-drop view (bodyPlace (fileOf (g .records)) p) (bodyRecords g p)) (enough (fileOf (g .records)) p (k .ok) t)
   size-cut g p k (suc n) e = refl
 
-  pub plain-size : (c : Edit) (g : RecordList) → Held g → length ((bufferOf ((plain c g) .list)) .bytes) ≡ length ((bufferOf g) .bytes)
+  pub plain-size : (c : Edit) (g : RecordList) → AcceptedList g → length ((bufferOf ((plain c g) .list)) .bytes) ≡ length ((bufferOf g) .bytes)
   unfolding plain
   plain-size (insert p bs) g k = size-put g p (blockOf bs) k (block-wide bs) _ refl
   plain-size (remove p) g k = size-cut g p k _ refl

@@ -31,10 +31,7 @@ module _ (M : Machine) where
       go : (t : Bool) (n : ℕ) → fine (partFault M (M .step p r) (suc i) rs) ≡ fineFrom M (M .step p r) rs → fine (cond t none (orElse (toFault n i) (partFault M (M .step p r) (suc i) rs))) ≡ t || (eqb n 0 && fineFrom M (M .step p r) rs)
       go true n ih = refl
       go false zero ih = ih
-      go false (suc n) ih = rw (eqb-suc n)
-        where
-          eqb-suc : (n : ℕ) → eqb (suc n) 0 ≡ false
-          eqb-suc n = eqb·suc-zero n
+      go false (suc n) ih = rw (eqb·suc-zero n)
 
   -- nothing behind the part matters
   record Kept (p : M .Phase) (rs X : List (List ℕ)) : Type 0 where

@@ -7,7 +7,7 @@ use native.Mathlib.Omega.{arith}
 use native.Mathlib.Nat.{zero-add, add-zero}
 use native.Mathlib.Numerals.{add-one}
 use lib.Dec.{eqb}
-use lib.ListN.{length, take, getD, replicate}
+use lib.ListN.{length, take, getD, getD-replicate}
 use lib.Seq.{ext-getD}
 use Rattle.format.specs.Basics.{Fault, none, orElse, toFault, first, unless}
 use Rattle.format.specs.Record.{View}
@@ -22,6 +22,7 @@ use Rattle.judge.specs.declared.WalkedBody.{WalkedBody}
 use Rattle.judge.specs.Walks.{Room, viewsFrom, faultFrom, entries, wrongAt, upTo, seenNone, SeenUpTo, Body, bodyOf, wrongSheetOf, Stands, standingSheet, WholeBody, bodySheet}
 use Rattle.judge.specs.Sheet.{values, startBefore, headerBefore, refusedSheet, sheetFor}
 use Rattle.judge.proofs.Steps.{views-end}
+use Rattle.judge.proofs.Joined.{wrong-first}
 use Rattle.judge.proofs.PlaceLaws.{length-views}
 
 -- ---- the folds with all numbers so many higher
@@ -51,16 +52,7 @@ getD-values zero from f i h = absurd (omega arith)
 getD-values (suc count) from f zero h = ap f (let e : from ≡ from + 0 = omega arith in e)
 getD-values (suc count) from f (suc i) h = getD-values count (suc from) f i (omega arith) ∙ ap f (let e : suc from + i ≡ from + suc i = omega arith in e)
 
-all-same : (m v level : ℕ) → level < m → getD (replicate m v) level 0 ≡ v
-all-same zero v level h = absurd (omega arith)
-all-same (suc m) v zero h = refl
-all-same (suc m) v (suc level) h = all-same m v level (omega arith)
-
 -- ---- stage three: the first of two wrong counts
-wrong-first : (a b : ℕ) → orElse (wrongAt a) (wrongAt b) ≡ wrongAt (first a b)
-wrong-first zero b = refl
-wrong-first (suc a) b = refl
-
 wrong-sheet : (agree : Bool) → toFault (unless agree 10) 2 ≡ wrongAt (cond agree 0 2)
 wrong-sheet true = refl
 wrong-sheet false = refl
@@ -117,7 +109,7 @@ module _ (file : List ℕ) (x : Extent) (room : Room file x) (part : SheetPart) 
     header-found : (level : ℕ) → level ≤ 8 → getD (w .seen .headers) level 0 ≡ headerBefore f (x .before) level
     header-found level h =
         sym (b .sees z .above level h ∙ ap (lastHeader level 0 (suc (w .next)) (getD (w .seen .headers) level 0)) none-left)
-        ∙ ap (λ (n : ℕ). lastHeader level 0 (suc (part .length)) n (upTo (x .before) (suc (part .length)) body)) (all-same 9 (part .length) level (omega arith))
+        ∙ ap (λ (n : ℕ). lastHeader level 0 (suc (part .length)) n (upTo (x .before) (suc (part .length)) body)) (getD-replicate 9 level (part .length) 0 (omega arith))
         ∙ ap (lastHeader level 0 (suc (part .length)) (part .length)) same-front
         ∙ ap (λ (n : ℕ). lastHeader level 0 n (part .length) (take (x .before - part .length) body)) (sym (add-one (part .length)))
         ∙ ap (λ (n : ℕ). lastHeader level 0 (part .length + 1) n (take (x .before - part .length) body)) (sym (add-zero (part .length)))
@@ -131,7 +123,7 @@ module _ (file : List ℕ) (x : Extent) (room : Room file x) (part : SheetPart) 
       unfolding wrongSheetOf
       body-fault =
           rw (no-fault, items-are, length-views file x room (part .length), wrong-is)
-          (ap (λ (f : Fault). orElse f (wrongAt (w .low))) (wrong-sheet (eqb (part .elements) (w .seen .items) && eqb (part .records) (x .records - part .length)) ∙ ap wrongAt (sym of)) ∙ wrong-first sheet (w .low) ∙ ap wrongAt (sym first-is))
+          (ap (λ (f : Fault). orElse f (wrongAt (w .low))) (wrong-sheet (eqb (part .elements) (w .seen .items) && eqb (part .records) (x .records - part .length)) ∙ ap wrongAt (sym of)) ∙ ap (orElse (wrongAt sheet)) (sym (or-none (w .low))) ∙ wrong-first sheet (w .low) none ∙ or-none (first sheet (w .low)) ∙ ap wrongAt (sym first-is))
 
       pub answers-count : (r : Sheet) → (low ≡ 0 → ⊥) → r ≡ refusedSheet 10 low → r ≡ bodySheet file x part
       unfolding judge

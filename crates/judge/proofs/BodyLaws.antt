@@ -13,6 +13,7 @@ use lib.Seq.{getD-set-same, getD-set-other}
 use Rattle.format.specs.Basics.{none, fault, first}
 use Rattle.format.specs.Record.{view}
 use Rattle.format.specs.Judge.{countUnder}
+use Rattle.format.proofs.Basics.{first-alone}
 use Rattle.records.specs.Entry.{toData, entryOf}
 use Rattle.records.specs.declared.items.Entry.{Entry}
 use Rattle.judge.specs.declared.Extent.{Extent}
@@ -135,10 +136,6 @@ pub record Turn (file : List ℕ) (x : Extent) (k opened : ℕ) (s : Seen) (at :
   pub is : Sound file x at opened e
   pub deep : opened < e .level
 
-first-zero : (a : ℕ) → a ≡ first a 0
-first-zero zero = refl
-first-zero (suc a) = refl
-
 module _ {file : List ℕ} {x : Extent} {k opened : ℕ} {s : Seen} {at : ℕ} {tally : List ℕ} {low : ℕ} {s′ : Seen} {e : Entry} (turn : Turn file x k opened s at tally low s′ e) where
   -- its kind has a place in the tally, and there is room for one more
   pub turn-kind : e .kind < 10
@@ -177,7 +174,7 @@ module _ {file : List ℕ} {x : Extent} {k opened : ℕ} {s : Seen} {at : ℕ} {
     item-further z = group-further _ child z
 
     pub item-goes : i .number ≡ 0 → (start : ℕ) → start ≡ lastBefore at (x .before) (s′ .start) → Going file x k opened s (i .next) (set tally (e .kind) (getD tally (e .kind) 0 + 1)) low (record { items = s′ .items + 1; start = start; headers = s′ .headers })
-    item-goes z start of = rw of (group-goes _ child z low (first-zero low))
+    item-goes z start of = rw of (group-goes _ child z low (sym (first-alone low)))
 
   pub turn-items : s′ .items < x .records
   turn-items = omega (arith, turn .going-here .seen-then .few, turn .here)

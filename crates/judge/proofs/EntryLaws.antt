@@ -12,21 +12,13 @@ use Rattle.format.specs.Basics.{first, unless}
 use Rattle.records.specs.declared.items.Entry.{Entry}
 use Rattle.format.specs.Record.{nothing, Kind, head, item, neither, isHead, countIndex, view}
 use Rattle.format.specs.Judge.{lowestLevel, highestLevel, levelOk, faultAt}
-use Rattle.format.proofs.Basics.{first-zero}
+use Rattle.format.proofs.Basics.{first-zero, first-some}
 use Rattle.format.proofs.JudgeWalks.{good}
 use Rattle.records.proofs.Laws.{entry-kind, entry-level, entry-data-records, entry-held, entry-rule, fault-at}
 use Rattle.records.specs.Entry.{toData, entryOf}
 use Rattle.judge.specs.declared.Extent.{Extent}
 use Rattle.judge.proofs.Steps.{wide-at}
 use Rattle.judge.specs.Walks.{Room, recordAt, lowestOf, highestOf, levelFits, entryFault}
-
--- ---- the first of two numbers that is not 0
-pub first-none : (a b : ℕ) → a ≡ 0 → b ≡ first a b
-first-none a b e = rw e
-
-pub first-some : (a b : ℕ) → (a ≡ 0 → ⊥) → a ≡ first a b
-first-some zero b ne = absurd (ne refl)
-first-some (suc a) b ne = refl
 
 -- ---- the level
 module _ (kind level opened : ℕ) where

@@ -13,11 +13,12 @@ use Rattle.format.specs.Judge.{fileOf, judge, judgeRecords, judgeIndexRecords, 
 use Rattle.format.specs.Answers.{judgedAnswer}
 use Rattle.format.specs.declared.Judged.the-variants.{Accepted, Refused}
 use Rattle.format.proofs.Lists.{length-chunks}
+use Rattle.format.proofs.JudgeStages.{Whole, stage-one}
 use Rattle.files.specs.declared.Stride.{Stride}
 use Rattle.files.specs.declared.Stride.the-variants.{Plain, Lines}
 use Rattle.files.specs.Records.{strideOf, recordsOf, lengthOk}
 use Rattle.files.proofs.Records.{length-records, front-records}
-use Rattle.files.proofs.StageOne.{plain-length, Whole, length-passes}
+use Rattle.files.proofs.StageOne.{plain-length}
 use Rattle.part_and_index.specs.Result.{sheetPartOf, indexFaultOf}
 use Rattle.part_and_index.specs.declared.SheetPart.{SheetPart}
 use Rattle.part_and_index.specs.declared.Fault.{Fault}
@@ -82,8 +83,8 @@ module _ (used : ℕ) (buffer : List ℕ) (ok : Bool) (of : ok ≡ lengthOk Plai
     passes : stageOneOk used buffer ≡ true
     passes = stage ∙ not-false ok h
 
-    whole : Whole Plain used buffer
-    whole = length-passes Plain used buffer (sym of ∙ not-false ok h)
+    whole : Whole used buffer
+    whole = stage-one used buffer passes
 
     pub used-length : used ≡ length (take used buffer)
     used-length = sym (length-take-le used buffer (whole .inside))

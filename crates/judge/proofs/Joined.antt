@@ -20,7 +20,8 @@ use Rattle.judge.proofs.SeenLaws.{start-step, header-step, header-set}
 pub joins-none : (opened i : ℕ) (rs : List View) → Joins opened i rs opened i rs 0
 joins-none opened i rs = record { same = refl; wrong = λ h. refl; deeper = λ level kind h. refl }
 
-wrong-first : (a b : ℕ) (f : Fault) → orElse (wrongAt a) (orElse (wrongAt b) f) ≡ orElse (wrongAt (first a b)) f
+-- the first of two wrong counts
+pub wrong-first : (a b : ℕ) (f : Fault) → orElse (wrongAt a) (orElse (wrongAt b) f) ≡ orElse (wrongAt (first a b)) f
 wrong-first zero b f = refl
 wrong-first (suc a) b f = refl
 

@@ -17,8 +17,8 @@ use Rattle.format.specs.Answers.{judgedAnswer}
 use Rattle.format.specs.declared.Judged.the-variants.{Accepted, Refused}
 use Rattle.format.proofs.JudgeAccepted.{Ok, ok-accepted}
 use Rattle.format.proofs.AcceptedSheet as Accepted
-use Rattle.format.proofs.AcceptedSheet.{inside, body-judged, held, length-records, whole, sheet-two, sheet-inside, length-body, elements-are, records-are}
-use Rattle.format.proofs.Lists.{length-chunks, wide-chunks, wide-get}
+use Rattle.format.proofs.AcceptedSheet.{inside, body-judged, accepted-list, length-records, whole, sheet-two, sheet-inside, length-body, elements-are, records-are}
+use Rattle.format.proofs.Lists.{length-chunks, wide-chunks, wide-get, getD-views}
 use Rattle.files.specs.declared.Stride.the-variants.{Plain}
 use Rattle.files.specs.Records.{recordsOf}
 use Rattle.files.proofs.Records.{front-records}
@@ -26,7 +26,6 @@ use Rattle.part_and_index.specs.Result.{sheetPartOf}
 use Rattle.part_and_index.proofs.Laws.{sound-part}
 use Rattle.judge.specs.declared.Sheet.{Sheet}
 use Rattle.judge.specs.Sheet.{bodyBefore, startBefore, headerBefore, openedSheet, sheetOf}
-use Rattle.judge.proofs.PlaceLaws.{getD-views}
 use Rattle.judge.proofs.AnswerLaws.{getD-values}
 
 -- ---- a refusal has a number
@@ -107,7 +106,7 @@ recordsIn (refused number at) = 0
 
 -- judging counts its records
 all-records : (used : ℕ) (buffer : List ℕ) (a : AcceptedSheet used buffer) → a .counts .records ≡ used / 84
-all-records used buffer a = ap recordsIn (sym (body-judged a) ∙ ok-accepted (sheetIn used buffer) (held a .ok)) ∙ omega (arith, length-body a, sheet-inside a, length-records a)
+all-records used buffer a = ap recordsIn (sym (body-judged a) ∙ ok-accepted (sheetIn used buffer) (accepted-list a .ok)) ∙ omega (arith, length-body a, sheet-inside a, length-records a)
 
 -- what fault 0 says of an opened sheet `s`; `f` are its sheet part and body
 pub record Opened (used : ℕ) (buffer : List ℕ) (before : ℕ) (s : Sheet) : Type 0 where
@@ -152,7 +151,7 @@ module _ (used : ℕ) (buffer : List ℕ) (before : ℕ) (s : Sheet) (is : s ≡
           let found : s .items ≡ counts .items = ap (λ (r : Sheet). r .items) fields in
           record {
             judged = e ∙ rw (found, ← all-records used buffer a);
-            ok = held a .ok;
+            ok = accepted-list a .ok;
             used-inside = inside a;
             used-records = whole a ∙ rw (length-records a);
             body-length = length-body a ∙ rw part;

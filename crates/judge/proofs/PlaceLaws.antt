@@ -1,7 +1,7 @@
 -- What stands before the place, by the last header or item there. Assumes nothing.
 use mathlib.Core.Path.{_≡_, refl, sym, ap, _∙_}
 use mathlib.Core.Bool.{Bool, true, false, cond}
-use mathlib.Core.List.{List, [], _∷_, _++_, map, append-assoc}
+use mathlib.Core.List.{List, [], _∷_, _++_, append-assoc}
 use Prim.Native.Nat.{ℕ, zero, suc, pred, _+_, _-_, _^_, _≤_, _<_}
 use native.Mathlib.Omega.{arith}
 use borrow.Author.Tests.{ltb-true, ltb-false, le-leb, ne-eqb}
@@ -12,6 +12,7 @@ use Rattle.format.specs.Record.{Kind, head, item, neither, View, view, nothing,
 use Rattle.format.specs.Judge.{dueOf, openOf, dueAfter}
 use Rattle.format.specs.Edit.{absent, dueBehind, openBehind}
 use Rattle.format.specs.Above.{lastStart}
+use Rattle.format.proofs.Lists.{getD-views}
 use Rattle.format.proofs.JudgeWalks.{Good, dueBehind-append, openBehind-append}
 use Rattle.format.proofs.JudgeAccepted.{accepted-ok}
 use Rattle.format.proofs.AboveWayUp.{Owner, owner, r-good}
@@ -83,11 +84,6 @@ open-by (item k) level = rw (ne-eqb (suc k) 0 (λ e. omega arith)) (let e : leve
 open-by neither level = let e : level - 1 ≡ pred level = omega arith in e
 
 -- ---- the views of a file's records
-pub getD-views : (rs : List (List ℕ)) (i : ℕ) → i < length rs → getD (map view rs) i absent ≡ view (getD rs i [])
-getD-views [] i h = absurd (omega arith)
-getD-views (r ∷ rs) zero h = refl
-getD-views (r ∷ rs) (suc i) h = getD-views rs i (omega arith)
-
 module _ (file : List ℕ) (x : Extent) (room : Room file x) (k : ℕ) where
   pub length-views : length (viewsFrom file x k) ≡ x .records - k
   unfolding viewsFrom

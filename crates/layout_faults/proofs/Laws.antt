@@ -23,10 +23,9 @@ use Rattle.format.specs.Basics.{first, unless}
 use Rattle.format.specs.Column.{formed, integer, size, numberOf}
 use Rattle.format.specs.Layout.{Rule, anySign, atLeast, range, within, oneOf, inside, Col, I, column, find, bytesOf, integerAt, numberAt, isFormed, allFormed, isInside, allInside, columnFault}
 use Rattle.format.proofs.Basics.{and-true, first-zero, unless-zero}
-use Rattle.format.proofs.Columns.{number-below}
+use Rattle.format.proofs.Columns.{number-below, other-tag}
 use Rattle.columns.specs.InRecord.{columnAt}
 use Rattle.layout_faults.specs.Faults.{faultIn}
-use Rattle.layout_faults.proofs.Loops.{other-tag}
 use Rattle.layout_faults.proofs.Tables.{says, width-is}
 
 -- ---- A RECORD WITHOUT FAULT

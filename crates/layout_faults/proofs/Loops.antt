@@ -22,14 +22,11 @@ use Rattle.format.specs.declared.Column.the-variants.{Value, MinusZero, Malform
 use Rattle.format.specs.Basics.{first, unless, member}
 use Rattle.format.specs.Column.{formed, integer}
 use Rattle.format.specs.Layout.{isOne}
+use Rattle.format.proofs.Basics.{first-alone}
+use Rattle.format.proofs.Columns.{other-tag}
 use Rattle.columns.specs.InRecord.{columnAt, spacesAt}
+use Rattle.columns.proofs.Numbers.{plain-sign, size-fits}
 use Rattle.layout_faults.specs.Tables.{unlessSpaces, formedAs, between, betweenAs, faultAs, faultOf, formedAt, betweenAt, tableFault, listedAt}
-
--- what `let Column::Value(z) = .. else` tells of the column in its other way
-pub other-tag : (c : Column) → OneOf (1 ∷ 2 ∷ []) (tagOf the-type c) → formed c ≡ false
-other-tag (Value z) h = absurd (miss (1 ∷ 2 ∷ []) 0 tt h)
-other-tag MinusZero h = refl
-other-tag Malformed h = refl
 
 -- ---- one column, by its form
 
@@ -211,8 +208,4 @@ module _ (l : List ℕ) (start width : ℕ) (numbers : List ℕ) (c : Column) (e
         go (negsuc n) h k = absurd (true≢false h)
 
 pub not-below-zero : (z : ℤ) → SFits w64 z → ltZ (toZ w64 (ofZ w64 z)) (pos 0) ≡ false → T (nonNeg (toZ w64 (ofZ w64 z))) × Fits w64 (natAbs (toZ w64 (ofZ w64 z)))
-not-below-zero z s h = rw (toZ-ofZ w64 z s) (go z s (rw (toZ-ofZ w64 z s) at h))
-  where
-    go : (z : ℤ) → SFits w64 z → ltZ z (pos 0) ≡ false → T (nonNeg z) × Fits w64 (natAbs z)
-    go (pos n) s h = (tt, record { fits = omega (arith, s .sfits) })
-    go (negsuc n) s h = absurd (true≢false h)
+not-below-zero z s h = (plain-sign z s h, size-fits z s)

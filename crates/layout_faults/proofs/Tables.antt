@@ -2,7 +2,7 @@
 use mathlib.Core.Path.{_≡_, refl, ap₂, sym, _∙_}
 use mathlib.Core.Bool.{Bool, true, false, cond, _&&_, and-assoc}
 use mathlib.Core.List.{List, [], _∷_}
-use Prim.Native.Nat.{ℕ, zero, suc, _+_, _≤_}
+use Prim.Native.Nat.{ℕ, _+_, _≤_}
 use borrow.Author.Tests.{leb-true, eqb-true}
 use lib.Dec.{eqb, leb}
 use lib.IntN.{ℤ, pos}
@@ -10,7 +10,7 @@ use lib.ListN.{length}
 use Rattle.format.specs.Basics.{first, unless}
 use Rattle.format.specs.Column.{columnOf, integer}
 use Rattle.format.specs.Layout.{Rule, What, text, blank, integral, integralOrSpaces, Col, column, inside, isFormed, isInside, allFormed, allInside, columnFault}
-use Rattle.format.proofs.Basics.{and-true}
+use Rattle.format.proofs.Basics.{and-true, first-alone, first-some}
 use Rattle.format.proofs.Columns.{length-column}
 use Rattle.columns.specs.InRecord.{columnAt}
 use Rattle.columns.proofs.Laws.{column-at-inside}
@@ -126,20 +126,12 @@ module _ (table : List Col) (l starts widths forms : List ℕ) (lows highs : Lis
           rw (formed-tabled l table, inside-tabled l table, ← formed-table l k t (j .lie), ← inside-table l k t (j .lie)) (listed-last true F B (allListed t l))
 
   pub all-asked : Judged table nothing → fault ≡ faultIn table l
-  all-asked j = last fault ∙ sym (lists-left nothing j)
-    where
-      last : (n : ℕ) → n ≡ first n 0
-      last zero = refl
-      last (suc n) = refl
+  all-asked j = sym (first-alone fault) ∙ sym (lists-left nothing j)
 
   -- lists are left
   module _ (listed : List ℕ → Bool) (j : Judged table listed) where
     pub fault-first : (fault ≡ 0 → ⊥) → fault ≡ faultIn table l
-    fault-first n = go fault n ∙ sym (lists-left listed j)
-      where
-        go : (fault : ℕ) → (fault ≡ 0 → ⊥) → fault ≡ first fault (unless (listed l) 6)
-        go zero n = absurd (n refl)
-        go (suc m) n = refl
+    fault-first n = first-some fault (unless (listed l) 6) n ∙ sym (lists-left listed j)
 
     pub is-listed : (t : Bool) → fault ≡ 0 → t ≡ true → t ≡ listed l → 0 ≡ faultIn table l
     is-listed t e h k = rw (lists-left listed j, e, ← k, h)

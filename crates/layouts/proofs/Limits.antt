@@ -12,14 +12,14 @@ use Rattle.format.specs.Basics.{minus}
 use Rattle.format.specs.Column.{fits}
 use Rattle.format.specs.Layout.{Rule, anySign, atLeast, range, within, oneOf, isOne, inside, Col}
 use Rattle.format.proofs.Basics.{and-true}
-use Rattle.format.proofs.ColumnFits.{fits-range}
+use Rattle.format.proofs.ColumnFits.{fits-range, size-range}
 use Rattle.layouts.specs.Tables.{tabled, isNumeric, low, high, ruleOf, lowsOf, highsOf, Least, Greatest, LeastEach, least-none, least-more, GreatestEach, greatest-none, greatest-more, Lows, Highs}
-use Rattle.layouts.proofs.Ranges.{list-between, size-between}
+use Rattle.layouts.proofs.Ranges.{list-between}
 
 -- what a width of 1 to 18 holds lies between two numbers
 module _ (w : ℕ) (z : ℤ) (h : 1 ≤ w) (k : w ≤ 18) (e : fits w z ≡ true) where
-  held : (leZ (minus (10 ^ (w - 1) - 1)) z ≡ true) × (leZ z (pos (10 ^ w - 1)) ≡ true)
-  held = go w h k e
+  between : (leZ (minus (10 ^ (w - 1) - 1)) z ≡ true) × (leZ z (pos (10 ^ w - 1)) ≡ true)
+  between = go w h k e
     where
       go : (w : ℕ) → 1 ≤ w → w ≤ 18 → fits w z ≡ true → (leZ (minus (10 ^ (w - 1) - 1)) z ≡ true) × (leZ z (pos (10 ^ w - 1)) ≡ true)
       go zero h k e = absurd (omega arith)
@@ -28,17 +28,17 @@ module _ (w : ℕ) (z : ℤ) (h : 1 ≤ w) (k : w ≤ 18) (e : fits w z ≡ true
           rw q (and-true (leZ (minus (10 ^ v - 1)) z) (leZ z (pos (10 ^ suc v - 1))) (sym (fits-range v z (omega arith)) ∙ e))
 
   not-below : (rule : Rule) → inside rule z ≡ true → leZ (low rule w) z ≡ true
-  not-below anySign i = held .0
+  not-below anySign i = between .0
   not-below (atLeast n) i = i
   not-below (range n m) i = and-true (leZ (pos n) z) (leZ z (pos m)) i .0
-  not-below (within n) i = and-true (leZ (minus n) z) (leZ z (pos n)) (sym (size-between z n) ∙ i) .0
+  not-below (within n) i = and-true (leZ (minus n) z) (leZ z (pos n)) (size-range n z ∙ i) .0
   not-below (oneOf ns) i = and-true _ _ (sym (list-between z (10 ^ w - 1) ns) ∙ i) .0
 
   not-above : (rule : Rule) → inside rule z ≡ true → leZ z (high rule w) ≡ true
-  not-above anySign i = held .1
-  not-above (atLeast n) i = held .1
+  not-above anySign i = between .1
+  not-above (atLeast n) i = between .1
   not-above (range n m) i = and-true (leZ (pos n) z) (leZ z (pos m)) i .1
-  not-above (within n) i = and-true (leZ (minus n) z) (leZ z (pos n)) (sym (size-between z n) ∙ i) .1
+  not-above (within n) i = and-true (leZ (minus n) z) (leZ z (pos n)) (size-range n z ∙ i) .1
   not-above (oneOf ns) i = and-true (leZ z (high (oneOf ns) w)) (isOne z ns) (and-true (leZ (low (oneOf ns) w) z) (leZ z (high (oneOf ns) w) && isOne z ns) (sym (list-between z (10 ^ w - 1) ns) ∙ i) .1) .0
 
 -- the number is one that the column may hold
@@ -48,8 +48,8 @@ holds c z = (leb 1 (c .width) && leb (c .width) 18) && (fits (c .width) z && ins
 abbrev Holds : Col → ℤ → Type 0
 Holds c z = ((1 ≤ c .width) × (c .width ≤ 18)) × ((fits (c .width) z ≡ true) × (inside (ruleOf (c .what)) z ≡ true))
 
-held-by : (c : Col) (z : ℤ) → holds c z ≡ true → Holds c z
-held-by c z h =
+holds-by : (c : Col) (z : ℤ) → holds c z ≡ true → Holds c z
+holds-by c z h =
     let a = and-true (leb 1 (c .width) && leb (c .width) 18) (fits (c .width) z && inside (ruleOf (c .what)) z) h in
     let b = and-true (leb 1 (c .width)) (leb (c .width) 18) (a .0) in
     ((leb-true 1 (c .width) (b .0), leb-true (c .width) 18 (b .1)), and-true (fits (c .width) z) (inside (ruleOf (c .what)) z) (a .1))
@@ -71,7 +71,7 @@ least-each (c ∷ cs) h =
   where
     go : (t : Bool) → cond t (holds c (low (ruleOf (c .what)) (c .width))) true ≡ true → t ≡ true → Least (ruleOf (c .what)) (c .width) (cond t (low (ruleOf (c .what)) (c .width)) (pos 0))
     go true h e =
-        let b = held-by c (low (ruleOf (c .what)) (c .width)) h in
+        let b = holds-by c (low (ruleOf (c .what)) (c .width)) h in
         record { fits-width = b .1 .0; allowed = b .1 .1; none-less = λ z e i. not-below (c .width) z (b .0 .0) (b .0 .1) e (ruleOf (c .what)) i }
     go false h e = absurd (false≢true e)
 
@@ -84,7 +84,7 @@ greatest-each (c ∷ cs) h =
   where
     go : (t : Bool) → cond t (holds c (high (ruleOf (c .what)) (c .width))) true ≡ true → t ≡ true → Greatest (ruleOf (c .what)) (c .width) (cond t (high (ruleOf (c .what)) (c .width)) (pos 0))
     go true h e =
-        let b = held-by c (high (ruleOf (c .what)) (c .width)) h in
+        let b = holds-by c (high (ruleOf (c .what)) (c .width)) h in
         record { fits-width = b .1 .0; allowed = b .1 .1; none-greater = λ z e i. not-above (c .width) z (b .0 .0) (b .0 .1) e (ruleOf (c .what)) i }
     go false h e = absurd (false≢true e)
 

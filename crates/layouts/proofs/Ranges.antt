@@ -7,8 +7,8 @@ use Prim.Native.Nat.{ℕ, zero, suc, _-_, _^_, _≤_, _<_, min, max}
 use native.Mathlib.Nat.{min-le-left, min-le-right, le-max-left, le-max-right, pow-le-pow-right}
 use native.Mathlib.Omega.{arith}
 use borrow.Author.Tests.{le-leb, leb-true, eqb-true, ne-eqb}
-use lib.Dec.{leb, eqb, leb·zero, leb·suc-zero, leb·suc-suc}
-use lib.IntN.{ℤ, pos, negsuc, negℤ, natAbs}
+use lib.Dec.{leb, eqb, leb·zero}
+use lib.IntN.{ℤ, pos, negsuc, negℤ}
 use lib.Signed.{leZ}
 use lib.ListN.{length}
 use Rattle.format.specs.declared.Column.{Column}
@@ -17,6 +17,7 @@ use Rattle.format.specs.Basics.{minus, member}
 use Rattle.format.specs.Column.{strip, isDigit, allDigits, valueOf, isNumber, negative, positive, signed, columnOf, integer, numberOf}
 use Rattle.format.specs.Layout.{Rule, anySign, atLeast, range, within, oneOf, isOne, inside}
 use Rattle.format.proofs.Columns.{number-below, strip-short}
+use Rattle.format.proofs.ColumnFits.{minus-pos, size-range}
 use Rattle.layouts.specs.Tables.{low, high}
 
 -- ---- what a width holds
@@ -29,12 +30,8 @@ at-most l = go (columnOf l) (number-below l)
     go MinusZero h = leb·zero (10 ^ length l - 1)
     go Malformed h = leb·zero (10 ^ length l - 1)
 
-minus-below-pos : (m n : ℕ) → leZ (minus m) (pos n) ≡ true
-minus-below-pos zero n = leb·zero n
-minus-below-pos (suc m) n = refl
-
 minus-below-minus : (m n : ℕ) → n ≤ m → leZ (minus m) (minus n) ≡ true
-minus-below-minus m zero h = minus-below-pos m 0
+minus-below-minus m zero h = minus-pos m 0
 minus-below-minus zero (suc n) h = absurd (omega arith)
 minus-below-minus (suc m) (suc n) h = le-leb n m (omega arith)
 
@@ -56,21 +53,21 @@ unfolding negative
 negative-least bs w h = go (isNumber bs) (eqb (valueOf bs) 0) refl
   where
     go : (t u : Bool) → isNumber bs ≡ t → leZ (minus (10 ^ w - 1)) (integer (cond t (cond u MinusZero (Value (negℤ (pos (valueOf bs))))) Malformed)) ≡ true
-    go true true e = minus-below-pos (10 ^ w - 1) 0
+    go true true e = minus-pos (10 ^ w - 1) 0
     go true false e = minus-below-minus (10 ^ w - 1) (valueOf bs) (omega (arith, value-below bs e, pow-le-pow-right {n = 10} (omega arith) h))
-    go false u e = minus-below-pos (10 ^ w - 1) 0
+    go false u e = minus-pos (10 ^ w - 1) 0
 
 positive-least : (bs : List ℕ) (m : ℕ) → leZ (minus m) (integer (positive bs)) ≡ true
 unfolding positive
 positive-least bs m = go (isNumber bs)
   where
     go : (t : Bool) → leZ (minus m) (integer (cond t (Value (pos (valueOf bs))) Malformed)) ≡ true
-    go true = minus-below-pos m (valueOf bs)
-    go false = minus-below-pos m 0
+    go true = minus-pos m (valueOf bs)
+    go false = minus-pos m 0
 
 signed-least : (t : List ℕ) (w : ℕ) → length t ≤ w → leZ (minus (10 ^ (w - 1) - 1)) (integer (signed t)) ≡ true
 unfolding signed
-signed-least [] w h = minus-below-pos (10 ^ (w - 1) - 1) 0
+signed-least [] w h = minus-pos (10 ^ (w - 1) - 1) 0
 signed-least (b ∷ bs) w h = go (eqb b 45)
   where
     go : (t : Bool) → leZ (minus (10 ^ (w - 1) - 1)) (integer (cond t (negative bs) (positive (b ∷ bs)))) ≡ true
@@ -107,11 +104,6 @@ list-between (pos k) top ns = go (member k ns) refl
     go true e = simp (e, le-leb _ _ (from-least k top ns e), le-leb _ _ (to-greatest k ns e))
     go false e = simp (e, and-false)
 
-pub size-between : (z : ℤ) (n : ℕ) → leb (natAbs z) n ≡ leZ (minus n) z && leZ z (pos n)
-size-between (pos k) n = simp (minus-below-pos n k)
-size-between (negsuc k) zero = leb·suc-zero k
-size-between (negsuc k) (suc n) = leb·suc-suc k n ∙ sym (and-true (leb k n))
-
 -- what a list asks beside its ends
 abbrev pub listed : Rule → ℤ → Bool
 listed anySign z = true
@@ -124,5 +116,5 @@ pub inside-between : (rule : Rule) (l : List ℕ) → inside rule (integer (colu
 inside-between anySign l = simp (at-least l, at-most l)
 inside-between (atLeast n) l = simp (at-most l, and-true)
 inside-between (range n m) l = simp and-true
-inside-between (within n) l = size-between (integer (columnOf l)) n ∙ simp and-true
+inside-between (within n) l = sym (size-range n (integer (columnOf l))) ∙ simp and-true
 inside-between (oneOf ns) l = list-between (integer (columnOf l)) (10 ^ length l - 1) ns

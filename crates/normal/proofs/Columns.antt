@@ -13,7 +13,7 @@ use mir.Syntax.{w64}
 use mir.Val.{SFits, toZ, ofZ}
 use Rattle.format.specs.Column.{integer}
 use Rattle.columns.specs.InRecord.{columnAt, spacesAt, Rewritten, writeAt}
-use Rattle.columns.proofs.Numbers.{back}
+use Rattle.format.proofs.Signed.{back}
 use Rattle.normal.specs.Rewriting.{rewrittenAt, rewrittenAs, rewrittenOf, rewrittenAll}
 
 -- ---- `rewrite`

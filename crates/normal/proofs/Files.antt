@@ -7,7 +7,7 @@ use native.Mathlib.Omega.{arith}
 use borrow.Author.Tests.{eqb-true, leb-true, le-leb, lt-leb}
 use lib.Dec.{eqb, leb, ltb}
 use lib.ListN.{length, take, drop}
-use Rattle.format.specs.Basics.{Answer, given, refused, Outcome, first, unless, Fault, none, fault, chunks, flat, stageOneOk}
+use Rattle.format.specs.Basics.{Answer, given, refused, Outcome, first, unless, fault, chunks, flat, stageOneOk}
 use Rattle.format.specs.Text.{bytes, begins}
 use Rattle.format.specs.Layout.{header, element}
 use Rattle.format.specs.Record.{RecordType, H, E1, E2, E3, E4, E5, E6, E7, E8, G, T, other, typeOf, typeColumns, countIndex, Data, nothing, dataColumns, view, viewAs, headerView, elementView, gridView, netView, otherView}
@@ -24,13 +24,11 @@ use Rattle.format.proofs.Basics.{and-true, first-zero}
 use Rattle.format.proofs.Lists.{Wide, wide-chunks, wide-drop}
 use Rattle.format.proofs.JudgeWalks.{Passes}
 use Rattle.format.proofs.JudgeAccepted.{accepted-ok}
+use Rattle.format.proofs.JudgeStages.{stage-one, stage-given, sheet-stages, record-stages}
 use Rattle.records.specs.declared.Held.{Held}
 use Rattle.records.specs.declared.Held.the-variants as Held
 use Rattle.records.specs.Entry.{toData, entryOf}
 use Rattle.records.proofs.Laws.{entry-counted, entry-data-records, entry-held, fault-at}
-use Rattle.files.specs.declared.Stride.the-variants.{Plain}
-use Rattle.files.specs.Records.{strideOf}
-use Rattle.files.proofs.StageOne.{plain-length, Whole, length-passes}
 use Rattle.part_and_index.specs.declared.due.Due.the-variants.{SheetA, IndexA}
 use Rattle.part_and_index.specs.Due as Part
 use Rattle.part_and_index.specs.Due.{dueIn, dueAt}
@@ -168,32 +166,17 @@ body-form (r ∷ rs) opened (suc due) held wide p =
 
 -- ---- an accepted file
 
-accepted-twice : (t : Bool) (a : Answer Judge.Counts) (counts : Judge.Counts) → Judge.afterStageOne t a ≡ given counts → (t ≡ true) × (a ≡ given counts)
-accepted-twice true a counts e = (refl, e)
-accepted-twice false a counts e = let x : _≡_ {A = ℕ} 0 1 = cc in absurd (omega arith)
-
-accepted-body : (f : Fault) (a : Answer Judge.Counts) (counts : Judge.Counts) → Judge.afterPart f a ≡ given counts → a ≡ given counts
-accepted-body none a counts e = e
-accepted-body (fault n r) a counts e = let x : _≡_ {A = ℕ} 0 1 = cc in absurd (omega arith)
-
--- "used length .. above the buffer, not a multiple of 84" is refused
-stage-one : (used : ℕ) (buffer : List ℕ) → stageOneOk used buffer ≡ true → (used ≤ length buffer) × (used % 84 ≡ 0)
-unfolding strideOf
-stage-one used buffer h = let w : Whole Plain used buffer = length-passes Plain used buffer (plain-length used buffer ∙ h) in (w .inside, w .whole)
-
 accepted-room : (used : ℕ) (buffer : List ℕ) (a : Answer Judge.Counts) (counts : Judge.Counts) → Judge.afterStageOne (stageOneOk used buffer) a ≡ given counts → (used ≤ length buffer) × (used % 84 ≡ 0)
-accepted-room used buffer a counts e = stage-one used buffer (accepted-twice (stageOneOk used buffer) a counts e .0)
+accepted-room used buffer a counts e = let w = stage-one used buffer (stage-given (stageOneOk used buffer) a counts e .0) in (w .inside, w .even)
 
 sheet-form : (used : ℕ) (buffer : List ℕ) (counts : Judge.Counts) → Judge.judgeSheet used buffer ≡ given counts → rewritten (Due.Sheet SheetA) (chunks (used / 84) buffer) ≡ normalSheetRecords (chunks (used / 84) buffer)
-unfolding Judge.judgeSheet Judge.judgeRecords normalSheetRecords Sheet.partLength behindPart dueData
+unfolding normalSheetRecords Sheet.partLength behindPart dueData
 sheet-form used buffer counts e =
     let rs = chunks (used / 84) buffer in
-    let one = accepted-twice (stageOneOk used buffer) (Judge.judgeRecords rs) counts e in
-    let two = accepted-body (Sheet.sheetFault rs) (Judge.judge (Judge.fileOf rs)) counts (one .1) in
-    let ok = accepted-ok (Judge.fileOf rs) (counts .records) (counts .items) two in
-    let room = stage-one used buffer (one .0) in
+    let stages = sheet-stages used buffer counts e in
+    let ok = accepted-ok (Judge.fileOf rs) (counts .records) (counts .items) (record-stages rs counts (stages .1) .1) in
     let n = partFrom Sheet.sheetMachine Sheet.due-a rs in
-    let wide : Wide rs = wide-chunks (used / 84) buffer (omega (arith, room .0)) in
+    let wide : Wide rs = wide-chunks (used / 84) buffer (omega (arith, stages .0 .inside)) in
     part-form Sheet.due-a rs wide
     ∙ ap (λ (x : List (List ℕ)). normalPart Sheet.due-a (take n rs) ++ x) (body-form (drop n rs) 0 0 Held.Nothing (wide-drop n rs wide) (ok .walks .0))
 

@@ -18,12 +18,12 @@ use Rattle.format.specs.declared.Number.the-variants.{Is, Refused}
 use Rattle.format.specs.Layout.{find, column, integerAt, sheetB, sheetE}
 use Rattle.format.specs.Sheet.{wholesOf, fractionsOf, fractionsOk}
 use Rattle.columns.specs.InRecord.{columnAt}
-use Rattle.corners.proofs.Signed.{held, back}
+use Rattle.format.proofs.Signed.{stored, back}
 use Rattle.part_and_index.specs.Faults.{joined, cornerOf, cornersOf}
 use Rattle.part_and_index.proofs.FaultLaws.{integer-there}
 
-pub held-is : (z y : ℤ) → mag z < 2 ^ 63 → z ≡ y → held z ≡ y
-held-is z y known e = back z (record { sfits = known }) ∙ e
+pub stored-is : (z y : ℤ) → mag z < 2 ^ 63 → z ≡ y → stored z ≡ y
+stored-is z y known e = back z (record { sfits = known }) ∙ e
 
 -- ---- the eight wholes of record b, the eight fractions of record e
 module _ (r : List ℕ) (wide : length r ≡ 84) (a b c d e f g h : ℤ) where
@@ -42,12 +42,12 @@ module _ (r : List ℕ) (wide : length r ≡ 84) (a b c d e f g h : ℤ) where
 
 -- ---- `fractions_ok`: one turn of the loop, and its end
 module _ (unit : ℕ) (wholes fractions : List ℤ) (i : ℕ) (eight : length wholes ≡ 8) (eight′ : length fractions ≡ 8) (left : fractionsOk unit (drop i wholes) (drop i fractions) ≡ fractionsOk unit wholes fractions) where
-  module _ (h : i < 8) (known : mag (getD wholes i (pos 0)) < 2 ^ 63) (known′ : mag (getD fractions i (pos 0)) < 2 ^ 63) (t : Bool) (tested : t ≡ fractionOk unit (held (getD wholes i (pos 0))) (held (getD fractions i (pos 0)))) where
+  module _ (h : i < 8) (known : mag (getD wholes i (pos 0)) < 2 ^ 63) (known′ : mag (getD fractions i (pos 0)) < 2 ^ 63) (t : Bool) (tested : t ≡ fractionOk unit (stored (getD wholes i (pos 0))) (stored (getD fractions i (pos 0)))) where
     one : fractionsOk unit (drop i wholes) (drop i fractions) ≡ fractionOk unit (getD wholes i (pos 0)) (getD fractions i (pos 0)) && fractionsOk unit (drop (i + 1) wholes) (drop (i + 1) fractions)
     one = rw (drop-cons wholes i (pos 0) (omega arith), drop-cons fractions i (pos 0) (omega arith), add-one i)
 
     turned : t && fractionsOk unit (drop (i + 1) wholes) (drop (i + 1) fractions) ≡ fractionsOk unit wholes fractions
-    turned = rw (tested, held-is (getD wholes i (pos 0)) _ known refl, held-is (getD fractions i (pos 0)) _ known′ refl) (sym one ∙ left)
+    turned = rw (tested, stored-is (getD wholes i (pos 0)) _ known refl, stored-is (getD fractions i (pos 0)) _ known′ refl) (sym one ∙ left)
 
     pub one-fails : not t ≡ true → false ≡ fractionsOk unit wholes fractions
     one-fails n = rw (not-true t n) at turned
@@ -62,16 +62,16 @@ module _ (unit : ℕ) (wholes fractions : List ℤ) (i : ℕ) (eight : length wh
       over = drop-of-length-le wholes (let g : length wholes ≤ i = omega arith in g)
 
 -- ---- `corner`
-module _ (unit : ℕ) (whole fraction : ℤ) (fw : mag whole < 2 ^ 63) (ff : mag fraction < 2 ^ 63) (n : Number) (e : numberAnswer n ≡ join unit (held whole) (held fraction)) where
+module _ (unit : ℕ) (whole fraction : ℤ) (fw : mag whole < 2 ^ 63) (ff : mag fraction < 2 ^ 63) (n : Number) (e : numberAnswer n ≡ join unit (stored whole) (stored fraction)) where
   answer-is : numberAnswer n ≡ join unit whole fraction
-  answer-is = e ∙ rw (held-is whole _ fw refl, held-is fraction _ ff refl)
+  answer-is = e ∙ rw (stored-is whole _ fw refl, stored-is fraction _ ff refl)
 
   joined-is : (m : Number) → n ≡ m → joined (numberAnswer m) ≡ joined (join unit whole fraction)
   joined-is m h = ap joined (ap numberAnswer (sym h) ∙ answer-is)
 
-  pub corner-joined : (z : ℤ) → mag z < 2 ^ 63 → n ≡ Is z → held z ≡ cornerOf unit whole fraction
+  pub corner-joined : (z : ℤ) → mag z < 2 ^ 63 → n ≡ Is z → stored z ≡ cornerOf unit whole fraction
   unfolding cornerOf numberAnswer
-  corner-joined z f h = held-is z _ f (joined-is (Is z) h)
+  corner-joined z f h = stored-is z _ f (joined-is (Is z) h)
 
   pub corner-refused : (number at : ℕ) → n ≡ Refused number at → pos 0 ≡ cornerOf unit whole fraction
   unfolding cornerOf numberAnswer
@@ -93,12 +93,12 @@ module _ (unit : ℕ) (wholes fractions at : List ℤ) (i : ℕ) (eight : length
   long-corners : length (cornersOf unit wholes fractions) ≡ 8
   long-corners = length-corners unit wholes fractions (eight ∙ sym eight′) ∙ eight
 
-  pub corner-more : i < 8 → mag (getD wholes i (pos 0)) < 2 ^ 63 → mag (getD fractions i (pos 0)) < 2 ^ 63 → (z : ℤ) → mag z < 2 ^ 63 → z ≡ cornerOf unit (held (getD wholes i (pos 0))) (held (getD fractions i (pos 0))) → take (i + 1) (set at i (held z)) ≡ take (i + 1) (cornersOf unit wholes fractions)
+  pub corner-more : i < 8 → mag (getD wholes i (pos 0)) < 2 ^ 63 → mag (getD fractions i (pos 0)) < 2 ^ 63 → (z : ℤ) → mag z < 2 ^ 63 → z ≡ cornerOf unit (stored (getD wholes i (pos 0))) (stored (getD fractions i (pos 0))) → take (i + 1) (set at i (stored z)) ≡ take (i + 1) (cornersOf unit wholes fractions)
   corner-more h kw kf z kz e =
-      let is : held z ≡ getD (cornersOf unit wholes fractions) i (pos 0) = held-is z _ kz (e ∙ rw (held-is (getD wholes i (pos 0)) _ kw refl, held-is (getD fractions i (pos 0)) _ kf refl) (sym (corner-at unit wholes fractions i (omega arith) (eight ∙ sym eight′)))) in
+      let is : stored z ≡ getD (cornersOf unit wholes fractions) i (pos 0) = stored-is z _ kz (e ∙ rw (stored-is (getD wholes i (pos 0)) _ kw refl, stored-is (getD fractions i (pos 0)) _ kf refl) (sym (corner-at unit wholes fractions i (omega arith) (eight ∙ sym eight′)))) in
       let room : i < length at = omega arith in
       let there : i < length (cornersOf unit wholes fractions) = omega (arith, long-corners) in
-      rw (add-one i, take-suc-set at i (held z) room, take-suc (cornersOf unit wholes fractions) i (pos 0) there, left, is)
+      rw (add-one i, take-suc-set at i (stored z) room, take-suc (cornersOf unit wholes fractions) i (pos 0) there, left, is)
 
   pub corners-all : 8 ≤ i → at ≡ cornersOf unit wholes fractions
   corners-all h = sym (take-all i at (omega arith)) ∙ left ∙ take-all i (cornersOf unit wholes fractions) (omega (arith, long-corners))

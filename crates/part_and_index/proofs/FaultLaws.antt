@@ -3,7 +3,7 @@ use mathlib.Core.Path.{_≡_, refl, ap, sym, _∙_}
 use mathlib.Core.Bool.{Bool, true, false, not, _&&_, and-true}
 use mathlib.Core.List.{List, [], _∷_}
 use mathlib.Core.Logic.{inl, inr}
-use Prim.Native.Nat.{ℕ, zero, suc, _+_, _/_, _^_, _≤_, _<_}
+use Prim.Native.Nat.{ℕ, _+_, _/_, _^_, _≤_, _<_}
 use native.Mathlib.Omega.{arith}
 use mir.Syntax.{w64}
 use mir.Val.{Fits}
@@ -17,6 +17,7 @@ use Rattle.format.specs.Text.{same, begins, bytes}
 use Rattle.format.specs.Column.{columnOf, integer, size, numberOf}
 use Rattle.format.specs.Layout.{Col, find, column, allFormed, allInside, columnFault, numberAt, sheetA, sheetB, sheetC, sheetD, sheetE, indexA, indexB}
 use Rattle.format.specs.Sheet.{unitOf, fCountOk, fractionsOk}
+use Rattle.format.proofs.Basics.{first-none, first-some}
 use Rattle.columns.specs.InRecord.{columnAt, numberIn}
 use Rattle.columns.proofs.Laws.{column-at-inside}
 use Rattle.columns.proofs.NumberIn.{number-in-below}
@@ -57,19 +58,12 @@ module _ (r : List ℕ) (letter : ℕ) (wide : length r ≡ 84) where
 pub columns-first : (table : List Col) (r : List ℕ) → length r ≡ 84 → (n : ℕ) → n ≡ faultIn table r → n ≡ columnFault table r
 columns-first table r wide n e = e ∙ fault-in-record table r wide
 
-first-some : (n m : ℕ) → (n ≡ 0 → ⊥) → first n m ≡ n
-first-some zero m z = absurd (z refl)
-first-some (suc n) m z = refl
-
-first-none : (n m : ℕ) → n ≡ 0 → first n m ≡ m
-first-none n m z = rw z
-
 module _ (table : List Col) (r : List ℕ) (wide : length r ≡ 84) (n : ℕ) (e : n ≡ faultIn table r) (m : ℕ) where
   some-column : (n ≡ 0 → ⊥) → n ≡ first (columnFault table r) m
-  some-column z = rw (sym (columns-first table r wide n e)) (sym (first-some n m z))
+  some-column z = rw (sym (columns-first table r wide n e)) (first-some n m z)
 
   no-column : n ≡ 0 → m ≡ first (columnFault table r) m
-  no-column z = rw (sym (columns-first table r wide n e)) (sym (first-none n m z))
+  no-column z = rw (sym (columns-first table r wide n e)) (first-none n m z)
 
 -- ---- records in which nothing is judged
 pub c-unjudged : (r : List ℕ) → columnFault sheetC r ≡ 0

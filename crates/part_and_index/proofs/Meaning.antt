@@ -15,6 +15,7 @@ use Rattle.format.specs.Layout.{numberAt, indexA}
 use Rattle.format.specs.Part.{Machine, partFrom, partFault}
 use Rattle.format.specs.Sheet as Sheet
 use Rattle.format.specs.Index as Index
+use Rattle.format.proofs.Basics.{first-alone}
 use Rattle.format.proofs.Lists.{Wide}
 use Rattle.part_and_index.specs.declared.due.Due.{Due}
 use Rattle.part_and_index.specs.declared.due.Due.the-variants.{SheetA, SheetB, SheetC, SheetD, SheetE, SheetF, IndexA, IndexB, IndexC, Over}
@@ -23,7 +24,6 @@ use Rattle.part_and_index.specs.declared.SheetPart.{SheetPart}
 use Rattle.part_and_index.specs.Due.{dueIn, dueAt, dueBehind, isOver}
 use Rattle.part_and_index.specs.Result.{refusedPart}
 use Rattle.part_and_index.specs.Progress.{phaseBy, phaseOf, stageBy, stageOf, faultOf, put, said, stepped, passedPart, walkedFrom}
-use Rattle.part_and_index.proofs.ProgressLaws.{first-alone}
 
 -- ---- a progress over a sheet part, and one over an index
 abbrev pub OfSheet : Due → Type 0

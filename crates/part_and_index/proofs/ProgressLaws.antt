@@ -1,9 +1,9 @@
 -- One record more, each arm of the step in the code's own words. Assumes nothing.
 use mathlib.Core.Path.{_≡_, refl, sym, _∙_}
 use mathlib.Core.List.{List}
-use Prim.Native.Nat.{ℕ, zero, suc}
+use Prim.Native.Nat.{ℕ}
 use native.Mathlib.Omega.{arith}
-use borrow.Author.Tests.{eq-eqb, ne-eqb}
+use borrow.Author.Tests.{ne-eqb}
 use lib.IntN.{ℤ}
 use lib.ListN.{length}
 use Rattle.format.specs.Basics.{first}
@@ -11,6 +11,7 @@ use Rattle.format.specs.Layout.{find, numberAt, sheetA, sheetB, sheetF, indexC}
 use Rattle.format.specs.Sheet as Sheet
 use Rattle.format.specs.Sheet.{wholesOf, fractionsOf, statedElements, statedRecords}
 use Rattle.format.specs.Index as Index
+use Rattle.format.proofs.Basics.{first-alone}
 use Rattle.columns.specs.InRecord.{numberIn}
 use Rattle.layout_faults.specs.Faults.{faultIn}
 use Rattle.part_and_index.specs.declared.due.Due.{Due}
@@ -20,6 +21,7 @@ use Rattle.part_and_index.specs.Due.{dueBehind}
 use Rattle.part_and_index.specs.Faults.{faultOfSheetA, faultOfSheetB, faultOfSheetD, faultOfSheetE, faultOfIndexA, cornersOf}
 use Rattle.part_and_index.specs.Progress.{phaseBy, phaseOf, stageBy, stageOf, faultOf, put, saidA, saidB, overE, said, stepped}
 use Rattle.part_and_index.proofs.FaultLaws.{number-there, columns-first, c-unjudged, index-b-unjudged}
+use Rattle.part_and_index.proofs.Meaning.{step-taken}
 
 -- ---- what records a, b and e say
 module _ (r : List ℕ) (p q : Progress) (f : ℕ) (next : Due) (is : q ≡ put p f next) where
@@ -35,23 +37,15 @@ module _ (r : List ℕ) (p q : Progress) (f : ℕ) (next : Due) (is : q ≡ put 
   e-said fractions ef e corners ec = rw (is, ec, e, ef)
 
 -- ---- `step`
-pub first-alone : (n : ℕ) → first n 0 ≡ n
-first-alone zero = refl
-first-alone (suc n) = refl
-
 module _ (p : Progress) (r : List ℕ) (q : Progress) where
   pub no-whole : (length r ≡ 84 → ⊥) → q ≡ put p 1 (p .due) → q ≡ stepped p r
   unfolding stepped
   no-whole h e = e ∙ rw (ne-eqb (length r) 84 h)
 
   module _ (wide : length r ≡ 84) (next : Due) (next-is : next ≡ dueBehind (p .due) r) where
-    whole : said (p .due) r (put p (faultOf p r) (dueBehind (p .due) r)) ≡ stepped p r
-    unfolding stepped
-    whole = rw (eq-eqb (length r) 84 wide)
-
     step-is : (d : Due) → p .due ≡ d → (f : ℕ) → f ≡ first (Sheet.wrongIn (phaseBy d (p .level) (p .unit) (p .wholes)) r) (Index.wrongIn (stageBy d) r) → q ≡ said d r (put p f next) → q ≡ stepped p r
     unfolding faultOf phaseOf stageOf
-    step-is d e f ef h = h ∙ rw (next-is, ef, ← e) whole
+    step-is d e f ef h = h ∙ rw (next-is, ef, ← e) (sym (step-taken p r wide))
 
     -- of a sheet part
     sheet-is : (d : Due) → p .due ≡ d → stageBy d ≡ Index.over → (f : ℕ) → f ≡ Sheet.wrongIn (phaseBy d (p .level) (p .unit) (p .wholes)) r → q ≡ said d r (put p f next) → q ≡ stepped p r

@@ -1,5 +1,5 @@
 -- `first_of` is the definition's first of two numbers. Assumes nothing.
-use Rattle.judge.proofs.EntryLaws.{first-none, first-some}
+use Rattle.format.proofs.Basics.{first-none, first-some}
 use Rattle.judge.proofs.first_of.Statement.{statement}
 use Rattle.judge.proofs.first_of.Tie as tie
 

@@ -1,6 +1,6 @@
 -- `fractions_of` reads the eight fractions in the order of record b. Assumes nothing.
 use borrow.Author.Needs.{needs}
-use Rattle.part_and_index.proofs.Corners.{fractions-read, held-is}
+use Rattle.part_and_index.proofs.Corners.{fractions-read, stored-is}
 use Rattle.part_and_index.proofs.faults.fractions_of.Statement.{statement}
 use Rattle.part_and_index.proofs.faults.fractions_of.Tie as tie
 
@@ -29,7 +29,7 @@ integer-at-requires-8 : tie.Need-integer-at-requires-8
 integer-at-requires-8 c κs = search needs
 
 returns : tie.Need-returns
-returns c = search (fractions-read, held-is)
+returns c = search (fractions-read, stored-is)
 
 pub fractions-of-spec : {M : Type 1} → statement M
 fractions-of-spec =

@@ -1,6 +1,6 @@
 -- `wholes_of` reads the eight wholes in their order. Assumes nothing.
 use borrow.Author.Needs.{needs}
-use Rattle.part_and_index.proofs.Corners.{wholes-read, held-is}
+use Rattle.part_and_index.proofs.Corners.{wholes-read, stored-is}
 use Rattle.part_and_index.proofs.faults.wholes_of.Statement.{statement}
 use Rattle.part_and_index.proofs.faults.wholes_of.Tie as tie
 
@@ -29,7 +29,7 @@ integer-at-requires-8 : tie.Need-integer-at-requires-8
 integer-at-requires-8 c κs = search needs
 
 returns : tie.Need-returns
-returns c = search (wholes-read, held-is)
+returns c = search (wholes-read, stored-is)
 
 pub wholes-of-spec : {M : Type 1} → statement M
 wholes-of-spec =
