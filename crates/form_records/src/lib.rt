@@ -7,10 +7,8 @@ ghost use lib.ListN.{length, getD, drop};
 ghost use Rattle.format.specs.Layout.{header, element, gridHeader, netHeader, dataNote};
 ghost use Rattle.form_bytes.specs.Places.{doubtsIn};
 ghost use Rattle.form_records.specs.Sure.{sure};
+use files::RECORD;
 use form_bytes::doubt_at;
-
-// "records of 84 bytes"
-const RECORD: usize = 84;
 
 // The places of the bytes from 2 to 81, by the letters of form_bytes.
 const HEADER: [u8; 80] =

@@ -110,7 +110,7 @@ unfoldable pub sheetFault : List (List ℕ) → Fault
 sheetFault rs = partFault sheetMachine due-a 1 rs
 
 -- "The last e record gives the corners (house rule); all are judged": eight numbers in millimetres, in the order of b. No call of
--- document 01 answers them; order 8 of document 02 will. `latest` are the corners of the last e record so far
+-- document 01 answers them; opening a sheet does, for order 8 of document 02. `latest` are the corners of the last e record so far
 abbrev pub joinAll : ℕ → List ℤ → List ℤ → List ℤ
 joinAll unit [] fs = []
 joinAll unit (w ∷ ws) [] = []

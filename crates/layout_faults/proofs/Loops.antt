@@ -22,7 +22,6 @@ use Rattle.format.specs.declared.Column.the-variants.{Value, MinusZero, Malform
 use Rattle.format.specs.Basics.{first, unless, member}
 use Rattle.format.specs.Column.{formed, integer}
 use Rattle.format.specs.Layout.{isOne}
-use Rattle.format.proofs.Basics.{first-alone}
 use Rattle.format.proofs.Columns.{other-tag}
 use Rattle.columns.specs.InRecord.{columnAt, spacesAt}
 use Rattle.columns.proofs.Numbers.{plain-sign, size-fits}

@@ -13,6 +13,7 @@ ghost use Rattle.format.specs.Layout.{indexA, indexC, sheetA, sheetB, sheetD, s
 ghost use Rattle.columns.specs.InRecord.{columnAt};
 ghost use Rattle.layout_faults.specs.Faults.{faultIn};
 ghost use Rattle.layout_faults.specs.Tables.{unlessSpaces, faultAs, Alike, faultOf, tableFault, listedAt};
+use files::RECORD;
 use format::Column;
 use layouts::DataNote;
 use layouts::Element;
@@ -28,9 +29,6 @@ use layouts::SheetB;
 use layouts::SheetD;
 use layouts::SheetE;
 use layouts::SheetF;
-
-// "records of 84 bytes"
-const RECORD: usize = 84;
 
 // An integer: 5 where it is malformed, 6 where it is outside its limits.
 fn integer_fault(record: &[u8], start: usize, width: usize, low: i64, high: i64) -> u8

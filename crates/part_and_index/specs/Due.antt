@@ -26,7 +26,7 @@ dueAt (Index.due-b bs cs) = IndexB bs cs
 dueAt (Index.due-c cs) = IndexC cs
 dueAt Index.over = Over
 
--- behind a whole record: what is due there does not ask for the level, the unit and the wholes, which are 0 and none here (proofs/Laws: due-phase)
+-- behind a whole record: what is due there does not ask for the level, the unit and the wholes, which are 0 and none here (proofs/DueLaws: due-phase)
 abbrev pub dueBehind : Due → List ℕ → Due
 dueBehind SheetA r = dueIn (Sheet.after Sheet.due-a r)
 dueBehind (SheetB sets) r = dueIn (Sheet.after (Sheet.due-b 0 sets) r)

@@ -1,4 +1,4 @@
--- Words of the private contracts: the first fault of each judged record, where it is due, and the corners as the code makes them. Assumes nothing.
+-- The first fault of each judged record, where it is due, and the corners that a step keeps. Assumes nothing.
 use mathlib.Core.List.{List, [], _∷_}
 use Prim.Native.Nat.{ℕ}
 use lib.IntN.{ℤ, pos}
@@ -24,7 +24,7 @@ faultOfSheetE unit wholes fractions r = first (columnFault sheetE r) (unless (Sh
 unfoldable pub faultOfIndexA : List ℕ → ℕ
 faultOfIndexA r = Index.wrongIn Index.due-a r
 
--- "joining .. whole metres and a fraction": a corner in millimetres; 0 where they are not joined
+-- a corner in millimetres, as joining answers it; 0 where it refuses, which a record without fault never has (proofs/Parts: corners-from)
 abbrev pub joined : Answer ℤ → ℤ
 joined (given z) = z
 joined (refused number at) = pos 0

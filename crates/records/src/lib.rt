@@ -12,6 +12,7 @@ mod items;
 mod reading;
 mod rules;
 
+use files::RECORD;
 pub use items::Entry;
 use layouts::DataNote;
 use layouts::Header;
@@ -66,7 +67,7 @@ fn read_type(record: &[u8]) -> TypeCode
 pub fn entry(record: &[u8]) -> Entry
     ensures { λ r. ⌜ r ≡ entryOf (now («record» .entry)) ⌝ }
 {
-    if record.len() != 84 {
+    if record.len() != RECORD {
         return items::refused(4);
     }
     let code = read_type(record);
@@ -102,7 +103,7 @@ pub type Tally = [usize; 10];
 pub fn counts_agree(record: &[u8], tally: &Tally) -> bool
     ensures { λ r. ⌜ r ≡ statesCounts (now («record» .entry)) (now (tally .entry)) ⌝ }
 {
-    if record.len() != 84 {
+    if record.len() != RECORD {
         return false;
     }
     let mut agree = true;
@@ -149,7 +150,7 @@ fn note_fault(record: &[u8]) -> u8
 pub fn data_fault(record: &[u8], held: Held, behind: usize) -> u8
     ensures { λ r. ⌜ r ≡ dataFaultOf (now («record» .entry)) held behind ⌝ }
 {
-    if record.len() != 84 {
+    if record.len() != RECORD {
         return 5;
     }
     if let Held::Notes = held {
