@@ -33,7 +33,7 @@ use Rattle.edit.proofs.Columns.{one-more-fits}
 use Rattle.edit.proofs.Inserted.{count-of-total, insert-stored}
 use Rattle.edit.proofs.Refused.{insert-refused}
 use Rattle.edit.proofs.AtPlace.{not-below, above-total, above-count}
-use Rattle.edit.proofs.OpenedAt.{body-long, insert-place, AtStart, at-start, plain-file, at-inside, has-above, index-is, index-inside, record-is}
+use Rattle.edit.proofs.OpenedAt.{body-long, start-is, insert-place, AtStart, at-start, plain-file, at-inside, has-above, index-is, index-inside, record-is}
 
 -- ---- a block that is an item is whole records
 module _ (block : List ℕ) (no-fault : fault12 (map view (blockOf block)) ≡ 0) where
@@ -191,9 +191,6 @@ module _ (l : List ℕ) (used place : ℕ) (block : List ℕ) (sheet : Sheet) (k
         accepted-fault : insertFault (sheetIn used l) place (drop used l) itemViews 200000 ≡ 0
         accepted-fault = faults ∙ none
 
-        start-is : 84 * (place - 1) ≡ 84 * (partLength (chunks (used / 84) l) + bodyPlace (sheetIn used l) place)
-        start-is = ap (λ (i : ℕ). 84 * i) (let e : place - 1 ≡ partLength (chunks (used / 84) l) + bodyPlace (sheetIn used l) place = omega (arith, n .behind, n .opened-at .part-is) in e)
-
         header-is : above .header ≡ partLength (chunks (used / 84) l) + pred (aboveIn ((getD itemViews 0 absent) .level) there)
         header-is = rw (← (n .level-is)) (read .index-is ∙ index-is l used place sheet (n .opened-at) (n .behind) (n .place-high) level (n .level-low) (n .level-high) near)
 
@@ -222,5 +219,5 @@ module _ (l : List ℕ) (used place : ℕ) (block : List ℕ) (sheet : Sheet) (k
               records-fit = omega (arith, few-then);
             };
           };
-          outcome = insert-stored l used place (n .opened-at .accepted) block (bytes-block block (n .twelve)) _ accepted-fault inside-there (rw (← (n .level-is)) (n .level-low)) (rw (← (n .level-is)) near) (rw (← (n .kind-is)) (n .kind-most)) header-is (n .kind-is) total-is count-is (ap (λ (z : ℕ). z + 1) (n .opened-at .items-are)) records-is start-is (long-block block (n .twelve));
+          outcome = insert-stored l used place (n .opened-at .accepted) block (bytes-block block (n .twelve)) _ accepted-fault inside-there (rw (← (n .level-is)) (n .level-low)) (rw (← (n .level-is)) near) (rw (← (n .kind-is)) (n .kind-most)) header-is (n .kind-is) total-is count-is (ap (λ (z : ℕ). z + 1) (n .opened-at .items-are)) records-is (start-is l used place sheet (n .opened-at) (n .behind)) (long-block block (n .twelve));
         }

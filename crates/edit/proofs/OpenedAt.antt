@@ -2,7 +2,7 @@
 use mathlib.Core.Path.{_≡_, refl, ap, sym, _∙_}
 use mathlib.Core.Bool.{Bool, true, false, not, _&&_}
 use mathlib.Core.List.{List, []}
-use Prim.Native.Nat.{ℕ, suc, pred, _+_, _-_, _/_, _≤_, _<_}
+use Prim.Native.Nat.{ℕ, suc, pred, _+_, _-_, _*_, _/_, _≤_, _<_}
 use native.Mathlib.Omega.{arith}
 use borrow.Author.Tests.{leb-true, ltb-true, ltb-false, le-leb, lt-leb, eqb-true}
 use lib.Dec.{leb, ltb, eqb}
@@ -110,6 +110,10 @@ module _ (l : List ℕ) (used place : ℕ) (sheet : Sheet) (s : OpenedAt l used 
       let b = and-true (ltb (sheet .part) place && leb place last) (eqb (sheet .due) 0) e in
       let c = and-true (ltb (sheet .part) place) (leb place last) (b .0) in
       record { follows = ltb-true _ _ (c .0); up-to = leb-true _ _ (c .1); closed = sym (s .due-is) ∙ eqb-true _ _ (b .1) }
+
+  -- the place's first byte, by the sheet part and the place in the body
+  pub start-is : sheet .part < place → 84 * (place - 1) ≡ 84 * (partLength (chunks (used / 84) l) + bodyPlace (sheetIn used l) place)
+  start-is follows = ap (λ (i : ℕ). 84 * i) (let e : place - 1 ≡ partLength (chunks (used / 84) l) + bodyPlace (sheetIn used l) place = omega (arith, follows, s .part-is) in e)
 
   -- ---- the header above an item there
   module _ (follows : sheet .part < place) (up-to : place ≤ used / 84 + 1) (level : ℕ) (low : 2 ≤ level) (high : level ≤ 9) (near : pred level ≤ openBehind 0 0 (before (sheetIn used l) place)) where

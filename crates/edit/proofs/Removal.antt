@@ -29,7 +29,7 @@ use Rattle.edit.specs.Plans.{OpenedAt, isPlace, HasAbove, headerRecord, 
 use Rattle.edit.proofs.Columns.{one-less-fits}
 use Rattle.edit.proofs.Refused.{remove-refused}
 use Rattle.edit.proofs.AtPlace.{Start, starts, above-wide}
-use Rattle.edit.proofs.OpenedAt.{body-long, remove-place, AtStart, at-start, plain-file, at-inside, has-above, index-is, index-inside, record-is}
+use Rattle.edit.proofs.OpenedAt.{body-long, start-is, remove-place, AtStart, at-start, plain-file, at-inside, has-above, index-is, index-inside, record-is}
 use Rattle.edit.proofs.Removed.{remove-stored}
 
 -- ---- 11
@@ -149,9 +149,6 @@ module _ (l : List ℕ) (used place : ℕ) (sheet : Sheet) (item : Entry) (m : R
     out-is : 84 * (item .«data_records» + 1) ≡ 84 * suc (lost .dataRecords)
     out-is = omega (arith, m .data-is)
 
-    start-is : 84 * (place - 1) ≡ 84 * (partLength (chunks (used / 84) l) + bodyPlace (sheetIn used l) place)
-    start-is = ap (λ (i : ℕ). 84 * i) (let e : place - 1 ≡ partLength (chunks (used / 84) l) + bodyPlace (sheetIn used l) place = omega (arith, m .behind, m .opened-at .part-is) in e)
-
     pub stored : (total count elements : ℕ) → total ≡ above .total - 1 → count ≡ above .count - 1 → elements ≡ sheet .items - 1 → RemovalPlanned l used place (Store (record { header = above .header; kind = item .kind; total = total; count = count; elements = elements; records = used / 84 - sheet .part - (item .«data_records» + 1); start = 84 * (place - 1); length = 84 * (item .«data_records» + 1) }))
     unfolding RemovalPlanned
     stored total count elements total-is count-is elements-is = record {
@@ -168,5 +165,5 @@ module _ (l : List ℕ) (used place : ℕ) (sheet : Sheet) (item : Entry) (m : R
           records-fit = omega (arith, m .opened-at .few);
         };
       };
-      outcome = remove-stored l used place (m .opened-at .accepted) _ (m .eleven) (omega (arith, m .data-inside, m .data-is, m .behind, body-long l used place sheet (m .opened-at), m .opened-at .part-is)) (omega (arith, m .level-low, m .level-is)) (omega (arith, near, m .level-is)) (omega (arith, m .kind-most, m .kind-is)) header-is (m .kind-is) (total-is ∙ ap (λ (n : ℕ). n - 1) (read .total-is ∙ ap (numberAt header "total") record-there)) (count-is ∙ ap (λ (n : ℕ). n - 1) (read .count-is ∙ ap (λ (r : List ℕ). countIn r (item .kind)) record-there ∙ ap (countIn (getD (chunks (used / 84) l) index [])) (m .kind-is))) (elements-is ∙ ap (λ (n : ℕ). n - 1) (m .opened-at .items-are)) (omega (arith, records-are (m .opened-at .accepted), m .opened-at .part-is, m .data-is)) start-is out-is;
+      outcome = remove-stored l used place (m .opened-at .accepted) _ (m .eleven) (omega (arith, m .data-inside, m .data-is, m .behind, body-long l used place sheet (m .opened-at), m .opened-at .part-is)) (omega (arith, m .level-low, m .level-is)) (omega (arith, near, m .level-is)) (omega (arith, m .kind-most, m .kind-is)) header-is (m .kind-is) (total-is ∙ ap (λ (n : ℕ). n - 1) (read .total-is ∙ ap (numberAt header "total") record-there)) (count-is ∙ ap (λ (n : ℕ). n - 1) (read .count-is ∙ ap (λ (r : List ℕ). countIn r (item .kind)) record-there ∙ ap (countIn (getD (chunks (used / 84) l) index [])) (m .kind-is))) (elements-is ∙ ap (λ (n : ℕ). n - 1) (m .opened-at .items-are)) (omega (arith, records-are (m .opened-at .accepted), m .opened-at .part-is, m .data-is)) (start-is l used place sheet (m .opened-at) (m .behind)) out-is;
     }
