@@ -22,6 +22,7 @@ use Rattle.form_columns.specs.Columns.{eachFormed, columnsFormed}
 use Rattle.form_columns.proofs.Records.{alone, columnFault-3D, columnFault-2D, columnFault-net, columnFault-grid}
 use Rattle.layout_faults.specs.Faults.{faultIn}
 use Rattle.layout_faults.proofs.Laws.{fault-in-record, integer-is}
+use Rattle.format.proofs.Basics.{first-some}
 use Rattle.records.specs.declared.Held.{Held}
 use Rattle.records.specs.declared.Held.the-variants.{Nothing, Points3D, Points2D, Triangles, Heights, Notes, Attributes}
 use Rattle.records.specs.Entry.{toData, dataFaultOf}
@@ -30,10 +31,6 @@ use Rattle.records.proofs.Held.{the-type}
 use Rattle.records.proofs.Numbers.{stated}
 
 -- ---- `note_fault`
-
-first-some : (a b : ℕ) → (a ≡ 0 → ⊥) → a ≡ first a b
-first-some zero b h = absurd (h refl)
-first-some (suc a) b h = refl
 
 module _ (l : List ℕ) (whole : length l ≡ 84) where
   note-rule : (writing : ℕ) (direction : ℤ) → writing ≡ numberIn l 0 1 → direction ≡ integer (columnAt l 1 7) → directionIn writing direction ≡ directionOk l

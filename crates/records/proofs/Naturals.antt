@@ -29,7 +29,7 @@ unfoldable pub halves : ℕ → List ℕ → ℕ
 halves n [] = n
 halves n (b ∷ bs) = halves (n * 10 + b % 16) bs
 
-half-of-digit : (b : ℕ) → isDigit b ≡ true → b % 16 ≡ b - 48
+pub half-of-digit : (b : ℕ) → isDigit b ≡ true → b % 16 ≡ b - 48
 unfolding isDigit
 half-of-digit b d =
     let t = and-true (leb 48 b) (leb b 57) d in

@@ -21,6 +21,8 @@ use Rattle.format.proofs.Basics.{and-true}
 use Rattle.format.proofs.Columns.{Byte, v-space, v-minus, v-digit, v-other, byte, length-column}
 use Rattle.columns.specs.InRecord.{columnAt, numberIn}
 use Rattle.columns.proofs.Laws.{column-at-inside}
+use Rattle.columns.proofs.Reading.{digit-more}
+use Rattle.records.proofs.Naturals.{half-of-digit}
 
 -- what a column says of whose bytes so far all were spaces, or spaces and digits of the number n, by the bytes that are left
 abbrev saysAfter : (blank : Bool) → (n : ℕ) → List ℕ → Column
@@ -33,16 +35,6 @@ isPlain blank b = (leb 48 b && leb b 57) || (blank && eqb b 32)
 
 -- ---- one byte more
 
-low-half : (b : ℕ) → isDigit b ≡ true → b % 16 ≡ b - 48
-unfolding isDigit
-low-half b d =
-    let t = and-true (leb 48 b) (leb b 57) d in
-    omega (arith, leb-true 48 b (t .0), leb-true b 57 (t .1))
-
--- n, a digit d and k digits of value v
-more : (n d k v : ℕ) → n * 10 ^ suc k + (d * 10 ^ k + v) ≡ (n * 10 + d) * 10 ^ k + v
-more n d k v = omega (arith, add-mul (n * 10) d (10 ^ k), mul-assoc n 10 (10 ^ k), ap (λ (x : ℕ). n * x) (pow-succ' 10 k))
-
 first-digit : (n d k v : ℕ) → n ≡ 0 → d * 10 ^ k + v ≡ (n * 10 + d) * 10 ^ k + v
 first-digit n d k v z = rw z (let e : 0 * 10 + d ≡ d = omega arith in rw e)
 
@@ -52,8 +44,8 @@ step-plain true n b bs (v-space e) z p = rw e
 step-plain false n b bs (v-space e) z p = absurd (false≢true (rw e at p))
 step-plain true n b bs (v-minus e) z p = absurd (false≢true (rw e at p))
 step-plain false n b bs (v-minus e) z p = absurd (false≢true (rw e at p))
-step-plain true n b bs (v-digit p q r) z k = simp (p, q, r, low-half b r) (ap (λ (x : ℕ). cond (allDigits bs) (Value (pos x)) Malformed) (first-digit n (b - 48) (length bs) (valueOf bs) (z refl)))
-step-plain false n b bs (v-digit p q r) z k = simp (r, low-half b r) (ap (λ (x : ℕ). cond (allDigits bs) (Value (pos x)) Malformed) (more n (b - 48) (length bs) (valueOf bs)))
+step-plain true n b bs (v-digit p q r) z k = simp (p, q, r, half-of-digit b r) (ap (λ (x : ℕ). cond (allDigits bs) (Value (pos x)) Malformed) (first-digit n (b - 48) (length bs) (valueOf bs) (z refl)))
+step-plain false n b bs (v-digit p q r) z k = simp (r, half-of-digit b r) (ap (λ (x : ℕ). cond (allDigits bs) (Value (pos x)) Malformed) (sym (digit-more n (b - 48) (length bs) (valueOf bs))))
 step-plain true n b bs (v-other p q r) z k = absurd (false≢true (simp (p, r) at k))
 step-plain false n b bs (v-other p q r) z k = absurd (false≢true (simp r at k))
 
