@@ -76,12 +76,12 @@ pub(crate) fn element_entry(record: &[u8], number: usize) -> Entry
         return refused(fault);
     }
     let level = reading::natural(record, Element::LEVEL_START, Element::LEVEL_WIDTH);
-    let kind = reading::natural(record, Element::DATA_KIND_START, Element::DATA_KIND_WIDTH);
+    let data_kind = reading::natural(record, Element::DATA_KIND_START, Element::DATA_KIND_WIDTH);
     let count = reading::natural(record, Element::DATA_COUNT_START, Element::DATA_COUNT_WIDTH);
     let records = reading::natural(record, Element::RECORDS_START, Element::RECORDS_WIDTH);
-    let allowed = rules::kind_and_count(number, kind, count);
-    let needs = rules::element_records(kind, count);
-    let held = rules::element_holds(kind, count);
+    let allowed = rules::kind_and_count(number, data_kind, count);
+    let needs = rules::element_records(data_kind, count);
+    let held = rules::element_holds(data_kind, count);
     let broken = rule_fault(allowed & (records == needs));
     Entry {
         fault: 0,

@@ -15,18 +15,18 @@ fn round_up(n: usize, each: usize) -> usize
 }
 
 // Data kinds 2, 3 and 6 are points.
-fn is_points(kind: usize) -> bool
-    ensures { λ r. ⌜ r ≡ coordinates kind ⌝ }
+fn is_points(data_kind: usize) -> bool
+    ensures { λ r. ⌜ r ≡ coordinates «data_kind» ⌝ }
 {
-    (kind == 2) | (kind == 3) | (kind == 6)
+    (data_kind == 2) | (data_kind == 3) | (data_kind == 6)
 }
 
 // Data kind and data count of an element, by its type, E1 to E8.
-pub(crate) fn kind_and_count(element: usize, kind: usize, count: usize) -> bool
+pub(crate) fn kind_and_count(element: usize, data_kind: usize, count: usize) -> bool
     requires { ⌜ (1 ≤ element) × (element ≤ 8) ⌝ }
-    ensures { λ r. ⌜ r ≡ kindAndCount (elementType element) kind count ⌝ }
+    ensures { λ r. ⌜ r ≡ kindAndCount (elementType element) «data_kind» count ⌝ }
 {
-    let points = is_points(kind);
+    let points = is_points(data_kind);
     if element <= 2 {
         return points & (1 <= count);
     }
@@ -34,23 +34,23 @@ pub(crate) fn kind_and_count(element: usize, kind: usize, count: usize) -> bool
         return points & (count == 3);
     }
     if element == 5 {
-        return (((kind == 0) | (kind == 1)) & (count == 0)) | (points & (1 <= count));
+        return (((data_kind == 0) | (data_kind == 1)) & (count == 0)) | (points & (1 <= count));
     }
     if element == 6 {
         return points & (count % 2 == 0) & (2 <= count);
     }
     if element == 7 {
-        return (kind == 4) & (1 <= count);
+        return (data_kind == 4) & (1 <= count);
     }
-    (kind == 5) & (1 <= count)
+    (data_kind == 5) & (1 <= count)
 }
 
 // How many data records an element has.
-pub(crate) fn element_records(kind: usize, count: usize) -> usize
+pub(crate) fn element_records(data_kind: usize, count: usize) -> usize
     requires { ⌜ count < 10000 ⌝ }
-    ensures { λ r. ⌜ r ≡ elementRecords kind count ⌝ }
+    ensures { λ r. ⌜ r ≡ elementRecords «data_kind» count ⌝ }
 {
-    match kind {
+    match data_kind {
         2 => round_up(count, 6),
         3 | 6 => round_up(count, 4),
         4 => round_up(count, 64),
@@ -60,10 +60,10 @@ pub(crate) fn element_records(kind: usize, count: usize) -> usize
 }
 
 // What they hold.
-pub(crate) fn element_holds(kind: usize, count: usize) -> Held
-    ensures { λ r. ⌜ r ≡ toHeld (dataOf kind count) ⌝ }
+pub(crate) fn element_holds(data_kind: usize, count: usize) -> Held
+    ensures { λ r. ⌜ r ≡ toHeld (dataOf «data_kind» count) ⌝ }
 {
-    match kind {
+    match data_kind {
         2 => Held::Points2D(count),
         3 | 6 => Held::Points3D(count),
         4 => Held::Notes,
