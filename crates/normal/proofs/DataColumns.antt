@@ -1,12 +1,8 @@
--- Data records: their first columns in written form, and how many those are. Assumes nothing.
+-- Data records: their first columns in written form, as many as are used. Assumes nothing.
 use mathlib.Core.Path.{_≡_, refl, ap, sym, _∙_}
-use mathlib.Core.Bool.{Bool, true, false, cond}
+use mathlib.Core.Bool.{true}
 use mathlib.Core.List.{List, [], _∷_}
-use Prim.Native.Nat.{ℕ, zero, suc, _+_, _*_, _/_, _%_, _≤_, _<_}
-use native.Mathlib.Nat.{mod-lt, mul-le-mul, add-mul-mod-self-left}
-use native.Mathlib.Omega.{arith}
-use borrow.Author.Tests.{eqb-true, eqb-false, ne-eqb}
-use lib.Dec.{eqb}
+use Prim.Native.Nat.{ℕ, zero, suc, _*_, _≤_}
 use lib.ListN.{length, take}
 use lib.Seq.{length-take-le}
 use types.Run.{OneOf, miss}
@@ -20,9 +16,9 @@ use Rattle.layouts.proofs.Lies.{lies, allLie}
 use Rattle.records.proofs.Held.{the-type}
 use Rattle.records.specs.declared.Held.{Held}
 use Rattle.records.specs.declared.Held.the-variants.{Nothing, Points3D, Points2D, Triangles, Heights, Notes, Attributes}
-use Rattle.records.specs.Entry.{toData}
-use Rattle.records.specs.Steps.{columnsUsed}
-use Rattle.normal.specs.Rewriting.{rewrittenAll, usedOf, firstSevens}
+use Rattle.records.specs.Entry.{toData, columnsUsed}
+use Rattle.records.proofs.Used.{columns-most}
+use Rattle.normal.specs.Rewriting.{rewrittenAll, firstSevens}
 use Rattle.normal.proofs.Layouts.{by-tables, form-stays}
 
 -- ---- the first columns of a data record: `rewrite_first`
@@ -114,100 +110,7 @@ like-grid : LikeGrid dataGrid
 unfolding dataGrid
 like-grid = record { starts-are = refl; widths-are = refl; forms-are = refl; lie = refl }
 
--- ---- how many are used: `used`
-
-module _ (each count behind : ℕ) where
-  pub used-full : 0 < behind → 12 ≡ usedOf each count behind
-  unfolding usedOf
-  used-full = go behind
-    where
-      go : (n : ℕ) → 0 < n → 12 ≡ usedOf each count n
-      go zero h = absurd (omega arith)
-      go (suc n) h = refl
-
-  pub used-none : behind ≤ 0 → count ≡ 0 → 0 ≡ usedOf each count behind
-  unfolding usedOf
-  used-none h e = let z : behind ≡ 0 = omega arith in rw (z, e)
-
-  pub used-last : behind ≤ 0 → (count ≡ 0 → ⊥) → (each * (count % 12) + 11) % 12 + 1 ≡ usedOf each count behind
-  unfolding usedOf
-  used-last h k = let z : behind ≡ 0 = omega arith in rw (z, ne-eqb count 0 k)
-
-  used-most : usedOf each count behind ≤ 12
-  unfolding usedOf
-  used-most = go behind
-    where
-      last : (t : Bool) → cond t 0 ((each * (count % 12) + 11) % 12 + 1) ≤ 12
-      last true = omega arith
-      last false = omega (arith, mod-lt (each * (count % 12) + 11) {m = 12} (omega arith))
-
-      go : (n : ℕ) → usedOf each count n ≤ 12
-      go zero = last (eqb count 0)
-      go (suc n) = omega arith
-
-  pub columns-small : each ≤ 9 → each * (count % 12) ≤ 99
-  columns-small h = omega (arith, mul-le-mul {n₁ = each} {m₁ = count % 12} {n₂ = 9} {m₂ = 11} h (omega (arith, mod-lt count {m = 12} (omega arith))))
-
--- ---- by what the data records hold: `columns_used`
-
--- a full record has twelve columns used, and the last one what is left of all by twelve
-used-by : (each count : ℕ) (columns : ℕ → ℕ) → ((n : ℕ) → columns (suc n) ≡ 12) → (count ≡ 0 → columns 0 ≡ 0) → ((count ≡ 0 → ⊥) → columns 0 ≡ (each * (count % 12) + 11) % 12 + 1) → (behind : ℕ) → usedOf each count behind ≡ columns behind
-unfolding usedOf
-used-by each count columns full none last (suc n) = sym (full n)
-used-by each count columns full none last zero = go (eqb count 0) refl
-  where
-    go : (t : Bool) → eqb count 0 ≡ t → cond t 0 ((each * (count % 12) + 11) % 12 + 1) ≡ columns 0
-    go true e = sym (none (eqb-true count 0 e))
-    go false e = sym (last (eqb-false count 0 e))
-
--- three points a triangle, four points a record
-net-last : (count : ℕ) → (count ≡ 0 → ⊥) → 3 * usedIn 4 (3 * count) 0 ≡ (9 * (count % 12) + 11) % 12 + 1
-net-last count k =
-    let d : 9 * count + 11 ≡ 9 * (count % 12) + 11 + 12 * (9 * (count / 12)) = omega arith in
-    let m : (9 * count + 11) % 12 ≡ (9 * (count % 12) + 11) % 12 = rw d (add-mul-mod-self-left (9 * (count % 12) + 11) 12 (9 * (count / 12))) in
-    rw (← m) (omega arith)
-
-module _ (count behind r : ℕ) (held : Held) where
-  pub used-3D : held ≡ Points3D count → r ≡ usedOf 3 count behind → r ≡ columnsUsed held behind
-  unfolding columnsUsed
-  used-3D h e = e ∙ used-by 3 count (λ (n : ℕ). 3 * usedIn 4 count n) (λ n. refl) (λ z. omega arith) (λ k. omega arith) behind ∙ rw h
-
-  pub used-2D : held ≡ Points2D count → r ≡ usedOf 2 count behind → r ≡ columnsUsed held behind
-  unfolding columnsUsed
-  used-2D h e = e ∙ used-by 2 count (λ (n : ℕ). 2 * usedIn 6 count n) (λ n. refl) (λ z. omega arith) (λ k. omega arith) behind ∙ rw h
-
-  pub used-net : held ≡ Triangles count → r ≡ usedOf 9 count behind → r ≡ columnsUsed held behind
-  unfolding columnsUsed
-  used-net h e = e ∙ used-by 9 count (λ (n : ℕ). 3 * usedIn 4 (3 * count) n) (λ n. refl) (λ z. omega arith) (net-last count) behind ∙ rw h
-
-  pub used-grid : held ≡ Heights count → r ≡ usedOf 1 count behind → r ≡ columnsUsed held behind
-  unfolding columnsUsed
-  used-grid h e = e ∙ used-by 1 count (λ (n : ℕ). usedIn 12 count n) (λ n. refl) (λ z. omega arith) (λ k. omega arith) behind ∙ rw h
-
-module _ (held : Held) (behind : ℕ) where
-  pub used-nothing : held ≡ Nothing → 0 ≡ columnsUsed held behind
-  unfolding columnsUsed
-  used-nothing h = rw h
-
-  pub used-notes : held ≡ Notes → 0 ≡ columnsUsed held behind
-  unfolding columnsUsed
-  used-notes h = rw h
-
-  pub used-attributes : held ≡ Attributes → 0 ≡ columnsUsed held behind
-  unfolding columnsUsed
-  used-attributes h = rw h
-
 -- ---- `data`
-
-columns-most : (held : Held) (behind : ℕ) → columnsUsed held behind ≤ 12
-unfolding columnsUsed
-columns-most Nothing behind = omega arith
-columns-most (Points3D count) behind = rw (← used-3D count behind _ (Points3D count) refl refl) (used-most 3 count behind)
-columns-most (Points2D count) behind = rw (← used-2D count behind _ (Points2D count) refl refl) (used-most 2 count behind)
-columns-most (Triangles count) behind = rw (← used-net count behind _ (Triangles count) refl refl) (used-most 9 count behind)
-columns-most (Heights count) behind = rw (← used-grid count behind _ (Heights count) refl refl) (used-most 1 count behind)
-columns-most Notes behind = omega arith
-columns-most Attributes behind = omega arith
 
 module _ (l l′ : List ℕ) (held : Held) (behind : ℕ) where
   pub note-written : held ≡ Notes → l′ ≡ normalRecord dataNote l → l′ ≡ normalRecord (dataColumns (toData held) behind) l

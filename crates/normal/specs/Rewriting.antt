@@ -2,7 +2,7 @@
 -- shown in proofs/Layouts. Assumes nothing.
 use mathlib.Core.Bool.{cond}
 use mathlib.Core.List.{List, [], _∷_}
-use Prim.Native.Nat.{ℕ, zero, suc, _+_, _*_, _%_}
+use Prim.Native.Nat.{ℕ}
 use lib.Dec.{eqb}
 use lib.ListN.{take, getD}
 use Rattle.format.specs.Column.{integer}
@@ -30,12 +30,6 @@ rewrittenAll r [] widths forms = r
 rewrittenAll r (s ∷ starts) [] forms = r
 rewrittenAll r (s ∷ starts) (w ∷ widths) [] = r
 rewrittenAll r (s ∷ starts) (w ∷ widths) (f ∷ forms) = rewrittenAll (rewrittenAs r s w f) starts widths forms
-
--- how many of a data record's twelve columns are used, where each of `count` points, triangles or heights takes `each` of them: all but in
--- the last record, which takes what is left by twelve
-unfoldable pub usedOf : (each count behind : ℕ) → ℕ
-usedOf each count zero = cond (eqb count 0) 0 ((each * (count % 12) + 11) % 12 + 1)
-usedOf each count (suc behind) = 12
 
 -- the first of twelve columns of seven bytes, in which points and heights lie alike
 unfoldable pub firstSevens : (columns : ℕ) → List ℕ → List ℕ

@@ -25,8 +25,8 @@ use Rattle.layout_faults.proofs.Laws.{fault-in-record, integer-is}
 use Rattle.format.proofs.Basics.{first-some}
 use Rattle.records.specs.declared.Held.{Held}
 use Rattle.records.specs.declared.Held.the-variants.{Nothing, Points3D, Points2D, Triangles, Heights, Notes, Attributes}
-use Rattle.records.specs.Entry.{toData, dataFaultOf}
-use Rattle.records.specs.Steps.{columnsUsed, directionIn}
+use Rattle.records.specs.Entry.{toData, dataFaultOf, columnsUsed}
+use Rattle.records.specs.Steps.{directionIn}
 use Rattle.records.proofs.Held.{the-type}
 use Rattle.records.proofs.Numbers.{stated}
 

@@ -15,7 +15,8 @@ use Rattle.columns.proofs.Numbers.{back}
 use Rattle.form_columns.proofs.Records.{used-at-most}
 use Rattle.records.specs.declared.Held.{Held}
 use Rattle.records.specs.declared.Held.the-variants.{Nothing, Points3D, Points2D, Triangles, Heights, Notes, Attributes}
-use Rattle.records.specs.Steps.{columnsUsed, directionIn}
+use Rattle.records.specs.Entry.{columnsUsed}
+use Rattle.records.specs.Steps.{directionIn}
 
 -- ---- `used`, `used_of_net`
 
@@ -88,6 +89,17 @@ module _ (held : Held) (behind : ℕ) where
   pub columns-attributes : held ≡ Attributes → 0 ≡ columnsUsed held behind
   unfolding columnsUsed
   columns-attributes h = rw h
+
+-- a data record has twelve columns of seven bytes: no more are used
+pub columns-most : (held : Held) (behind : ℕ) → columnsUsed held behind ≤ 12
+unfolding columnsUsed
+columns-most Nothing behind = omega arith
+columns-most (Points3D count) behind = omega (arith, used-at-most 4 count behind (omega arith))
+columns-most (Points2D count) behind = omega (arith, used-at-most 6 count behind (omega arith))
+columns-most (Triangles count) behind = omega (arith, used-at-most 4 (3 * count) behind (omega arith))
+columns-most (Heights count) behind = used-at-most 12 count behind (omega arith)
+columns-most Notes behind = omega arith
+columns-most Attributes behind = omega arith
 
 -- ---- `is_direction`: the left end, then the right one
 

@@ -1,13 +1,13 @@
 -- One record of a sheet's body, as judging asks for it: what a header or an item states, with its first fault of 4, 5 and 6; the first fault of a
--- data record; and whether a header states the counts of a tally. Each is said by the view of the record. Assumes nothing.
+-- data record, and how much of it is used; and whether a header states the counts of a tally. Each is said by the view of the record. Assumes nothing.
 use mathlib.Core.Bool.{Bool, false, cond, _&&_}
 use mathlib.Core.List.{List}
-use Prim.Native.Nat.{ℕ}
+use Prim.Native.Nat.{ℕ, _*_}
 use lib.Dec.{leb, eqb}
 use lib.ListN.{length, getD}
 use Rattle.format.specs.Basics.{first, unless}
 use Rattle.format.specs.Layout.{numberAt, header}
-use Rattle.format.specs.Record.{countIndex, Data, nothing, points3D, points2D, triangles, heights, notes, attributes, dataFault, View, countIn, view}
+use Rattle.format.specs.Record.{countIndex, Data, nothing, points3D, points2D, triangles, heights, notes, attributes, usedIn, dataFault, View, countIn, view}
 use Rattle.format.specs.Judge.{sum, all}
 use Rattle.records.specs.declared.items.Entry.{Entry}
 use Rattle.records.specs.declared.Held.{Held}
@@ -56,6 +56,17 @@ entryOf l = cond (eqb (length l) 84) (entryIn (view l)) (refusedEntry 4)
 -- of 84 bytes is 5
 unfoldable pub dataFaultOf : List ℕ → Held → (behind : ℕ) → ℕ
 dataFaultOf l held behind = cond (eqb (length l) 84) (dataFault (toData held) behind l) 5
+
+-- how many columns of seven bytes of a data record are used, by the same two: "Points or heights after the last used one are not judged". A point
+-- in 3D has three columns, one in 2D two, a triangle three points in 3D, a height one
+unfoldable pub columnsUsed : Held → (behind : ℕ) → ℕ
+columnsUsed Nothing behind = 0
+columnsUsed (Points3D count) behind = 3 * usedIn 4 count behind
+columnsUsed (Points2D count) behind = 2 * usedIn 6 count behind
+columnsUsed (Triangles count) behind = 3 * usedIn 4 (3 * count) behind
+columnsUsed (Heights count) behind = usedIn 12 count behind
+columnsUsed Notes behind = 0
+columnsUsed Attributes behind = 0
 
 -- a header states of a kind what the tally has
 abbrev pub statesCount : List ℕ → List ℕ → (kind : ℕ) → Bool

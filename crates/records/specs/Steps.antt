@@ -1,19 +1,17 @@
--- Steps of the code: the type of a record and of an element by a number, the columns of a data record that are judged. Private functions alone
--- cite these. Assumes nothing.
+-- Steps of the code: the type of a record and of an element by a number, a column that has a number, the direction of a note. Private functions
+-- alone cite these. Assumes nothing.
 use mathlib.Core.Path.{_≡_}
 use mathlib.Core.Bool.{Bool, cond, _&&_}
 use mathlib.Core.List.{List, [], _∷_}
-use Prim.Native.Nat.{ℕ, _*_}
+use Prim.Native.Nat.{ℕ}
 use lib.Dec.{eqb}
 use lib.IntN.{ℤ, pos}
 use lib.Signed.{leZ}
 use lib.ListN.{getD}
 use Rattle.format.specs.declared.Column.the-variants.{Value}
 use Rattle.format.specs.Basics.{minus}
-use Rattle.format.specs.Record.{RecordType, H, E1, E2, E3, E4, E5, E6, E7, E8, G, T, other, usedIn}
+use Rattle.format.specs.Record.{RecordType, H, E1, E2, E3, E4, E5, E6, E7, E8, G, T, other}
 use Rattle.columns.specs.InRecord.{columnAt, numberIn}
-use Rattle.records.specs.declared.Held.{Held}
-use Rattle.records.specs.declared.Held.the-variants.{Nothing, Points3D, Points2D, Triangles, Heights, Notes, Attributes}
 use Rattle.records.specs.declared.TypeCode.{TypeCode}
 use Rattle.records.specs.declared.TypeCode.the-variants.{Header, Element, Grid, Net, Other}
 
@@ -38,16 +36,6 @@ codeOf other = Other
 -- the element's type by its number, 1 to 8
 unfoldable pub elementType : ℕ → RecordType
 elementType number = getD (other ∷ E1 ∷ E2 ∷ E3 ∷ E4 ∷ E5 ∷ E6 ∷ E7 ∷ E8 ∷ []) number other
-
--- how many columns of seven bytes of a data record are used
-unfoldable pub columnsUsed : Held → (behind : ℕ) → ℕ
-columnsUsed Nothing behind = 0
-columnsUsed (Points3D count) behind = 3 * usedIn 4 count behind
-columnsUsed (Points2D count) behind = 2 * usedIn 6 count behind
-columnsUsed (Triangles count) behind = 3 * usedIn 4 (3 * count) behind
-columnsUsed (Heights count) behind = usedIn 12 count behind
-columnsUsed Notes behind = 0
-columnsUsed Attributes behind = 0
 
 -- "A note direction is -45..45 when the first column is 0, -135..-45 when it is 1"
 unfoldable pub directionIn : (writing : ℕ) → (direction : ℤ) → Bool

@@ -2,7 +2,8 @@
 ghost use mathlib.Core.Path.{_≡_};
 ghost use Prim.Native.Nat.{_≤_, _*_};
 ghost use Rattle.format.specs.Record.{usedIn};
-ghost use Rattle.records.specs.Steps.{columnsUsed, directionIn};
+ghost use Rattle.records.specs.Entry.{columnsUsed};
+ghost use Rattle.records.specs.Steps.{directionIn};
 use super::Held;
 
 // How many points or heights are used where a record takes `each` of `count`: all but in the last record. The count may be any number.
@@ -32,8 +33,8 @@ fn used_of_net(count: usize, behind: usize) -> usize
     (3 * (count % 4) + 3) % 4 + 1
 }
 
-// How many columns of seven bytes are used.
-pub(crate) fn columns_used(held: Held, behind: usize) -> usize
+// How many columns of seven bytes are used, by what the item's data records hold and how many of them stand behind this one.
+pub fn columns_used(held: Held, behind: usize) -> usize
     ensures { λ r. ⌜ r ≡ columnsUsed held behind ⌝ }
 {
     match held {

@@ -12,6 +12,7 @@ mod items;
 mod reading;
 mod rules;
 
+pub use data::columns_used;
 use files::RECORD;
 pub use items::Entry;
 use layouts::DataNote;
@@ -156,7 +157,7 @@ pub fn data_fault(record: &[u8], held: Held, behind: usize) -> u8
     if let Held::Notes = held {
         return note_fault(record);
     }
-    let used = data::columns_used(held, behind);
+    let used = columns_used(held, behind);
     if form_columns::columns_well_formed(record, 0, used) {
         0
     } else {
