@@ -23,7 +23,7 @@ use Rattle.files.proofs.Records.{front-records, plain-records, count-plain, rec
 use Rattle.records.specs.declared.items.Entry.{Entry}
 use Rattle.records.specs.Entry.{entryOf}
 use Rattle.judge.specs.declared.Sheet.{Sheet}
-use Rattle.judge.specs.Sheet.{bodyBefore, sheetOf}
+use Rattle.judge.specs.Sheet.{bodyBefore, openedIn}
 use Rattle.judge.proofs.Opened.{Opened, sheet-refused-is, opened-sheet}
 use Rattle.edit.specs.declared.plans.Plan.the-variants.{Refuse}
 use Rattle.edit.specs.Plans.{InsertionPlanned, RemovalPlanned, OpenedAt, isPlace, HasAbove, headerRecord, AboveRead}
@@ -31,7 +31,7 @@ use Rattle.edit.proofs.Refused.{not-accepted}
 use Rattle.edit.proofs.AtPlace.{above-low, above-high}
 
 -- ---- the sheet as it was opened, at the place behind so many records
-module _ (l : List ℕ) (used place at : ℕ) (at-is : at ≡ place - 1) (sheet : Sheet) (is : sheet ≡ sheetOf used l at) where
+module _ (l : List ℕ) (used place at : ℕ) (at-is : at ≡ place - 1) (sheet : Sheet) (is : sheet ≡ openedIn used l at) where
   pub insertion-refused : (sheet .fault ≡ 0 → ⊥) → (block : List ℕ) → InsertionPlanned l used place block (Refuse (sheet .fault) (sheet .at))
   unfolding InsertionPlanned
   insertion-refused some block = not-accepted (insert place block) l used (sheet .fault) (sheet .at) (sheet-refused-is used l at sheet is some)

@@ -9,7 +9,7 @@ use Rattle.format.specs.Basics.{Answer, given, refused, chunks, flat}
 use Rattle.format.specs.Layout.{Col, find, header, sheetB}
 use Rattle.format.specs.Record.{View, countIndex, countName}
 use Rattle.format.specs.Sheet.{statedElements}
-use Rattle.format.specs.Judge.{Counts, File, fileOf, accepted, judgeSheet}
+use Rattle.format.specs.Judge.{Counts, File, fileOf, sheetIn, accepted, judgeSheet}
 use Rattle.format.specs.Edit.{RecordList, aboveIn, before, blockOf, firstView, removedItem}
 use Rattle.format.specs.Calls.{Edit, insert, remove, PlainStep, plain}
 use Rattle.format.specs.Above.{up, WayAnswered}
@@ -147,7 +147,7 @@ EachKeeps (c ∷ cs) b = Keeps ((call c b) .reply) c b ((call c b) .buffer) × E
 
 -- ---- What holds of an accepted sheet at every moment
 abbrev pub sheetOf : Buffer → File
-sheetOf b = fileOf ((listOf b) .records)
+sheetOf b = sheetIn (b .used) (b .bytes)
 
 pub record Sound (b : Buffer) : Type 0 where
   -- accepted, with the records that its length makes and the items that record 2 states

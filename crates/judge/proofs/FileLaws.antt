@@ -26,7 +26,7 @@ use Rattle.part_and_index.proofs.Laws.{SoundPart, sound-part, refused-part, sou
 use Rattle.judge.specs.declared.Extent.{Extent}
 use Rattle.judge.specs.declared.Sheet.{Sheet}
 use Rattle.judge.specs.Walks.{Room, viewsFrom, bodyOf, bodySheet}
-use Rattle.judge.specs.Sheet.{refusedSheet, sheetFor, recordsSheet, sheetOf}
+use Rattle.judge.specs.Sheet.{refusedSheet, sheetFor, recordsSheet, openedIn}
 
 -- ---- behind stage one: the sheet part, then the body
 module _ (stride : Stride) (file : List ℕ) (part : SheetPart) (found : part ≡ sheetPartOf (recordsOf stride file)) where
@@ -71,8 +71,8 @@ module _ (used : ℕ) (buffer : List ℕ) (ok : Bool) (of : ok ≡ lengthOk Plai
   stage : stageOneOk used buffer ≡ ok
   stage = sym (of ∙ plain-length used buffer)
 
-  pub sheet-length : (before : ℕ) (r : Sheet) → not ok ≡ true → r ≡ refusedSheet 1 0 → r ≡ sheetOf used buffer before
-  unfolding sheetOf judgeSheet
+  pub sheet-length : (before : ℕ) (r : Sheet) → not ok ≡ true → r ≡ refusedSheet 1 0 → r ≡ openedIn used buffer before
+  unfolding openedIn judgeSheet
   sheet-length before r h e = e ∙ rw (stage, not-true ok h)
 
   pub index-length : not ok ≡ true → judgedAnswer (Refused 1 0) ≡ judgeIndex used buffer
@@ -93,8 +93,8 @@ module _ (used : ℕ) (buffer : List ℕ) (ok : Bool) (of : ok ≡ lengthOk Plai
     same-records : recordsOf Plain (take used buffer) ≡ chunks (used / 84) buffer
     same-records = front-records used buffer (whole .inside)
 
-    pub sheet-opened : (before : ℕ) (r : Sheet) → r ≡ recordsSheet (recordsOf Plain (take used buffer)) before → r ≡ sheetOf used buffer before
-    unfolding sheetOf judgeSheet
+    pub sheet-opened : (before : ℕ) (r : Sheet) → r ≡ recordsSheet (recordsOf Plain (take used buffer)) before → r ≡ openedIn used buffer before
+    unfolding openedIn judgeSheet
     sheet-opened before r e = e ∙ ap (λ (rs : List (List ℕ)). recordsSheet rs before) same-records ∙ rw passes
 
     -- an index

@@ -25,7 +25,7 @@ use Rattle.files.proofs.Records.{front-records}
 use Rattle.part_and_index.specs.Result.{sheetPartOf}
 use Rattle.part_and_index.proofs.Laws.{sound-part}
 use Rattle.judge.specs.declared.Sheet.{Sheet}
-use Rattle.judge.specs.Sheet.{bodyBefore, startBefore, headerBefore, openedSheet, sheetOf}
+use Rattle.judge.specs.Sheet.{bodyBefore, startBefore, headerBefore, openedSheet, openedIn}
 use Rattle.judge.proofs.AnswerLaws.{getD-values}
 
 -- ---- a refusal has a number
@@ -127,9 +127,9 @@ pub record Opened (used : ℕ) (buffer : List ℕ) (before : ℕ) (s : Sheet) : 
   pub start-is : s .start ≡ startBefore (sheetIn used buffer) before
   pub header-is : (level : ℕ) → level ≤ 8 → getD (s .headers) level 0 ≡ headerBefore (sheetIn used buffer) before level
 
-module _ (used : ℕ) (buffer : List ℕ) (before : ℕ) (s : Sheet) (is : s ≡ sheetOf used buffer before) where
+module _ (used : ℕ) (buffer : List ℕ) (before : ℕ) (s : Sheet) (is : s ≡ openedIn used buffer before) where
   by : (answer : Answer Counts) → judgeSheet used buffer ≡ answer → s ≡ openedSheet answer (chunks (used / 84) buffer) before
-  unfolding sheetOf
+  unfolding openedIn
   by answer e = is ∙ ap (λ (a : Answer Counts). openedSheet a (chunks (used / 84) buffer) before) e
 
   pub sheet-refused-is : (s .fault ≡ 0 → ⊥) → judgeSheet used buffer ≡ refused (s .fault) (s .at)
@@ -198,7 +198,7 @@ pub before-place : (f : File) (place : ℕ) → bodyBefore f (place - 1) ≡ tak
 before-place f place = let e : place - 1 - f .partLength ≡ place - suc (f .partLength) = omega arith in ap (λ (n : ℕ). take n (f .body)) e
 
 -- ---- the verdict alone
-module _ (used : ℕ) (buffer : List ℕ) (s : Sheet) (is : s ≡ sheetOf used buffer 0) where
+module _ (used : ℕ) (buffer : List ℕ) (s : Sheet) (is : s ≡ openedIn used buffer 0) where
   pub verdict-refused : (s .fault ≡ 0 → ⊥) → judgedAnswer (Refused (s .fault) (s .at)) ≡ judgeSheet used buffer
   unfolding judgedAnswer
   verdict-refused ne = sym (sheet-refused-is used buffer 0 s is ne)

@@ -60,5 +60,5 @@ abbrev pub recordsSheet : List (List ℕ) → (before : ℕ) → Sheet
 recordsSheet records before = openedSheet (judgeRecords records) records before
 
 -- the sheet file in the first `used` bytes of a buffer, and the place behind `before` of its records
-unfoldable pub sheetOf : (used : ℕ) → List ℕ → (before : ℕ) → Sheet
-sheetOf used buffer before = openedSheet (judgeSheet used buffer) (chunks (used / 84) buffer) before
+unfoldable pub openedIn : (used : ℕ) → List ℕ → (before : ℕ) → Sheet
+openedIn used buffer before = openedSheet (judgeSheet used buffer) (chunks (used / 84) buffer) before

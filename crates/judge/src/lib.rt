@@ -17,7 +17,7 @@ ghost use Rattle.records.specs.Entry.{toData, entryOf, dataFaultOf, statesCount
 ghost use Rattle.judge.specs.Walks.{Room, recordAt, lowestOf, highestOf, levelFits, entryFault, lastBefore, seenNone, withHeader, SeenUpTo};
 ghost use Rattle.judge.specs.Walks.{passedOf, passedGroupOf, passedBodyOf, Item, HeaderAt, Child, Body, WholeBody, wrongSheetOf, bodySheet};
 ghost use Rattle.judge.specs.Walks.{dueOfEntry, openOfEntry, placeIn, sheetWith, Stands, standingSheet};
-ghost use Rattle.judge.specs.Sheet.{refusedSheet, recordsSheet, sheetOf};
+ghost use Rattle.judge.specs.Sheet.{refusedSheet, recordsSheet, openedIn};
 
 // An opened sheet: the fault, 0 for none, and its record; else how many items it has, how many records its sheet part, its unit and corners.
 // Of a place of it: how many data records are still due there, and the open level; and by their numbers in the file the last header or item
@@ -513,7 +513,7 @@ fn open_file(file: &[u8], stride: Stride, before: usize) -> Sheet
 
 // Opens the sheet file in the first `used` bytes of the buffer: the verdict, and what stands before the place behind `before` of its records.
 pub fn open_sheet(buffer: &[u8], used: usize, before: usize) -> Sheet
-    ensures { λ r. ⌜ r ≡ sheetOf used (now (buffer .entry)) before ⌝ }
+    ensures { λ r. ⌜ r ≡ openedIn used (now (buffer .entry)) before ⌝ }
 {
     if !files::length_ok(buffer, used, Stride::Plain) {
         return refused(1, 0);

@@ -22,12 +22,12 @@ use Rattle.records.specs.declared.items.Entry.{Entry}
 use Rattle.records.specs.Entry.{viewFault, entryOf}
 use Rattle.records.proofs.Laws.{entry-fault, entry-level}
 use Rattle.judge.specs.declared.Sheet.{Sheet}
-use Rattle.judge.specs.Sheet.{sheetOf}
+use Rattle.judge.specs.Sheet.{openedIn}
 use Rattle.judge.proofs.Opened as Opened
 use Rattle.judge.proofs.Opened.{Opened, opened-sheet, sheet-refused-is, file-records, body-at, record-wide}
 use Rattle.way_up.proofs.Own.{OwnRecord, own-record}
 
-module _ (used : ℕ) (buffer : List ℕ) (number : ℕ) (s : Sheet) (is : s ≡ sheetOf used buffer number) where
+module _ (used : ℕ) (buffer : List ℕ) (number : ℕ) (s : Sheet) (is : s ≡ openedIn used buffer number) where
   pub way-refused : (s .fault ≡ 0 → ⊥) → wayUpAnswer (Refused (s .fault) (s .at)) ≡ up used buffer number
   unfolding wayUpAnswer up
   way-refused ne = rw (sheet-refused-is used buffer number s is ne)
