@@ -22,47 +22,9 @@ use Rattle.columns.specs.InRecord.{numberIn, writeAt}
 use Rattle.columns.proofs.Laws.{column-at-inside, write-at-bytes}
 use Rattle.columns.proofs.NumberIn.{number-in-below}
 use Rattle.edit.specs.declared.counts.Change.{Change}
-use Rattle.edit.specs.Counts.{countStart, countWidth, withCounts, Fitting}
-
--- ---- where the ten counts stand
-
-nine : (kind : ℕ) → kind < 9 → (23 + kind * 5 ≡ countStart kind) × (5 ≡ countWidth kind)
-unfolding countStart countWidth countName find header
-nine zero h = (refl, refl)
-nine (suc zero) h = (refl, refl)
-nine (suc (suc zero)) h = (refl, refl)
-nine (suc (suc (suc zero))) h = (refl, refl)
-nine (suc (suc (suc (suc zero)))) h = (refl, refl)
-nine (suc (suc (suc (suc (suc zero))))) h = (refl, refl)
-nine (suc (suc (suc (suc (suc (suc zero)))))) h = (refl, refl)
-nine (suc (suc (suc (suc (suc (suc (suc zero))))))) h = (refl, refl)
-nine (suc (suc (suc (suc (suc (suc (suc (suc zero)))))))) h = (refl, refl)
-nine (suc (suc (suc (suc (suc (suc (suc (suc (suc k))))))))) h = absurd (omega arith)
-
-tenth : (kind : ℕ) → 9 ≤ kind → kind ≤ 9 → (68 ≡ countStart kind) × (1 ≡ countWidth kind)
-unfolding countStart countWidth countName find header
-tenth kind h k = let n : kind ≡ 9 = omega arith in rw n (refl, refl)
-
-module _ (kind : ℕ) where
-  pub nine-start : kind < 9 → 23 + kind * 5 ≡ countStart kind
-  nine-start h = (nine kind h) .0
-
-  pub nine-width : kind < 9 → 5 ≡ countWidth kind
-  nine-width h = (nine kind h) .1
-
-  pub grid-start : 9 ≤ kind → kind ≤ 9 → 68 ≡ countStart kind
-  grid-start h k = (tenth kind h k) .0
-
-  pub grid-width : 9 ≤ kind → kind ≤ 9 → 1 ≡ countWidth kind
-  grid-width h k = (tenth kind h k) .1
-
-  -- inside the record
-  pub count-place : kind ≤ 9 → (countStart kind + countWidth kind ≤ 84) × (1 ≤ countWidth kind) × (countWidth kind ≤ 5)
-  count-place h = go (ltb kind 9) refl
-    where
-      go : (t : Bool) → ltb kind 9 ≡ t → (countStart kind + countWidth kind ≤ 84) × (1 ≤ countWidth kind) × (countWidth kind ≤ 5)
-      go true e = let p = nine kind (ltb-true kind 9 e) in let l : kind < 9 = ltb-true kind 9 e in (omega (arith, p .0, p .1), omega (arith, p .1), omega (arith, p .1))
-      go false e = let p = tenth kind (ltb-false kind 9 e) h in (omega (arith, p .0, p .1), omega (arith, p .1), omega (arith, p .1))
+use Rattle.records.specs.Entry.{countStart, countWidth}
+use Rattle.records.proofs.Counts.{nine-width, grid-width, count-place}
+use Rattle.edit.specs.Counts.{withCounts, Fitting}
 
 -- ---- reading
 

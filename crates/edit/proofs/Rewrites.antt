@@ -16,9 +16,10 @@ use Rattle.format.proofs.Columns.{length-splice, length-written}
 use Rattle.format.proofs.Lists.{Wide, wide-alter, length-alterAt, length-flat}
 use Rattle.format.proofs.EditMoves.{as-bytes}
 use Rattle.edit.specs.declared.counts.Change.{Change}
-use Rattle.edit.specs.Counts.{countStart, countWidth, put, withCounts}
+use Rattle.records.specs.Entry.{countStart, countWidth}
+use Rattle.edit.specs.Counts.{put, withCounts}
 use Rattle.edit.specs.Moves.{putIn, takenOut}
-use Rattle.edit.proofs.Columns.{count-place}
+use Rattle.records.proofs.Counts.{count-place}
 
 -- ---- a splice in the front of some bytes, and behind it
 module _ (s w : ℕ) (v r t : List ℕ) where

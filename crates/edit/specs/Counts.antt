@@ -3,16 +3,9 @@ use mathlib.Core.List.{List}
 use Prim.Native.Nat.{ℕ, _+_, _*_, _^_, _≤_, _<_}
 use lib.IntN.{pos}
 use Rattle.format.specs.Column.{written}
-use Rattle.format.specs.Layout.{splice, find, header}
-use Rattle.format.specs.Record.{countName}
+use Rattle.format.specs.Layout.{splice}
+use Rattle.records.specs.Entry.{countStart, countWidth}
 use Rattle.edit.specs.declared.counts.Change.{Change}
-
--- where the count of a kind stands in a header, and how wide it is
-unfoldable pub countStart : ℕ → ℕ
-countStart kind = (find (countName kind) header) .start
-
-unfoldable pub countWidth : ℕ → ℕ
-countWidth kind = (find (countName kind) header) .width
 
 -- the buffer with a number in a column of the record at an index, in written form
 abbrev pub put : (index start width number : ℕ) → List ℕ → List ℕ

@@ -6,7 +6,7 @@ ghost use lib.ListN.{length};
 ghost use Rattle.format.specs.Column.{written};
 ghost use Rattle.format.specs.Layout.{splice, numberAt, header};
 ghost use Rattle.format.specs.Record.{countIn};
-ghost use Rattle.edit.specs.Counts.{countStart, countWidth, Fitting, withCounts};
+ghost use Rattle.edit.specs.Counts.{Fitting, withCounts};
 use layouts::Header;
 use layouts::SheetB;
 
@@ -24,27 +24,6 @@ pub(crate) struct Change {
     pub length: usize,
 }
 
-// Where the count of a kind stands in a header: nine I5 in a row, and I1 for grid and net.
-fn count_start(kind: usize) -> usize
-    requires { ⌜ kind ≤ 9 ⌝ }
-    ensures { λ r. ⌜ r ≡ countStart kind ⌝ }
-{
-    if kind < 9 {
-        return Header::GROUPS_START + kind * Header::GROUPS_WIDTH;
-    }
-    Header::GRID_AND_NET_START
-}
-
-fn count_width(kind: usize) -> usize
-    requires { ⌜ kind ≤ 9 ⌝ }
-    ensures { λ r. ⌜ r ≡ countWidth kind ⌝ }
-{
-    if kind < 9 {
-        return Header::GROUPS_WIDTH;
-    }
-    Header::GRID_AND_NET_WIDTH
-}
-
 // The total that a header states.
 pub(crate) fn stated_total(record: &[u8]) -> usize
     requires { ⌜ length (now «record») ≡ 84 ⌝ }
@@ -58,8 +37,8 @@ pub(crate) fn stated_count(record: &[u8], kind: usize) -> usize
     requires { ⌜ (length (now «record») ≡ 84) × (kind ≤ 9) ⌝ }
     ensures { λ r. ⌜ (r ≡ countIn (now («record» .entry)) kind) × (r < 100000) ⌝ }
 {
-    let start = count_start(kind);
-    let width = count_width(kind);
+    let start = records::count_start(kind);
+    let width = records::count_width(kind);
     columns::number_at(record, start, width)
 }
 
@@ -77,8 +56,8 @@ pub(crate) fn write_counts(buffer: &mut [u8], change: Change)
     ensures { λ _. ⌜ now (buffer .exit) ≡ withCounts change (now (buffer .entry)) ⌝ }
 {
     let header = files::RECORD * change.header;
-    let start = header + count_start(change.kind);
-    let width = count_width(change.kind);
+    let start = header + records::count_start(change.kind);
+    let width = records::count_width(change.kind);
     write_number(
         buffer,
         header + Header::TOTAL_START,

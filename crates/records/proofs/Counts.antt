@@ -1,5 +1,5 @@
 -- The ten counts of a header and their total, in the code's own words. Assumes nothing.
-use mathlib.Core.Path.{_≡_, refl, _∙_}
+use mathlib.Core.Path.{_≡_, refl, sym, _∙_}
 use mathlib.Core.Bool.{Bool, true, false, _&&_, and-comm}
 use mathlib.Core.List.{List}
 use Prim.Native.Nat.{ℕ, zero, suc, _+_, _*_, _≤_, _<_}
@@ -15,9 +15,75 @@ use Rattle.format.specs.Layout.{natural, I, find, numberAt, header}
 use Rattle.format.specs.Record.{countName, countIn}
 use Rattle.format.specs.Judge.{sum, all}
 use Rattle.columns.specs.InRecord.{numberIn}
-use Rattle.records.specs.Entry.{statesCount, statesCounts}
+use Rattle.records.specs.Entry.{countStart, countWidth, statesCount, statesCounts}
 use Rattle.columns.proofs.NumberIn.{number-in-below}
 use Rattle.records.proofs.Numbers.{stated}
+
+-- ---- where the ten counts stand
+
+nine : (kind : ℕ) → kind < 9 → (23 + kind * 5 ≡ countStart kind) × (5 ≡ countWidth kind)
+unfolding countStart countWidth countName find header
+nine zero h = (refl, refl)
+nine (suc zero) h = (refl, refl)
+nine (suc (suc zero)) h = (refl, refl)
+nine (suc (suc (suc zero))) h = (refl, refl)
+nine (suc (suc (suc (suc zero)))) h = (refl, refl)
+nine (suc (suc (suc (suc (suc zero))))) h = (refl, refl)
+nine (suc (suc (suc (suc (suc (suc zero)))))) h = (refl, refl)
+nine (suc (suc (suc (suc (suc (suc (suc zero))))))) h = (refl, refl)
+nine (suc (suc (suc (suc (suc (suc (suc (suc zero)))))))) h = (refl, refl)
+nine (suc (suc (suc (suc (suc (suc (suc (suc (suc k))))))))) h = absurd (omega arith)
+
+tenth : (kind : ℕ) → 9 ≤ kind → kind ≤ 9 → (68 ≡ countStart kind) × (1 ≡ countWidth kind)
+unfolding countStart countWidth countName find header
+tenth kind h k = let n : kind ≡ 9 = omega arith in rw n (refl, refl)
+
+beyond : (kind : ℕ) → 10 ≤ kind → (0 ≡ countStart kind) × (0 ≡ countWidth kind)
+unfolding countStart countWidth countName find header
+beyond zero h = absurd (omega arith)
+beyond (suc zero) h = absurd (omega arith)
+beyond (suc (suc zero)) h = absurd (omega arith)
+beyond (suc (suc (suc zero))) h = absurd (omega arith)
+beyond (suc (suc (suc (suc zero)))) h = absurd (omega arith)
+beyond (suc (suc (suc (suc (suc zero))))) h = absurd (omega arith)
+beyond (suc (suc (suc (suc (suc (suc zero)))))) h = absurd (omega arith)
+beyond (suc (suc (suc (suc (suc (suc (suc zero))))))) h = absurd (omega arith)
+beyond (suc (suc (suc (suc (suc (suc (suc (suc zero)))))))) h = absurd (omega arith)
+beyond (suc (suc (suc (suc (suc (suc (suc (suc (suc zero))))))))) h = absurd (omega arith)
+beyond (suc (suc (suc (suc (suc (suc (suc (suc (suc (suc k)))))))))) h = (refl, refl)
+
+module _ (kind : ℕ) where
+  pub nine-start : kind < 9 → 23 + kind * 5 ≡ countStart kind
+  nine-start h = (nine kind h) .0
+
+  pub nine-width : kind < 9 → 5 ≡ countWidth kind
+  nine-width h = (nine kind h) .1
+
+  pub grid-start : 9 ≤ kind → kind ≤ 9 → 68 ≡ countStart kind
+  grid-start h k = (tenth kind h k) .0
+
+  pub grid-width : 9 ≤ kind → kind ≤ 9 → 1 ≡ countWidth kind
+  grid-width h k = (tenth kind h k) .1
+
+  pub own-start : kind ≡ 9 → 68 ≡ countStart kind
+  own-start e = grid-start (omega arith) (omega arith)
+
+  pub own-width : kind ≡ 9 → 1 ≡ countWidth kind
+  own-width e = grid-width (omega arith) (omega arith)
+
+  pub no-start : 9 ≤ kind → (kind ≡ 9 → ⊥) → 0 ≡ countStart kind
+  no-start h k = (beyond kind (omega arith)) .0
+
+  pub no-width : 9 ≤ kind → (kind ≡ 9 → ⊥) → 0 ≡ countWidth kind
+  no-width h k = (beyond kind (omega arith)) .1
+
+  -- inside the record
+  pub count-place : kind ≤ 9 → (countStart kind + countWidth kind ≤ 84) × (1 ≤ countWidth kind) × (countWidth kind ≤ 5)
+  count-place h = go (ltb kind 9) refl
+    where
+      go : (t : Bool) → ltb kind 9 ≡ t → (countStart kind + countWidth kind ≤ 84) × (1 ≤ countWidth kind) × (countWidth kind ≤ 5)
+      go true e = let p = nine kind (ltb-true kind 9 e) in let l : kind < 9 = ltb-true kind 9 e in (omega (arith, p .0, p .1), omega (arith, p .1), omega (arith, p .1))
+      go false e = let p = tenth kind (ltb-false kind 9 e) h in (omega (arith, p .0, p .1), omega (arith, p .1), omega (arith, p .1))
 
 -- ---- `stated_count`
 
@@ -41,6 +107,28 @@ module _ (l : List ℕ) (kind r : ℕ) (whole : length l ≡ 84) where
   pub count-of-grids : r ≡ numberIn l 68 1 → 9 ≤ kind → kind < 10 → r ≡ countIn l kind
   unfolding countName find header
   count-of-grids e h k = let n : kind ≡ 9 = omega arith in rw n (e ∙ stated l whole header "grid and net" 68 1 _ refl refl)
+
+  module _ (start width : ℕ) (s : start ≡ countStart kind) (w : width ≡ countWidth kind) where
+    pub count-inside : kind < 10 → start + width ≤ 84
+    count-inside h = omega (arith, (count-place kind (omega arith)) .0)
+
+    pub count-narrow : kind < 10 → width ≤ 7
+    count-narrow h = omega (arith, (count-place kind (omega arith)) .2)
+
+    pub count-stated : kind < 10 → r ≡ numberIn l start width → r ≡ countIn l kind
+    count-stated h e = go (ltb kind 9) refl
+      where
+        go : (t : Bool) → ltb kind 9 ≡ t → r ≡ countIn l kind
+        go true b =
+            let k : kind < 9 = ltb-true kind 9 b in
+            let p : start ≡ 23 + kind * 5 = s ∙ sym (nine-start kind k) in
+            let q : width ≡ 5 = w ∙ sym (nine-width kind k) in
+            count-of-nine (rw (p, q) at e) k
+        go false b =
+            let k : 9 ≤ kind = ltb-false kind 9 b in
+            let p : start ≡ 68 = s ∙ sym (grid-start kind k (omega arith)) in
+            let q : width ≡ 1 = w ∙ sym (grid-width kind k (omega arith)) in
+            count-of-grids (rw (p, q) at e) k h
 
 pub total-stated : (l : List ℕ) → length l ≡ 84 → numberIn l 18 5 ≡ numberAt header "total" l
 unfolding find header

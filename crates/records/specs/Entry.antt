@@ -6,8 +6,8 @@ use Prim.Native.Nat.{ℕ, _*_}
 use lib.Dec.{leb, eqb}
 use lib.ListN.{length, getD}
 use Rattle.format.specs.Basics.{first, unless}
-use Rattle.format.specs.Layout.{numberAt, header}
-use Rattle.format.specs.Record.{countIndex, Data, nothing, points3D, points2D, triangles, heights, notes, attributes, usedIn, dataFault, View, countIn, view}
+use Rattle.format.specs.Layout.{find, numberAt, header}
+use Rattle.format.specs.Record.{countIndex, countName, Data, nothing, points3D, points2D, triangles, heights, notes, attributes, usedIn, dataFault, View, countIn, view}
 use Rattle.format.specs.Judge.{sum, all}
 use Rattle.records.specs.declared.items.Entry.{Entry}
 use Rattle.records.specs.declared.Held.{Held}
@@ -67,6 +67,13 @@ columnsUsed (Triangles count) behind = 3 * usedIn 4 (3 * count) behind
 columnsUsed (Heights count) behind = usedIn 12 count behind
 columnsUsed Notes behind = 0
 columnsUsed Attributes behind = 0
+
+-- where the count of a kind stands in a header, and how wide it is; 0 and 0 where no count is of that kind
+unfoldable pub countStart : ℕ → ℕ
+countStart kind = (find (countName kind) header) .start
+
+unfoldable pub countWidth : ℕ → ℕ
+countWidth kind = (find (countName kind) header) .width
 
 -- a header states of a kind what the tally has
 abbrev pub statesCount : List ℕ → List ℕ → (kind : ℕ) → Bool

@@ -4,7 +4,7 @@ ghost use mathlib.Core.Path.{_≡_};
 ghost use Prim.Native.Nat.{_<_};
 ghost use lib.ListN.{length};
 ghost use Rattle.format.specs.Record.{typeOf, countIn, notes, dataFault};
-ghost use Rattle.records.specs.Entry.{entryOf, dataFaultOf, statesCounts};
+ghost use Rattle.records.specs.Entry.{entryOf, dataFaultOf, countStart, countWidth, statesCounts};
 ghost use Rattle.records.specs.Steps.{codeOf};
 
 mod data;
@@ -81,20 +81,40 @@ pub fn entry(record: &[u8]) -> Entry
     }
 }
 
-// A count that a header states, by kind: nine I5 in a row, and I1 for grid and net.
+// Where the count of a kind stands in a header: nine I5 in a row, and I1 for grid and net. No other kind is counted.
+pub fn count_start(kind: usize) -> usize
+    ensures { λ r. ⌜ r ≡ countStart kind ⌝ }
+{
+    if kind < 9 {
+        return Header::GROUPS_START + kind * Header::GROUPS_WIDTH;
+    }
+    if kind == 9 {
+        return Header::GRID_AND_NET_START;
+    }
+    0
+}
+
+// How wide it is.
+pub fn count_width(kind: usize) -> usize
+    ensures { λ r. ⌜ r ≡ countWidth kind ⌝ }
+{
+    if kind < 9 {
+        return Header::GROUPS_WIDTH;
+    }
+    if kind == 9 {
+        return Header::GRID_AND_NET_WIDTH;
+    }
+    0
+}
+
+// A count that a header states, by kind.
 fn stated_count(record: &[u8], kind: usize) -> usize
     requires { ⌜ (length (now «record») ≡ 84) × (kind < 10) ⌝ }
     ensures { λ r. ⌜ r ≡ countIn (now («record» .entry)) kind ⌝ }
 {
-    if kind < 9 {
-        let start = Header::GROUPS_START + kind * Header::GROUPS_WIDTH;
-        return reading::plain_number(record, start, Header::GROUPS_WIDTH);
-    }
-    reading::plain_number(
-        record,
-        Header::GRID_AND_NET_START,
-        Header::GRID_AND_NET_WIDTH,
-    )
+    let start = count_start(kind);
+    let width = count_width(kind);
+    reading::plain_number(record, start, width)
 }
 
 // Counts by kind, as a header has them: groups, the eight types of elements, grid and net.
