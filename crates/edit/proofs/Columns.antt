@@ -1,8 +1,8 @@
--- The counts of a header and of record 2, in the code's own words: where they stand, what is read of them, and how they are written. Assumes nothing.
+-- The counts of a header and of record 2, in the code's own words: what is read of them, and how they are written. Assumes nothing.
 use mathlib.Core.Path.{_≡_, refl, ap, sym, _∙_}
 use mathlib.Core.Bool.{Bool, true, false}
 use mathlib.Core.List.{List}
-use Prim.Native.Nat.{ℕ, zero, suc, _+_, _-_, _*_, _^_, _≤_, _<_}
+use Prim.Native.Nat.{ℕ, _+_, _-_, _*_, _^_, _≤_, _<_}
 use native.Mathlib.Nat.{pow-le-pow-right}
 use native.Mathlib.Omega.{arith}
 use borrow.Author.Tests.{lt-ltb, ltb-true, ltb-false}
@@ -13,8 +13,8 @@ use mir.Syntax.{w64}
 use mir.Val.{SFits, toZ, ofZ}
 use mir.ValLaws.{toZ-ofZ}
 use Rattle.format.specs.Column.{columnOf, numberOf, written}
-use Rattle.format.specs.Layout.{column, splice, find, numberAt, header}
-use Rattle.format.specs.Record.{countName, countIn}
+use Rattle.format.specs.Layout.{column, splice, numberAt, header}
+use Rattle.format.specs.Record.{countIn}
 use Rattle.format.proofs.Columns.{length-column, number-below, length-splice, length-written}
 use Rattle.format.proofs.ColumnFits.{fits-plus}
 use Rattle.format.proofs.RecordHeaders.{number-total, number-count}

@@ -1,5 +1,6 @@
 -- One record of a sheet's body, as judging asks for it: what a header or an item states, with its first fault of 4, 5 and 6; the first fault of a
--- data record, and how much of it is used; and whether a header states the counts of a tally. Each is said by the view of the record. Assumes nothing.
+-- data record, and how much of it is used; where a header has its counts, and whether it states those of a tally. Each is said by the view of the
+-- record or its layout. Assumes nothing.
 use mathlib.Core.Bool.{Bool, false, cond, _&&_}
 use mathlib.Core.List.{List}
 use Prim.Native.Nat.{ℕ, _*_}
