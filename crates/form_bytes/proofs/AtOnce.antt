@@ -18,7 +18,7 @@ use Rattle.format.proofs.Basics.{and-true, true-and, or-false}
 use Rattle.format.proofs.Columns.{Byte, v-space, v-minus, v-digit, v-other, byte, number-digits}
 use Rattle.form_bytes.specs.Doubt.{leastAt, mostAt, surelyRight, doubt}
 use Rattle.form_bytes.specs.Places.{behind, placesIn, ruled, placesFor, doubtsIn}
-use Rattle.form_bytes.specs.Told.{zeroAllowed, zeroAfterMinus, plain, toldAtOnce, hasPlaces, Told}
+use Rattle.form_bytes.specs.Told.{looser, zeroAfterMinus, plain, toldAtOnce, hasPlaces, Told}
 use Rattle.form_bytes.proofs.Neighbours.{firstPlace, betweenPlace, Seen, t-digit, t-space, t-minus, told}
 use Rattle.form_bytes.proofs.Doubts.{right-at, anything}
 use Rattle.form_bytes.proofs.Rules.{one-digit, digit-at-least, digit-at-most, least-up-to, most-up-to, NoFault, no-fault, length-for}
@@ -341,7 +341,7 @@ exact (integral anySign) w p l h g t c z = column-none true 100 last-digits w p 
 exact (integral (atLeast n)) w p l h g t c z = column-none false 100 last-digits w p l h g (c .is-formed, λ e. c .is-inside) (not-true (zeroAfterMinus p l) z)
 exact (integral (range n m)) w p l h g t c z = range-none n m w p l g t (c .is-formed) (c .is-inside) (not-true (zeroAfterMinus p l) z)
 exact (integral (within n)) w p l h g t c z = within-none n w p l g t (c .is-formed) (c .is-inside) (not-true (zeroAfterMinus p l) z)
-exact (integral (oneOf ns)) w p l h g t c z = absurd (false≢true t)
+exact (integral (oneOf ns)) w p l h g t c z = column-none false 100 last-digits w p l h g (c .is-formed, λ e. c .is-inside) (not-true (zeroAfterMinus p l) z)
 exact integralOrSpaces w p l h g t c z = go (spaces l) refl (c .is-formed)
   where
     go : (b : Bool) → spaces l ≡ b → b || formed (columnOf l) ≡ true → doubtsIn (placesIn 77 109 115 w) p l ≡ 0
@@ -404,7 +404,7 @@ free-rule (within n) w = go (eqb w 2 && eqb n 9)
     go : (t : Bool) → noneFree (cond t (90 ∷ 100 ∷ []) (replicate w 33)) ≡ true
     go true = refl
     go false = free-never w
-free-rule (oneOf ns) w = free-never w
+free-rule (oneOf ns) w = free-places 83 115 100 w refl refl refl
 
 none-there : (ks : List ℕ) (p : ℕ) (l : List ℕ) → noneFree ks ≡ true → length ks ≤ length l → doubtsIn ks p l ≡ 0 → zeroAfterMinus p (take (length ks) l) ≡ false
 unfolding doubtsIn zeroAfterMinus
@@ -433,15 +433,15 @@ at-once k w p l t g h = go (eqb (doubtsIn (placesFor k w) p l) 0) (toldAtOnce k 
   where
     there : toldAtOnce k p (take w l) ≡ true → doubtsIn (placesFor k w) p l ≡ 0
     there e =
-        let a = and-true (isFormed k (take w l)) (isInside (zeroAllowed k) (take w l) && plain k p (take w l)) e in
-        let b = and-true (isInside (zeroAllowed k) (take w l)) (plain k p (take w l)) (a .1) in
+        let a = and-true (isFormed k (take w l)) (isInside (looser k) (take w l) && plain k p (take w l)) e in
+        let b = and-true (isInside (looser k) (take w l)) (plain k p (take w l)) (a .1) in
         no-doubt k w p l g h t (record { is-formed = a .0; is-inside = b .0 }) (b .1)
 
     back : doubtsIn (placesFor k w) p l ≡ 0 → toldAtOnce k p (take w l) ≡ true
     back e =
         let n = no-fault k w p l g h e in
-        true-and (isFormed k (take w l)) (isInside (zeroAllowed k) (take w l) && plain k p (take w l)) (n .is-formed)
-        (true-and (isInside (zeroAllowed k) (take w l)) (plain k p (take w l)) (n .is-inside) (is-plain k w p l h e))
+        true-and (isFormed k (take w l)) (isInside (looser k) (take w l) && plain k p (take w l)) (n .is-formed)
+        (true-and (isInside (looser k) (take w l)) (plain k p (take w l)) (n .is-inside) (is-plain k w p l h e))
 
     go : (x y : Bool) → eqb (doubtsIn (placesFor k w) p l) 0 ≡ x → toldAtOnce k p (take w l) ≡ y → x ≡ y
     go true y e f = sym (back (eqb-true (doubtsIn (placesFor k w) p l) 0 e)) ∙ f

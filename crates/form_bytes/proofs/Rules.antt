@@ -15,7 +15,7 @@ use Rattle.format.specs.Layout.{Rule, anySign, atLeast, range, within, oneOf, i
 use Rattle.format.proofs.Basics.{and-true, true-and, abs-neg}
 use Rattle.form_bytes.specs.Doubt.{leastAt, mostAt}
 use Rattle.form_bytes.specs.Places.{ruled, placesFor, doubtsIn}
-use Rattle.form_bytes.specs.Told.{fromZero, zeroAllowed}
+use Rattle.form_bytes.specs.Told.{looserRule, looser}
 use Rattle.form_bytes.proofs.Neighbours.{Seen, t-digit, t-space, t-minus, told, column-after, natural-after, value-after}
 use Rattle.form_bytes.proofs.Doubts.{right-at, length-places, column-right, column-loose}
 
@@ -182,18 +182,18 @@ within-sound n w p l g h = go (eqb w 2 && eqb n 9) refl
     go true et e = let a = and-true (eqb w 2) (eqb n 9) et in two-sound n w p l (eqb-true w 2 (a .0)) (eqb-true n 9 (a .1)) h e
     go false et e = absurd (never w p l g h e)
 
-rule-sound : (rule : Rule) (w p : ℕ) (l : List ℕ) → 0 < w → w ≤ length l → doubtsIn (ruled rule w) p l ≡ 0 → (formed (columnOf (take w l)) ≡ true) × (inside (fromZero rule) (integer (columnOf (take w l))) ≡ true)
+rule-sound : (rule : Rule) (w p : ℕ) (l : List ℕ) → 0 < w → w ≤ length l → doubtsIn (ruled rule w) p l ≡ 0 → (formed (columnOf (take w l)) ≡ true) × (inside (looserRule rule) (integer (columnOf (take w l))) ≡ true)
 unfolding ruled
 rule-sound anySign w p l g h e = (column-after refl (column-right true w p l g h e), refl)
 rule-sound (atLeast n) w p l g h e = let r = column-right false w p l g h e in (column-after refl r, natural-after refl r)
 rule-sound (range n m) w p l g h e = range-sound n m w p l g h e
 rule-sound (within n) w p l g h e = within-sound n w p l g h e
-rule-sound (oneOf ns) w p l g h e = absurd (never w p l g h e)
+rule-sound (oneOf ns) w p l g h e = let r = column-right false w p l g h e in (column-after refl r, natural-after refl r)
 
 -- a column of which no byte is in doubt, whatever is judged in it
 pub record NoFault (what : What) (bytes : List ℕ) : Type 0 where
   pub is-formed : isFormed what bytes ≡ true
-  pub is-inside : isInside (zeroAllowed what) bytes ≡ true
+  pub is-inside : isInside (looser what) bytes ≡ true
 
 pub no-fault : (k : What) (w p : ℕ) (l : List ℕ) → 1 ≤ w → w ≤ length l → doubtsIn (placesFor k w) p l ≡ 0 → NoFault k (take w l)
 unfolding placesFor
@@ -219,7 +219,7 @@ length-ruled (within n) w = go (eqb w 2 && eqb n 9) refl
     go : (t : Bool) → eqb w 2 && eqb n 9 ≡ t → length {A = ℕ} (cond t (90 ∷ 100 ∷ []) (replicate w 33)) ≡ w
     go true et = sym (eqb-true w 2 (and-true (eqb w 2) (eqb n 9) et .0))
     go false et = length-replicate w 33
-length-ruled (oneOf ns) w = length-replicate w 33
+length-ruled (oneOf ns) w = length-places 83 115 100 w
 
 pub length-for : (k : What) (w : ℕ) → length (placesFor k w) ≡ w
 unfolding placesFor

@@ -18,7 +18,7 @@ placesIn first between last zero = []
 placesIn first between last (suc zero) = last ∷ []
 placesIn first between last (suc (suc n)) = first ∷ behind between last n
 
--- the places of an integer by its rule: of any sign ('M', 'm', 'd'); of at least 0 ('S', 's', 'd'); one digit from 0, or from 1 to 9 ('r'); two bytes from
+-- the places of an integer by its rule: of any sign ('M', 'm', 'd'); of at least 0, or one of a list ('S', 's', 'd'); one digit from 0, or from 1 to 9 ('r'); two bytes from
 -- -9 to 9 ('Z', 'd'). At the places of another rule every byte is in doubt ('!', 33)
 unfoldable pub ruled : Rule → ℕ → List ℕ
 ruled anySign width = placesIn 77 109 100 width
@@ -28,7 +28,7 @@ ruled (range n m) width =
     (cond (eqb width 1 && (eqb n 1 && eqb m 9)) (114 ∷ [])
     (replicate width 33))
 ruled (within n) width = cond (eqb width 2 && eqb n 9) (90 ∷ 100 ∷ []) (replicate width 33)
-ruled (oneOf ns) width = replicate width 33
+ruled (oneOf ns) width = placesIn 83 115 100 width
 
 -- where anything may stand ('.'); and a column that may hold spaces alone, whose last byte is as one behind the first ('M', 'm', 's')
 unfoldable pub placesFor : What → ℕ → List ℕ

@@ -9,12 +9,12 @@ use borrow.Author.Tests.{ne-eqb}
 use lib.Dec.{eqb}
 use lib.ListN.{length, take, drop, getD, length-drop, drop-of-length-le}
 use lib.Seq.{getD-drop, drop-drop}
-use Rattle.format.specs.Layout.{Col, header, element, gridHeader, netHeader, dataNote}
+use Rattle.format.specs.Layout.{Col, indexC, sheetB, sheetE, sheetF, header, element, gridHeader, netHeader, dataNote}
 use Rattle.form_bytes.specs.Doubt.{doubt}
 use Rattle.form_bytes.specs.Places.{behind, placesIn, ruled, placesFor, doubtsIn}
 use Rattle.form_bytes.proofs.Doubts.{at-most-one, anything, one-more, doubts-append}
 use Rattle.form_records.specs.Sure.{sure}
-use Rattle.form_records.proofs.Sound.{placesOf, surely, zero-sum, header-sure, element-sure, grid-header-sure, net-header-sure, data-note-sure}
+use Rattle.form_records.proofs.Sound.{placesOf, surely, zero-sum, index-c-sure, sheet-b-sure, sheet-e-sure, sheet-f-sure, header-sure, element-sure, grid-header-sure, net-header-sure, data-note-sure}
 
 -- ---- `middle_doubts`
 
@@ -83,7 +83,35 @@ module _ (layout : List Col) (c d : ℕ) (places : placesOf layout ≡ 46 ∷ 46
       let e : m + (x + y) ≡ 0 + (0 + (m + (x + (y + 0)))) = omega arith in
       ap (λ (k : ℕ). eqb k 0) e ∙ told layout 46 46 c d places n r whole 0 0 m x y (sym (anything 32 (getD r 0 0))) (sym (anything (getD r 0 0) (getD r 1 0))) em ex ey
 
--- ---- the five layouts
+-- where anything may stand at the last two bytes: told by the others
+module _ (layout : List Col) (exactly : (r : List ℕ) → surely layout r ≡ sure layout r) (n : length (middle layout) ≡ 80) (r : List ℕ) (whole : length r ≡ 84) (m : ℕ) (em : m ≡ doubtsIn (middle layout) (getD r 1 0) (drop 2 r)) where
+  front-told : (a b f s : ℕ) → placesOf layout ≡ a ∷ b ∷ (middle layout ++ (46 ∷ 46 ∷ [])) → f ≡ doubt a 32 (getD r 0 0) → s ≡ doubt b (getD r 0 0) (getD r 1 0) → (eqb f 0 && eqb s 0) && eqb m 0 ≡ sure layout r
+  front-told a b f s places ef es =
+      let e : f + s + m ≡ f + (s + (m + (0 + (0 + 0)))) = omega arith in
+      rw (← zero-sum f s, ← zero-sum (f + s) m)
+      (ap (λ (k : ℕ). eqb k 0) e ∙ told layout a b 46 46 places n r whole f s m 0 0 ef es em (sym (anything (getD r 81 0) (getD r 82 0))) (sym (anything (getD r 82 0) (getD r 83 0))) ∙ exactly r)
+
+  -- and at the first two
+  middle-told : placesOf layout ≡ 46 ∷ 46 ∷ (middle layout ++ (46 ∷ 46 ∷ [])) → eqb m 0 ≡ sure layout r
+  middle-told places = front-told 46 46 0 0 places (sym (anything 32 (getD r 0 0))) (sym (anything (getD r 0 0) (getD r 1 0)))
+
+-- ---- the nine layouts
+
+pub index-c-told : (r : List ℕ) (f s m : ℕ) → length r ≡ 84 → f ≡ doubt 83 32 (getD r 0 0) → s ≡ doubt 115 (getD r 0 0) (getD r 1 0) → m ≡ doubtsIn (middle indexC) (getD r 1 0) (drop 2 r) → (eqb f 0 && eqb s 0) && eqb m 0 ≡ sure indexC r
+unfolding middle placesOf placesFor ruled placesIn behind indexC
+index-c-told r f s m whole ef es em = front-told indexC index-c-sure refl r whole m em 83 115 f s refl ef es
+
+pub sheet-b-told : (r : List ℕ) (f s m : ℕ) → length r ≡ 84 → f ≡ doubt 77 32 (getD r 0 0) → s ≡ doubt 109 (getD r 0 0) (getD r 1 0) → m ≡ doubtsIn (middle sheetB) (getD r 1 0) (drop 2 r) → (eqb f 0 && eqb s 0) && eqb m 0 ≡ sure sheetB r
+unfolding middle placesOf placesFor ruled placesIn behind sheetB
+sheet-b-told r f s m whole ef es em = front-told sheetB sheet-b-sure refl r whole m em 77 109 f s refl ef es
+
+pub sheet-e-told : (r : List ℕ) (m : ℕ) → length r ≡ 84 → m ≡ doubtsIn (middle sheetE) (getD r 1 0) (drop 2 r) → eqb m 0 ≡ sure sheetE r
+unfolding middle placesOf placesFor ruled placesIn behind sheetE
+sheet-e-told r m whole em = middle-told sheetE sheet-e-sure refl r whole m em refl
+
+pub sheet-f-told : (r : List ℕ) (m : ℕ) → length r ≡ 84 → m ≡ doubtsIn (middle sheetF) (getD r 1 0) (drop 2 r) → eqb m 0 ≡ sure sheetF r
+unfolding middle placesOf placesFor ruled placesIn behind sheetF
+sheet-f-told r m whole em = middle-told sheetF sheet-f-sure refl r whole m em refl
 
 pub header-told : (r : List ℕ) (m x : ℕ) → length r ≡ 84 → m ≡ doubtsIn (middle header) (getD r 1 0) (drop 2 r) → x ≡ doubt 100 (getD r 81 0) (getD r 82 0) → eqb m 0 && eqb x 0 ≡ sure header r
 unfolding middle placesOf placesFor ruled placesIn behind header
@@ -105,13 +133,8 @@ grid-header-told r m y whole em ey =
 
 pub net-header-told : (r : List ℕ) (m : ℕ) → length r ≡ 84 → m ≡ doubtsIn (middle netHeader) (getD r 1 0) (drop 2 r) → eqb m 0 ≡ sure netHeader r
 unfolding middle placesOf placesFor ruled placesIn behind netHeader
-net-header-told r m whole em =
-    let e : m ≡ m + (0 + 0) = omega arith in
-    ap (λ (k : ℕ). eqb k 0) e ∙ typed netHeader 46 46 refl refl r whole m em 0 0 (sym (anything (getD r 81 0) (getD r 82 0))) (sym (anything (getD r 82 0) (getD r 83 0))) ∙ net-header-sure r
+net-header-told r m whole em = middle-told netHeader net-header-sure refl r whole m em refl
 
 pub data-note-told : (r : List ℕ) (f s m : ℕ) → length r ≡ 84 → f ≡ doubt 49 32 (getD r 0 0) → s ≡ doubt 77 (getD r 0 0) (getD r 1 0) → m ≡ doubtsIn (middle dataNote) (getD r 1 0) (drop 2 r) → (eqb f 0 && eqb s 0) && eqb m 0 ≡ sure dataNote r
 unfolding middle placesOf placesFor ruled placesIn behind dataNote
-data-note-told r f s m whole ef es em =
-    let e : f + s + m ≡ f + (s + (m + (0 + (0 + 0)))) = omega arith in
-    rw (← zero-sum f s, ← zero-sum (f + s) m)
-    (ap (λ (k : ℕ). eqb k 0) e ∙ told dataNote 49 77 46 46 refl refl r whole f s m 0 0 ef es em (sym (anything (getD r 81 0) (getD r 82 0))) (sym (anything (getD r 82 0) (getD r 83 0))) ∙ data-note-sure r)
+data-note-told r f s m whole ef es em = front-told dataNote data-note-sure refl r whole m em 49 77 f s refl ef es

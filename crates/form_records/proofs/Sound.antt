@@ -9,10 +9,10 @@ use borrow.Author.Tests.{leb-true, eqb-true, eqb-false, ne-eqb}
 use lib.Dec.{eqb, leb}
 use lib.ListN.{length, drop, getD, length-drop}
 use lib.Seq.{drop-drop, getD-drop}
-use Rattle.format.specs.Layout.{Rule, anySign, atLeast, range, within, oneOf, What, text, blank, integral, integralOrSpaces, Col, column, bytesOf, isFormed, isInside, allFormed, allInside, header, element, gridHeader, netHeader, dataNote}
+use Rattle.format.specs.Layout.{Rule, anySign, atLeast, range, within, oneOf, What, text, blank, integral, integralOrSpaces, Col, column, bytesOf, isFormed, isInside, allFormed, allInside, indexC, sheetB, sheetE, sheetF, header, element, gridHeader, netHeader, dataNote}
 use Rattle.format.proofs.Basics.{and-true, true-and}
 use Rattle.form_bytes.specs.Places.{placesFor, doubtsIn}
-use Rattle.form_bytes.specs.Told.{fromZero, zeroAllowed, plain, toldAtOnce, hasPlaces}
+use Rattle.form_bytes.specs.Told.{looserRule, looser, plain, toldAtOnce, hasPlaces}
 use Rattle.form_bytes.proofs.Doubts.{doubts-append}
 use Rattle.form_bytes.proofs.Rules.{length-for}
 use Rattle.form_bytes.proofs.AtOnce.{at-once}
@@ -94,7 +94,23 @@ surely-sure layout h r = go (eqb (length r) 84) refl
     go true e = columns-told r (eqb-true (length r) 84 e) layout 0 h
     go false e = refl
 
--- ---- the five layouts
+-- ---- the nine layouts
+
+pub index-c-sure : (r : List ℕ) → surely indexC r ≡ sure indexC r
+unfolding indexC
+index-c-sure = surely-sure indexC refl
+
+pub sheet-b-sure : (r : List ℕ) → surely sheetB r ≡ sure sheetB r
+unfolding sheetB
+sheet-b-sure = surely-sure sheetB refl
+
+pub sheet-e-sure : (r : List ℕ) → surely sheetE r ≡ sure sheetE r
+unfolding sheetE
+sheet-e-sure = surely-sure sheetE refl
+
+pub sheet-f-sure : (r : List ℕ) → surely sheetF r ≡ sure sheetF r
+unfolding sheetF
+sheet-f-sure = surely-sure sheetF refl
 
 pub header-sure : (r : List ℕ) → surely header r ≡ sure header r
 unfolding header
@@ -116,45 +132,45 @@ pub data-note-sure : (r : List ℕ) → surely dataNote r ≡ sure dataNote r
 unfolding dataNote
 data-note-sure = surely-sure dataNote refl
 
--- ---- what callers cite: a record told at once is without fault, but for those columns that must be above 0
+-- ---- what callers cite: a record told at once is without fault, but for those columns of which more is asked: a number above 0, or one of a list
 
-abbrev pub aboveZero : Rule → Bool
-aboveZero anySign = false
-aboveZero (atLeast zero) = false
-aboveZero (atLeast (suc n)) = true
-aboveZero (range n m) = false
-aboveZero (within n) = false
-aboveZero (oneOf ns) = false
+abbrev pub ruleAsksMore : Rule → Bool
+ruleAsksMore anySign = false
+ruleAsksMore (atLeast zero) = false
+ruleAsksMore (atLeast (suc n)) = true
+ruleAsksMore (range n m) = false
+ruleAsksMore (within n) = false
+ruleAsksMore (oneOf ns) = true
 
 abbrev pub asksMore : What → Bool
 asksMore text = false
 asksMore blank = false
-asksMore (integral rule) = aboveZero rule
+asksMore (integral rule) = ruleAsksMore rule
 asksMore integralOrSpaces = false
 
-unfoldable pub aboveZeros : List Col → List Col
-aboveZeros [] = []
-aboveZeros (c ∷ cs) = cond (asksMore (c .what)) (c ∷ aboveZeros cs) (aboveZeros cs)
+unfoldable pub askingMore : List Col → List Col
+askingMore [] = []
+askingMore (c ∷ cs) = cond (asksMore (c .what)) (c ∷ askingMore cs) (askingMore cs)
 
-same-rule : (rule : Rule) → aboveZero rule ≡ false → fromZero rule ≡ rule
+same-rule : (rule : Rule) → ruleAsksMore rule ≡ false → looserRule rule ≡ rule
 same-rule anySign e = refl
 same-rule (atLeast zero) e = refl
 same-rule (atLeast (suc n)) e = absurd (false≢true (sym e))
 same-rule (range n m) e = refl
 same-rule (within n) e = refl
-same-rule (oneOf ns) e = refl
+same-rule (oneOf ns) e = absurd (false≢true (sym e))
 
-same : (k : What) → asksMore k ≡ false → zeroAllowed k ≡ k
+same : (k : What) → asksMore k ≡ false → looser k ≡ k
 same text e = refl
 same blank e = refl
 same (integral rule) e = rw (same-rule rule e)
 same integralOrSpaces e = refl
 
 -- the three parts of a column told at once
-parts : (k : What) (p : ℕ) (bs : List ℕ) → toldAtOnce k p bs ≡ true → (isFormed k bs ≡ true) × (isInside (zeroAllowed k) bs ≡ true)
+parts : (k : What) (p : ℕ) (bs : List ℕ) → toldAtOnce k p bs ≡ true → (isFormed k bs ≡ true) × (isInside (looser k) bs ≡ true)
 parts k p bs h =
-    let a = and-true (isFormed k bs) (isInside (zeroAllowed k) bs && plain k p bs) h in
-    (a .0, and-true (isInside (zeroAllowed k) bs) (plain k p bs) (a .1) .0)
+    let a = and-true (isFormed k bs) (isInside (looser k) bs && plain k p bs) h in
+    (a .0, and-true (isInside (looser k) bs) (plain k p bs) (a .1) .0)
 
 module _ (r : List ℕ) where
   told-formed : (cs : List Col) → allTold cs r ≡ true → allFormed cs r ≡ true
@@ -164,14 +180,14 @@ module _ (r : List ℕ) where
       let a = and-true (toldAtOnce (c .what) (getD (32 ∷ r) (c .start) 0) (bytesOf c r)) (allTold cs r) h in
       true-and (isFormed (c .what) (bytesOf c r)) (allFormed cs r) (parts (c .what) _ (bytesOf c r) (a .0) .0) (told-formed cs (a .1))
 
-  told-inside : (cs : List Col) → allTold cs r ≡ true → allInside cs r ≡ allInside (aboveZeros cs) r
-  unfolding allTold allInside aboveZeros
+  told-inside : (cs : List Col) → allTold cs r ≡ true → allInside cs r ≡ allInside (askingMore cs) r
+  unfolding allTold allInside askingMore
   told-inside [] h = refl
   told-inside (c ∷ cs) h =
       let a = and-true (toldAtOnce (c .what) (getD (32 ∷ r) (c .start) 0) (bytesOf c r)) (allTold cs r) h in
       go (asksMore (c .what)) refl (parts (c .what) _ (bytesOf c r) (a .0) .1) (told-inside cs (a .1))
     where
-      go : (m : Bool) → asksMore (c .what) ≡ m → isInside (zeroAllowed (c .what)) (bytesOf c r) ≡ true → allInside cs r ≡ allInside (aboveZeros cs) r → isInside (c .what) (bytesOf c r) && allInside cs r ≡ allInside (cond m (c ∷ aboveZeros cs) (aboveZeros cs)) r
+      go : (m : Bool) → asksMore (c .what) ≡ m → isInside (looser (c .what)) (bytesOf c r) ≡ true → allInside cs r ≡ allInside (askingMore cs) r → isInside (c .what) (bytesOf c r) && allInside cs r ≡ allInside (cond m (c ∷ askingMore cs) (askingMore cs)) r
       go true em f i = rw i
       go false em f i = rw (rw (same (c .what) em) at f, i)
 
@@ -186,5 +202,5 @@ module _ (layout : List Col) (r : List ℕ) (h : sure layout r ≡ true) where
   pub sure-formed : allFormed layout r ≡ true
   sure-formed = told-formed r layout (both .1)
 
-  pub sure-inside : allInside layout r ≡ allInside (aboveZeros layout) r
+  pub sure-inside : allInside layout r ≡ allInside (askingMore layout) r
   sure-inside = told-inside r layout (both .1)

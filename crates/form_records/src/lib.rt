@@ -1,16 +1,29 @@
-// Records told at once: a header, element, grid header, net header or note whose integer columns are well formed and inside their ranges, but for a 0
-// where a number above 0 is due, and in which no 0 stands right after a minus. Any other may still be right: "-05" is.
+// Records told at once: a record b, e or f of a sheet, c of an index, a header, element, grid header, net header or note whose integer columns are well
+// formed and inside their ranges, but for a 0 where a number above 0 is due and for lists, and in which no 0 stands right after a minus. Any other may still
+// be right: "-05" is.
 //
 // The bytes from 2 to 81 of a record, sixteen at a time, are compared with the places of its layout; its two first and two last bytes apart.
 ghost use mathlib.Core.Path.{_≡_};
 ghost use lib.ListN.{length, getD, drop};
-ghost use Rattle.format.specs.Layout.{header, element, gridHeader, netHeader, dataNote};
+ghost use Rattle.format.specs.Layout.{indexC, sheetB, sheetE, sheetF, header, element, gridHeader, netHeader, dataNote};
 ghost use Rattle.form_bytes.specs.Places.{doubtsIn};
 ghost use Rattle.form_records.specs.Sure.{sure};
 use files::RECORD;
 use form_bytes::doubt_at;
 
 // The places of the bytes from 2 to 81, by the letters of form_bytes.
+const INDEX_C: [u8; 80] =
+    *b"sdSssd1111111111d...............................................................";
+
+const SHEET_B: [u8; 80] =
+    *b"mmmmdMmmmmmdMmmmmmdMmmmmmd...SssssdSsssssdSsdMmmmmmdMmmmmmdMmmmmmdMmmmmmd.......";
+
+const SHEET_E: [u8; 80] =
+    *b"......................................MmmdMmmdMmmdMmmdMmmdMmmdMmmdMmmd..........";
+
+const SHEET_F: [u8; 80] =
+    *b"......SsssddSssdSssd........SsssddSssdSssd........SsssddSssdSssd................";
+
 const HEADER: [u8; 80] =
     *b"SssdSdSssdSssdSdSsssdSsssdSsssdSsssdSsssdSsssdSsssdSsssdSsssdSsssdd............S";
 
@@ -38,6 +51,54 @@ fn middle_doubts(record: &[u8], places: &[u8; 80]) -> u8
         i += 1;
     }
     doubts
+}
+
+pub fn index_c_sure(record: &[u8]) -> bool
+    ensures { λ r. ⌜ r ≡ sure indexC (now («record» .entry)) ⌝ }
+{
+    if record.len() != RECORD {
+        return false;
+    }
+    let places = INDEX_C;
+    let first = doubt_at(b'S', b' ', record[0]);
+    let second = doubt_at(b's', record[0], record[1]);
+    let middle = middle_doubts(record, &places);
+    (first == 0) & (second == 0) & (middle == 0)
+}
+
+pub fn sheet_b_sure(record: &[u8]) -> bool
+    ensures { λ r. ⌜ r ≡ sure sheetB (now («record» .entry)) ⌝ }
+{
+    if record.len() != RECORD {
+        return false;
+    }
+    let places = SHEET_B;
+    let first = doubt_at(b'M', b' ', record[0]);
+    let second = doubt_at(b'm', record[0], record[1]);
+    let middle = middle_doubts(record, &places);
+    (first == 0) & (second == 0) & (middle == 0)
+}
+
+pub fn sheet_e_sure(record: &[u8]) -> bool
+    ensures { λ r. ⌜ r ≡ sure sheetE (now («record» .entry)) ⌝ }
+{
+    if record.len() != RECORD {
+        return false;
+    }
+    let places = SHEET_E;
+    let middle = middle_doubts(record, &places);
+    middle == 0
+}
+
+pub fn sheet_f_sure(record: &[u8]) -> bool
+    ensures { λ r. ⌜ r ≡ sure sheetF (now («record» .entry)) ⌝ }
+{
+    if record.len() != RECORD {
+        return false;
+    }
+    let places = SHEET_F;
+    let middle = middle_doubts(record, &places);
+    middle == 0
 }
 
 pub fn header_sure(record: &[u8]) -> bool

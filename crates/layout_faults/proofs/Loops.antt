@@ -1,30 +1,29 @@
 -- The loops and returns of `table_fault` and what it calls, `is_one` and `listed` in the code's own words. Assumes nothing.
-use mathlib.Core.Path.{_≡_, refl, ap, sym, _∙_}
+use mathlib.Core.Path.{_≡_, refl, sym, _∙_}
 use mathlib.Core.Bool.{Bool, true, false, cond, _&&_, _||_, and-assoc, or-assoc, or-false, false≢true, true≢false}
 use mathlib.Core.List.{List, [], _∷_}
 use Prim.Native.Nat.{ℕ, _+_, _≤_, _<_, _^_}
 use native.Mathlib.Numerals.{add-one}
 use native.Mathlib.Omega.{arith}
 use borrow.Author.Tests.{ne-eqb}
-use lib.Dec.{T, eqb, leb·suc-zero}
+use lib.Dec.{eqb, leb·suc-zero}
 use lib.IntN.{ℤ, pos, negsuc, natAbs}
-use lib.Signed.{leZ, ltZ, mag, nonNeg}
+use lib.Signed.{leZ, ltZ, mag}
 use lib.ListN.{length, drop, getD, drop-of-length-le}
 use lib.Seq.{drop-cons}
-use types.Run.{OneOf, miss}
+use types.Run.{OneOf}
 use denote.Enum.Declared.{tagOf}
 use mir.Syntax.{w64}
-use mir.Val.{Fits, SFits, hbits, toZ, ofZ}
+use mir.Val.{SFits, hbits, toZ, ofZ}
 use mir.ValLaws.{toZ-ofZ}
 use Rattle.format.proofs.Column.{the-type}
 use Rattle.format.specs.declared.Column.{Column}
-use Rattle.format.specs.declared.Column.the-variants.{Value, MinusZero, Malformed}
+use Rattle.format.specs.declared.Column.the-variants.{Value}
 use Rattle.format.specs.Basics.{first, unless, member}
 use Rattle.format.specs.Column.{formed, integer}
 use Rattle.format.specs.Layout.{isOne}
 use Rattle.format.proofs.Columns.{other-tag}
 use Rattle.columns.specs.InRecord.{columnAt, spacesAt}
-use Rattle.columns.proofs.Numbers.{plain-sign, size-fits}
 use Rattle.layout_faults.specs.Tables.{unlessSpaces, formedAs, between, betweenAs, faultAs, faultOf, formedAt, betweenAt, tableFault, listedAt}
 
 -- ---- one column, by its form
@@ -179,32 +178,19 @@ module _ (n : ℕ) (numbers : List ℕ) (i : ℕ) (found : Bool) where
 
 -- ---- `listed`
 
-module _ (l : List ℕ) (start width : ℕ) (numbers : List ℕ) (c : Column) (e : c ≡ columnAt l start width) where
-  pub no-value : (r : Bool) → OneOf (1 ∷ 2 ∷ []) (tagOf the-type c) → r ≡ member 0 numbers → r ≡ listedAt l start width numbers
+module _ (l : List ℕ) (start width : ℕ) (numbers : List ℕ) (z : ℤ) (e : z ≡ integer (columnAt l start width)) (s : SFits w64 z) where
+  pub below-zero : ltZ (toZ w64 (ofZ w64 z)) (pos 0) ≡ true → false ≡ listedAt l start width numbers
   unfolding listedAt
-  no-value r n h = h ∙ go c n ∙ ap (λ (x : Column). isOne (integer x) numbers) e
+  below-zero h = rw (← e) (go z (rw (toZ-ofZ w64 z s) at h))
     where
-      go : (c : Column) → OneOf (1 ∷ 2 ∷ []) (tagOf the-type c) → member 0 numbers ≡ isOne (integer c) numbers
-      go (Value z) h = absurd (miss (1 ∷ 2 ∷ []) 0 tt h)
-      go MinusZero h = refl
-      go Malformed h = refl
+      go : (z : ℤ) → ltZ z (pos 0) ≡ true → false ≡ isOne z numbers
+      go (pos n) h = absurd (false≢true (sym (leb·suc-zero n) ∙ h))
+      go (negsuc n) h = refl
 
-  module _ (z : ℤ) (v : c ≡ Value z) (s : SFits w64 z) where
-    pub below-zero : ltZ (toZ w64 (ofZ w64 z)) (pos 0) ≡ true → false ≡ listedAt l start width numbers
-    unfolding listedAt
-    below-zero h = rw (← e, v) (go z (rw (toZ-ofZ w64 z s) at h))
-      where
-        go : (z : ℤ) → ltZ z (pos 0) ≡ true → false ≡ isOne z numbers
-        go (pos n) h = absurd (false≢true (sym (leb·suc-zero n) ∙ h))
-        go (negsuc n) h = refl
-
-    pub is-listed : (r : Bool) → ltZ (toZ w64 (ofZ w64 z)) (pos 0) ≡ false → r ≡ member (natAbs (toZ w64 (ofZ w64 z))) numbers → r ≡ listedAt l start width numbers
-    unfolding listedAt
-    is-listed r h k = rw (← e, v) (go z (rw (toZ-ofZ w64 z s) at h) (rw (toZ-ofZ w64 z s) at k))
-      where
-        go : (z : ℤ) → ltZ z (pos 0) ≡ false → r ≡ member (natAbs z) numbers → r ≡ isOne z numbers
-        go (pos n) h k = k
-        go (negsuc n) h k = absurd (true≢false h)
-
-pub not-below-zero : (z : ℤ) → SFits w64 z → ltZ (toZ w64 (ofZ w64 z)) (pos 0) ≡ false → T (nonNeg (toZ w64 (ofZ w64 z))) × Fits w64 (natAbs (toZ w64 (ofZ w64 z)))
-not-below-zero z s h = (plain-sign z s h, size-fits z s)
+  pub is-listed : (r : Bool) → ltZ (toZ w64 (ofZ w64 z)) (pos 0) ≡ false → r ≡ member (natAbs (toZ w64 (ofZ w64 z))) numbers → r ≡ listedAt l start width numbers
+  unfolding listedAt
+  is-listed r h k = rw (← e) (go z (rw (toZ-ofZ w64 z s) at h) (rw (toZ-ofZ w64 z s) at k))
+    where
+      go : (z : ℤ) → ltZ z (pos 0) ≡ false → r ≡ member (natAbs z) numbers → r ≡ isOne z numbers
+      go (pos n) h k = k
+      go (negsuc n) h k = absurd (true≢false h)

@@ -3,6 +3,7 @@
 // by column.
 ghost use mathlib.Core.Path.{_≡_};
 ghost use mathlib.Core.Bool.{true};
+ghost use mathlib.Core.List.{[], _∷_};
 ghost use Prim.Native.Nat.{_<_};
 ghost use lib.IntN.{pos};
 ghost use lib.Signed.{leZ};
@@ -129,9 +130,7 @@ fn is_one(n: u64, numbers: &[u64]) -> bool
 fn listed(record: &[u8], start: usize, width: usize, numbers: &[u64]) -> bool
     ensures { λ r. ⌜ r ≡ listedAt (now («record» .entry)) start width (now (numbers .entry)) ⌝ }
 {
-    let Column::Value(z) = columns::column_at(record, start, width) else {
-        return is_one(0, numbers);
-    };
+    let z = columns::integer_at(record, start, width);
     if z < 0 {
         return false;
     }
@@ -142,10 +141,7 @@ fn listed(record: &[u8], start: usize, width: usize, numbers: &[u64]) -> bool
 fn above_zero(record: &[u8], start: usize, width: usize) -> bool
     ensures { λ r. ⌜ r ≡ leZ (pos 1) (integer (columnAt (now («record» .entry)) start width)) ⌝ }
 {
-    let Column::Value(z) = columns::column_at(record, start, width) else {
-        return false;
-    };
-    1 <= z
+    1 <= columns::integer_at(record, start, width)
 }
 
 pub fn index_a_fault(record: &[u8]) -> u8
@@ -160,9 +156,34 @@ pub fn index_a_fault(record: &[u8]) -> u8
 }
 
 // The dimension is one of a list.
+fn is_dimension(record: &[u8]) -> bool
+    ensures { λ r. ⌜ r ≡ listedAt (now («record» .entry)) 18 1 (0 ∷ 2 ∷ 3 ∷ []) ⌝ }
+{
+    let dimensions: [u64; 3] = [0, 2, 3];
+    listed(
+        record,
+        IndexC::DIMENSION_START,
+        IndexC::DIMENSION_WIDTH,
+        &dimensions,
+    )
+}
+
+// Told at once to be without fault: beside its form, its dimension is one of the list.
+fn index_c_sure(record: &[u8]) -> bool
+    ensures { λ r. ⌜ (r ≡ true → faultIn indexC (now («record» .entry)) ≡ 0) ⌝ }
+{
+    if !form_records::index_c_sure(record) {
+        return false;
+    }
+    is_dimension(record)
+}
+
 pub fn index_c_fault(record: &[u8]) -> u8
     ensures { λ r. ⌜ r ≡ faultIn indexC (now («record» .entry)) ⌝ }
 {
+    if index_c_sure(record) {
+        return 0;
+    }
     let starts = IndexC::starts();
     let widths = IndexC::widths();
     let forms = IndexC::forms();
@@ -172,17 +193,7 @@ pub fn index_c_fault(record: &[u8]) -> u8
     if fault != 0 {
         return fault;
     }
-    let dimensions: [u64; 3] = [0, 2, 3];
-    if listed(
-        record,
-        IndexC::DIMENSION_START,
-        IndexC::DIMENSION_WIDTH,
-        &dimensions,
-    ) {
-        0
-    } else {
-        6
-    }
+    if is_dimension(record) { 0 } else { 6 }
 }
 
 // "another level is 6 at a"
@@ -209,6 +220,9 @@ pub fn sheet_a_fault(record: &[u8]) -> u8
 pub fn sheet_b_fault(record: &[u8]) -> u8
     ensures { λ r. ⌜ r ≡ faultIn sheetB (now («record» .entry)) ⌝ }
 {
+    if form_records::sheet_b_sure(record) {
+        return 0;
+    }
     let starts = SheetB::starts();
     let widths = SheetB::widths();
     let forms = SheetB::forms();
@@ -249,6 +263,9 @@ pub fn sheet_d_fault(record: &[u8]) -> u8
 pub fn sheet_e_fault(record: &[u8]) -> u8
     ensures { λ r. ⌜ r ≡ faultIn sheetE (now («record» .entry)) ⌝ }
 {
+    if form_records::sheet_e_sure(record) {
+        return 0;
+    }
     let starts = SheetE::starts();
     let widths = SheetE::widths();
     let forms = SheetE::forms();
@@ -260,6 +277,9 @@ pub fn sheet_e_fault(record: &[u8]) -> u8
 pub fn sheet_f_fault(record: &[u8]) -> u8
     ensures { λ r. ⌜ r ≡ faultIn sheetF (now («record» .entry)) ⌝ }
 {
+    if form_records::sheet_f_sure(record) {
+        return 0;
+    }
     let starts = SheetF::starts();
     let widths = SheetF::widths();
     let forms = SheetF::forms();

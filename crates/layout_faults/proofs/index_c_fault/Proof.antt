@@ -1,9 +1,16 @@
--- `layout_faults::index_c_fault` meets its contract: its integers by the tables, then its list. Assumes nothing.
+-- `layout_faults::index_c_fault` meets its contract: told at once, or its integers by the tables, then its list. Assumes nothing.
+use mathlib.Core.Path.{sym}
 use borrow.Author.Needs.{needs}
 use Rattle.layout_faults.proofs.Layouts.{indexC-judged}
 use Rattle.layout_faults.proofs.Tables.{fault-first, is-listed, not-listed}
 use Rattle.layout_faults.proofs.index_c_fault.Statement.{statement}
 use Rattle.layout_faults.proofs.index_c_fault.Tie as tie
+
+index-c-sure-requires : tie.Need-index-c-sure-requires
+index-c-sure-requires c κs = search needs
+
+returns : tie.Need-returns
+returns c = sym (c .before .index-c-sure .ensures (c .if1 .taken))
 
 starts-requires : tie.Need-starts-requires
 starts-requires c κs = search needs
@@ -38,25 +45,24 @@ slice-aggregate-table-fault-5 c = search needs
 table-fault-requires : tie.Need-table-fault-requires
 table-fault-requires c κs = search needs
 
-returns : tie.Need-returns
-returns c = search (fault-first, indexC-judged)
-
-slice-aggregate-listed : tie.Need-slice-aggregate-listed
-slice-aggregate-listed c = search needs
-
-listed-requires : tie.Need-listed-requires
-listed-requires c κs = search needs
-
 returns-2 : tie.Need-returns-2
-returns-2 c = search (is-listed, indexC-judged)
+returns-2 c = search (fault-first, indexC-judged)
+
+is-dimension-requires : tie.Need-is-dimension-requires
+is-dimension-requires c κs = search needs
 
 returns-3 : tie.Need-returns-3
-returns-3 c = search (not-listed, indexC-judged)
+returns-3 c = search (is-listed, indexC-judged)
+
+returns-4 : tie.Need-returns-4
+returns-4 c = search (not-listed, indexC-judged)
 
 pub index-c-fault-spec : {M : Type 1} → statement M
 index-c-fault-spec =
     tie.close
     (tie.spec
+    index-c-sure-requires
+    returns
     starts-requires
     widths-requires
     forms-requires
@@ -68,8 +74,7 @@ index-c-fault-spec =
     slice-aggregate-table-fault-4
     slice-aggregate-table-fault-5
     table-fault-requires
-    returns
-    slice-aggregate-listed
-    listed-requires
     returns-2
-    returns-3)
+    is-dimension-requires
+    returns-3
+    returns-4)

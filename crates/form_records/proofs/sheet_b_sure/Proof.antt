@@ -1,0 +1,47 @@
+-- `form_records::sheet_b_sure` meets its contract: its places are those of the layout, and no byte is in doubt exactly where each part of the bytes counts none.
+-- Assumes nothing.
+use Rattle.format.specs.Layout.{sheetB}
+use Rattle.form_bytes.specs.Places.{behind, placesIn, ruled, placesFor}
+use Rattle.form_records.proofs.Sound.{placesOf}
+use Rattle.form_records.proofs.Counting.{middle, no-record, sheet-b-told}
+use borrow.Author.Needs.{needs}
+use Rattle.form_records.proofs.sheet_b_sure.Statement.{statement}
+use Rattle.form_records.proofs.sheet_b_sure.Tie as tie
+
+returns : tie.Need-returns
+returns c = search no-record
+
+shared-slice-read-doubt-at : tie.Need-shared-slice-read-doubt-at
+shared-slice-read-doubt-at c = search needs
+
+doubt-at-requires : tie.Need-doubt-at-requires
+doubt-at-requires c κs = search needs
+
+shared-slice-read-doubt-at-2 : tie.Need-shared-slice-read-doubt-at-2
+shared-slice-read-doubt-at-2 c = search needs
+
+shared-slice-read-doubt-at-3 : tie.Need-shared-slice-read-doubt-at-3
+shared-slice-read-doubt-at-3 c = search needs
+
+doubt-at-requires-2 : tie.Need-doubt-at-requires-2
+doubt-at-requires-2 c κs = search needs
+
+middle-doubts-requires : tie.Need-middle-doubts-requires
+middle-doubts-requires c κs = search needs
+
+returns-2 : tie.Need-returns-2
+unfolding middle placesOf placesFor ruled placesIn behind sheetB
+returns-2 c = search sheet-b-told
+
+pub sheet-b-sure-spec : {M : Type 1} → statement M
+sheet-b-sure-spec =
+    tie.close
+    (tie.spec
+    returns
+    shared-slice-read-doubt-at
+    doubt-at-requires
+    shared-slice-read-doubt-at-2
+    shared-slice-read-doubt-at-3
+    doubt-at-requires-2
+    middle-doubts-requires
+    returns-2)

@@ -1,0 +1,22 @@
+-- `form_records::sheet_f_sure` meets its contract: its places are those of the layout, and no byte is in doubt exactly where each part of the bytes counts none.
+-- Assumes nothing.
+use Rattle.format.specs.Layout.{sheetF}
+use Rattle.form_bytes.specs.Places.{behind, placesIn, ruled, placesFor}
+use Rattle.form_records.proofs.Sound.{placesOf}
+use Rattle.form_records.proofs.Counting.{middle, no-record, sheet-f-told}
+use borrow.Author.Needs.{needs}
+use Rattle.form_records.proofs.sheet_f_sure.Statement.{statement}
+use Rattle.form_records.proofs.sheet_f_sure.Tie as tie
+
+returns : tie.Need-returns
+returns c = search no-record
+
+middle-doubts-requires : tie.Need-middle-doubts-requires
+middle-doubts-requires c κs = search needs
+
+returns-2 : tie.Need-returns-2
+unfolding middle placesOf placesFor ruled placesIn behind sheetF
+returns-2 c = search sheet-f-told
+
+pub sheet-f-sure-spec : {M : Type 1} → statement M
+sheet-f-sure-spec = tie.close (tie.spec returns middle-doubts-requires returns-2)
