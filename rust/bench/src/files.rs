@@ -49,6 +49,11 @@ pub fn elements(records: usize, seed: u64) -> Vec<u8> {
     })
 }
 
+/// An index of 100 sheets with so many c records.
+pub fn index(c_records: usize, seed: u64) -> Vec<u8> {
+    sheets::index_of(&mut Random(seed), 100, c_records)
+}
+
 /// A sheet as offices have them: lines of up to 400 points, and small elements between them.
 pub fn mixed(records: usize, seed: u64) -> Vec<u8> {
     layers(records, seed, |r| {

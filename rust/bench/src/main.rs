@@ -7,7 +7,7 @@ use reference::random::Random;
 use reference::{judge, sheets, RECORD};
 use std::hint::black_box;
 use std::time::Instant;
-use zvaigulta::{insert, judge_sheet, normal_sheet, remove, way_up};
+use zvaigulta::{insert, judge_index, judge_sheet, normal_index, normal_sheet, remove, way_up};
 
 const ROUNDS: usize = 9;
 
@@ -162,6 +162,16 @@ fn edits() {
     }
 }
 
+/// One call on an index of so many c records.
+fn once_index(what: &str, c_records: usize) {
+    let file = files::index(c_records, 11);
+    let used = file.len();
+    match what {
+        "normal-index" => println!("{:?}", normal_index(&file, used, &mut vec![0; used])),
+        _ => println!("{:?}", judge_index(&file, used)),
+    }
+}
+
 /// One call: `grids`, `mixed`, `elements` judge a sheet of so many records; `insert`, `remove` edit one of small elements at its first item, and
 /// `insert-last`, `remove-last` at its last.
 fn once(what: &str, records: usize) {
@@ -195,9 +205,12 @@ fn main() {
             growth();
             edits();
         }
+        ["once", what @ ("index" | "normal-index"), records] => once_index(what, records.parse().expect("a number of c records")),
         ["once", what, records] => once(what, records.parse().expect("a number of records")),
         _ => {
-            eprintln!("usage: bench | bench once grids|mixed|elements|insert|insert-last|remove|remove-last|normal|way-up|way-up-last RECORDS");
+            eprintln!(
+                "usage: bench | bench once grids|mixed|elements|index|insert|insert-last|remove|remove-last|normal|normal-index|way-up|way-up-last RECORDS"
+            );
             std::process::exit(2);
         }
     }

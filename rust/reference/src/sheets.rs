@@ -383,9 +383,15 @@ pub fn sheet(r: &mut Random, size: usize) -> Vec<u8> {
 
 /// A random accepted index.
 pub fn index(r: &mut Random) -> Vec<u8> {
-    let all = Layouts::shared();
     let sheets = r.below(40);
-    let (b_records, c_records) = (sheets.div_ceil(10), r.below(5));
+    let c_records = r.below(5);
+    index_of(r, sheets, c_records)
+}
+
+/// An accepted index of so many sheets and c records.
+pub fn index_of(r: &mut Random, sheets: usize, c_records: usize) -> Vec<u8> {
+    let all = Layouts::shared();
+    let b_records = sheets.div_ceil(10);
     let a = Draft::new(&all.index_a)
         .text("type", "I ")
         .number(r, "system", 9)
