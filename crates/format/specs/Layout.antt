@@ -196,14 +196,14 @@ sheetA =
     X 69 15 ∷ []
 
 -- Sheet b: lower left X, Y, upper right X, Y (I7, any sign), 3 unjudged, element count I6, record count I7, unit I3,
--- upper left X, Y, lower right X, Y (I7, any sign), 9X
+-- upper left X, Y, lower right X, Y (I7, any sign), 9X. The three unjudged ones stand here as X, "neither is judged"
 unfoldable pub sheetB : List Col
 sheetB =
     I "lower left X" 0 7 anySign ∷
     I "lower left Y" 7 7 anySign ∷
     I "upper right X" 14 7 anySign ∷
     I "upper right Y" 21 7 anySign ∷
-    A "unjudged" 28 3 ∷
+    X 28 3 ∷
     I "element count" 31 6 natural ∷
     I "record count" 37 7 natural ∷
     I "unit" 44 3 natural ∷

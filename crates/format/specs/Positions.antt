@@ -85,8 +85,8 @@ lines =
     line "index c" (I 4 ++ I 4 ++ times 9 (I 1) said range 0 1 ++ I 1 said range 0 1 ++ I 1 said oneOf (0 ∷ 2 ∷ 3 ∷ []) ++ A 65) ∷
     -- "another level is 6 at a"
     line "sheet a" (A 2 ++ A 8 ++ A 20 ++ I 5 said oneOf (500 ∷ 1000 ∷ 2500 ∷ 5000 ∷ 10000 ∷ []) ++ A 30 ++ I 2 ++ I 1 said range 1 1 ++ I 1 ++ X 15) ∷
-    -- "3 unjudged"
-    line "sheet b" (times 4 (I 7) said anySign ++ A 3 ++ I 6 ++ I 7 ++ I 3 ++ times 4 (I 7) said anySign ++ X 9) ∷
+    -- "3 unjudged" is as X
+    line "sheet b" (times 4 (I 7) said anySign ++ X 3 ++ I 6 ++ I 7 ++ I 3 ++ times 4 (I 7) said anySign ++ X 9) ∷
     line "sheet c" (times 8 (A 8) ++ X 20) ∷
     line "sheet d" (A 4 ++ A 4 ++ I 1 ++ I 1 ++ A 30 ++ A 30 ++ I 1 said range 0 2 ++ times 2 (I 1) said oneOf (0 ∷ 1 ∷ 2 ∷ 3 ∷ 9 ∷ []) ++ X 11) ∷
     line "sheet e" (A 40 ++ times 8 (I 4) said anySign ++ X 12) ∷
@@ -221,14 +221,14 @@ pub names-stand : map standsIn positions ≡ positions
 unfolding indexA indexB indexC sheetA sheetB sheetC sheetD sheetE sheetF header element gridHeader netHeader data3D data2D dataNote dataAttribute dataGrid dataNet
 names-stand = refl
 
--- every blank column
+-- every blank column, with the three unjudged ones of sheet b
 abbrev pub isBlank : What → Bool
 isBlank text = false
 isBlank blank = true
 isBlank (integral rule) = false
 isBlank integralOrSpaces = false
 
-pub blanks-stand : places (λ (c : Col). isBlank (c .what)) tables ≡ at "index a" 81 3 ∷ at "index b" 80 4 ∷ at "sheet a" 69 15 ∷ at "sheet b" 75 9 ∷ at "sheet c" 64 20 ∷ at "sheet d" 73 11 ∷ at "sheet e" 72 12 ∷ at "sheet f" 66 18 ∷ at "header" 83 1 ∷ at "element" 77 6 ∷ at "grid header" 74 9 ∷ at "net header" 46 38 ∷ []
+pub blanks-stand : places (λ (c : Col). isBlank (c .what)) tables ≡ at "index a" 81 3 ∷ at "index b" 80 4 ∷ at "sheet a" 69 15 ∷ at "sheet b" 28 3 ∷ at "sheet b" 75 9 ∷ at "sheet c" 64 20 ∷ at "sheet d" 73 11 ∷ at "sheet e" 72 12 ∷ at "sheet f" 66 18 ∷ at "header" 83 1 ∷ at "element" 77 6 ∷ at "grid header" 74 9 ∷ at "net header" 46 38 ∷ []
 unfolding indexA indexB indexC sheetA sheetB sheetC sheetD sheetE sheetF header element gridHeader netHeader data3D data2D dataNote dataAttribute dataGrid dataNet
 blanks-stand = refl
 

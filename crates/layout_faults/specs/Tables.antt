@@ -12,20 +12,21 @@ use Rattle.format.specs.Basics.{first, unless}
 use Rattle.format.specs.Column.{formed, integer}
 use Rattle.format.specs.Layout.{isOne}
 use Rattle.columns.specs.InRecord.{columnAt, spacesAt}
+use Rattle.layouts.specs.Tables.{integerForm, integerOrSpacesForm}
 
--- a column is well formed, by its form: 0 an integer; 1 an integer or spaces; of another, a blank, nothing is asked
+-- a column is well formed, by its form: an integer; an integer or spaces; of another, a blank, nothing is asked
 unfoldable pub formedAs : (form : ℕ) → List ℕ → (start width : ℕ) → Bool
 formedAs form l start width =
-    cond (eqb form 0)
+    cond (eqb form integerForm)
     (formed (columnAt l start width))
-    (cond (eqb form 1) (spacesAt l start width || formed (columnAt l start width)) true)
+    (cond (eqb form integerOrSpacesForm) (spacesAt l start width || formed (columnAt l start width)) true)
 
 -- a number lies between the least and the greatest; only of an integer is it asked
 abbrev pub between : ℤ → ℤ → ℤ → Bool
 between low high z = leZ low z && leZ z high
 
 unfoldable pub betweenAs : (form : ℕ) → List ℕ → (start width : ℕ) → (low high : ℤ) → Bool
-betweenAs form l start width low high = cond (eqb form 0) (between low high (integer (columnAt l start width))) true
+betweenAs form l start width low high = cond (eqb form integerForm) (between low high (integer (columnAt l start width))) true
 
 -- one column: 5 before 6
 unfoldable pub faultAs : List ℕ → (start width form : ℕ) → (low high : ℤ) → ℕ

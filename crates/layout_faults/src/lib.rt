@@ -12,6 +12,7 @@ ghost use Rattle.format.specs.Basics.{member};
 ghost use Rattle.format.specs.Column.{integer};
 ghost use Rattle.format.specs.Layout.{indexA, indexC, sheetA, sheetB, sheetD, sheetE, sheetF, header, element, gridHeader, netHeader, dataNote};
 ghost use Rattle.columns.specs.InRecord.{columnAt};
+ghost use Rattle.layouts.specs.Tables.{integerForm};
 ghost use Rattle.layout_faults.specs.Faults.{faultIn};
 ghost use Rattle.layout_faults.specs.Tables.{unlessSpaces, faultAs, Alike, faultOf, tableFault, listedAt};
 use files::RECORD;
@@ -33,7 +34,7 @@ use layouts::SheetF;
 
 // An integer: 5 where it is malformed, 6 where it is outside its limits.
 fn integer_fault(record: &[u8], start: usize, width: usize, low: i64, high: i64) -> u8
-    ensures { λ r. ⌜ r ≡ faultAs (now («record» .entry)) start width 0 low high ⌝ }
+    ensures { λ r. ⌜ r ≡ faultAs (now («record» .entry)) start width integerForm low high ⌝ }
 {
     let Column::Value(z) = columns::column_at(record, start, width) else {
         return 5;

@@ -34,11 +34,20 @@ tabled (c ∷ cs) = cond (isTabled (c .what)) (c ∷ tabled cs) (tabled cs)
 
 -- a column's form, by the number that the code has for it: INTEGER, INTEGER_OR_SPACES, BLANK. Text is in no table; like a blank, it is neither judged nor
 -- changed
+abbrev pub integerForm : ℕ
+integerForm = 0
+
+abbrev pub integerOrSpacesForm : ℕ
+integerOrSpacesForm = 1
+
+abbrev pub blankForm : ℕ
+blankForm = 2
+
 abbrev pub formOf : What → ℕ
-formOf text = 2
-formOf blank = 2
-formOf (integral rule) = 0
-formOf integralOrSpaces = 1
+formOf text = blankForm
+formOf blank = blankForm
+formOf (integral rule) = integerForm
+formOf integralOrSpaces = integerOrSpacesForm
 
 unfoldable pub formsOf : List Col → List ℕ
 formsOf l = map (λ (c : Col). formOf (c .what)) l

@@ -1,6 +1,9 @@
 ghost use mathlib.Core.Path.{_≡_};
 ghost use Rattle.format.specs.Layout.{indexB};
-ghost use Rattle.layouts.specs.Tables.{spansOf};
+ghost use Rattle.layouts.specs.Tables.{spansOf, startsOf, widthsOf, formsOf, tabled, Lows, Highs};
+use super::BLANK;
+use super::Bytes1;
+use super::Limits1;
 use super::Span;
 use super::Spans11;
 
@@ -76,5 +79,35 @@ impl IndexB {
             Span(Self::SHEET_10_START, Self::SHEET_10_WIDTH),
             Span(Self::BLANK_START, Self::BLANK_WIDTH),
         ]
+    }
+
+    pub fn starts() -> Bytes1
+        ensures { λ r. ⌜ r ≡ startsOf (tabled indexB) ⌝ }
+    {
+        [80]
+    }
+
+    pub fn widths() -> Bytes1
+        ensures { λ r. ⌜ r ≡ widthsOf (tabled indexB) ⌝ }
+    {
+        [4]
+    }
+
+    pub fn forms() -> Bytes1
+        ensures { λ r. ⌜ r ≡ formsOf (tabled indexB) ⌝ }
+    {
+        [BLANK]
+    }
+
+    pub fn lows() -> Limits1
+        ensures { λ r. ⌜ Lows indexB r ⌝ }
+    {
+        [0]
+    }
+
+    pub fn highs() -> Limits1
+        ensures { λ r. ⌜ Highs indexB r ⌝ }
+    {
+        [0]
     }
 }

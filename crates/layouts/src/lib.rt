@@ -9,7 +9,7 @@
 // - forms: what each of these columns holds, one of the numbers below;
 // - lows, highs: the least and the greatest number allowed in each, of a list its ends; of an integer or spaces, those of any sign in its width; 0 of a
 //   blank. The grid's data has neither: its integers may have any sign.
-// Sheet c, index b and the data of attributes hold no number; they have no tables.
+// The data of attributes is text alone; it has no tables.
 mod data_2d;
 mod data_3d;
 mod data_attribute;
@@ -86,6 +86,8 @@ pub type Spans22 = [Span; 22];
 
 pub type Spans24 = [Span; 24];
 
+pub type Bytes1 = [u8; 1];
+
 pub type Bytes5 = [u8; 5];
 
 pub type Bytes6 = [u8; 6];
@@ -103,6 +105,8 @@ pub type Bytes16 = [u8; 16];
 pub type Bytes18 = [u8; 18];
 
 pub type Bytes19 = [u8; 19];
+
+pub type Limits1 = [i64; 1];
 
 pub type Limits5 = [i64; 5];
 

@@ -2,9 +2,9 @@ ghost use mathlib.Core.Path.{_≡_};
 ghost use Rattle.format.specs.Layout.{sheetB};
 ghost use Rattle.layouts.specs.Tables.{spansOf, startsOf, widthsOf, formsOf, tabled, Lows, Highs};
 use super::BLANK;
-use super::Bytes12;
+use super::Bytes13;
 use super::INTEGER;
-use super::Limits12;
+use super::Limits13;
 use super::Span;
 use super::Spans13;
 
@@ -93,19 +93,19 @@ impl SheetB {
         ]
     }
 
-    pub fn starts() -> Bytes12
+    pub fn starts() -> Bytes13
         ensures { λ r. ⌜ r ≡ startsOf (tabled sheetB) ⌝ }
     {
-        [0, 7, 14, 21, 31, 37, 44, 47, 54, 61, 68, 75]
+        [0, 7, 14, 21, 28, 31, 37, 44, 47, 54, 61, 68, 75]
     }
 
-    pub fn widths() -> Bytes12
+    pub fn widths() -> Bytes13
         ensures { λ r. ⌜ r ≡ widthsOf (tabled sheetB) ⌝ }
     {
-        [7, 7, 7, 7, 6, 7, 3, 7, 7, 7, 7, 9]
+        [7, 7, 7, 7, 3, 6, 7, 3, 7, 7, 7, 7, 9]
     }
 
-    pub fn forms() -> Bytes12
+    pub fn forms() -> Bytes13
         ensures { λ r. ⌜ r ≡ formsOf (tabled sheetB) ⌝ }
     {
         [
@@ -113,6 +113,7 @@ impl SheetB {
             INTEGER, // lower left Y
             INTEGER, // upper right X
             INTEGER, // upper right Y
+            BLANK, // unjudged
             INTEGER, // element count
             INTEGER, // record count
             INTEGER, // unit
@@ -124,7 +125,7 @@ impl SheetB {
         ]
     }
 
-    pub fn lows() -> Limits12
+    pub fn lows() -> Limits13
         ensures { λ r. ⌜ Lows sheetB r ⌝ }
     {
         [
@@ -132,6 +133,7 @@ impl SheetB {
             -999999, // lower left Y
             -999999, // upper right X
             -999999, // upper right Y
+            0, // unjudged
             0, // element count
             0, // record count
             0, // unit
@@ -143,7 +145,7 @@ impl SheetB {
         ]
     }
 
-    pub fn highs() -> Limits12
+    pub fn highs() -> Limits13
         ensures { λ r. ⌜ Highs sheetB r ⌝ }
     {
         [
@@ -151,6 +153,7 @@ impl SheetB {
             9999999, // lower left Y
             9999999, // upper right X
             9999999, // upper right Y
+            0, // unjudged
             999999, // element count
             9999999, // record count
             999, // unit

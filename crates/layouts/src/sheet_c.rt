@@ -1,6 +1,9 @@
 ghost use mathlib.Core.Path.{_≡_};
 ghost use Rattle.format.specs.Layout.{sheetC};
-ghost use Rattle.layouts.specs.Tables.{spansOf};
+ghost use Rattle.layouts.specs.Tables.{spansOf, startsOf, widthsOf, formsOf, tabled, Lows, Highs};
+use super::BLANK;
+use super::Bytes1;
+use super::Limits1;
 use super::Span;
 use super::Spans9;
 
@@ -66,5 +69,35 @@ impl SheetC {
             Span(Self::NEIGHBOUR_8_START, Self::NEIGHBOUR_8_WIDTH),
             Span(Self::BLANK_START, Self::BLANK_WIDTH),
         ]
+    }
+
+    pub fn starts() -> Bytes1
+        ensures { λ r. ⌜ r ≡ startsOf (tabled sheetC) ⌝ }
+    {
+        [64]
+    }
+
+    pub fn widths() -> Bytes1
+        ensures { λ r. ⌜ r ≡ widthsOf (tabled sheetC) ⌝ }
+    {
+        [20]
+    }
+
+    pub fn forms() -> Bytes1
+        ensures { λ r. ⌜ r ≡ formsOf (tabled sheetC) ⌝ }
+    {
+        [BLANK]
+    }
+
+    pub fn lows() -> Limits1
+        ensures { λ r. ⌜ Lows sheetC r ⌝ }
+    {
+        [0]
+    }
+
+    pub fn highs() -> Limits1
+        ensures { λ r. ⌜ Highs sheetC r ⌝ }
+    {
+        [0]
     }
 }

@@ -8,18 +8,18 @@ use lib.ListN.{take, getD}
 use Rattle.format.specs.Column.{integer}
 use Rattle.format.specs.Layout.{dataGrid}
 use Rattle.columns.specs.InRecord.{columnAt, spacesAt, writeAt}
-use Rattle.layouts.specs.Tables.{startsOf, widthsOf, formsOf}
+use Rattle.layouts.specs.Tables.{integerForm, integerOrSpacesForm, startsOf, widthsOf, formsOf}
 
 -- one column: its integer, 0 where it has none, in written form
 unfoldable pub rewrittenAt : List ℕ → (start width : ℕ) → List ℕ
 rewrittenAt r start width = (writeAt r start width (integer (columnAt r start width))) .bytes
 
--- a column by its form: 0 an integer; 1 an integer or spaces, "seven spaces in the value column stay"; another, a blank, stays
+-- a column by its form: an integer; an integer or spaces, "seven spaces in the value column stay"; another, a blank, stays
 unfoldable pub rewrittenAs : List ℕ → (start width form : ℕ) → List ℕ
 rewrittenAs r start width form =
-    cond (eqb form 0)
+    cond (eqb form integerForm)
     (rewrittenAt r start width)
-    (cond (eqb form 1) (cond (spacesAt r start width) r (rewrittenAt r start width)) r)
+    (cond (eqb form integerOrSpacesForm) (cond (spacesAt r start width) r (rewrittenAt r start width)) r)
 
 -- column i of the tables; and all of them, one after another
 unfoldable pub rewrittenOf : List ℕ → (i : ℕ) → (starts widths forms : List ℕ) → List ℕ

@@ -2,6 +2,7 @@
 ghost use mathlib.Core.Path.{_≡_};
 ghost use Prim.Native.Nat.{_<_};
 ghost use lib.ListN.{length};
+ghost use Rattle.layouts.specs.Tables.{integerOrSpacesForm};
 ghost use Rattle.normal.specs.Rewriting.{rewrittenAt, rewrittenAs, rewrittenOf, rewrittenAll};
 use layouts::INTEGER;
 use layouts::INTEGER_OR_SPACES;
@@ -16,7 +17,7 @@ fn rewrite(record: &mut [u8], start: usize, width: usize)
 
 // An integer or spaces: spaces stay.
 fn rewrite_unless_spaces(record: &mut [u8], start: usize, width: usize)
-    ensures { λ r. ⌜ now («record» .exit) ≡ rewrittenAs (now («record» .entry)) start width 1 ⌝ }
+    ensures { λ r. ⌜ now («record» .exit) ≡ rewrittenAs (now («record» .entry)) start width integerOrSpacesForm ⌝ }
 {
     if columns::spaces_at(record, start, width) {
         return;
