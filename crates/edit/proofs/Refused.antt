@@ -9,7 +9,7 @@ use Rattle.format.specs.Judge.{judgeSheet, sheetIn, AcceptedSheet}
 use Rattle.format.specs.Edit.{RecordList, insertFault, inserted, remove11, removed, blockOf}
 use Rattle.format.specs.Calls.{Edit, insert, remove, plain, conclude}
 use Rattle.format.specs.Run.{Buffer, bufferOf, listOf, call}
-use Rattle.format.proofs.AcceptedSheet.{opened, call-is}
+use Rattle.format.proofs.AcceptedSheet.{same, call-is}
 use Rattle.edit.specs.Plans.{refusedStep}
 
 -- a refusal of judging is the answer
@@ -19,7 +19,7 @@ not-accepted e l used number place j = rw j
 
 module _ {used : ℕ} {l : List ℕ} (a : AcceptedSheet used l) where
   concluded : (n : ℕ) (new : RecordList) → record { reply = (conclude (suc n) (listOf (record { bytes = l; used = used })) new) .reply; buffer = bufferOf ((conclude (suc n) (listOf (record { bytes = l; used = used })) new) .list) } ≡ refusedStep l used (suc n) 0
-  concluded n new = ap (λ (b : Buffer). record { reply = refused (suc n) 0; buffer = b }) (opened a .same)
+  concluded n new = ap (λ (b : Buffer). record { reply = refused (suc n) 0; buffer = b }) (same a)
 
   pub insert-refused : (place n : ℕ) (block : List ℕ) → insertFault (sheetIn used l) place (drop used l) (map view (blockOf block)) 200000 ≡ suc n → call (insert place block) (record { bytes = l; used = used }) ≡ refusedStep l used (suc n) 0
   unfolding plain

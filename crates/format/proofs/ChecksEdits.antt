@@ -6,24 +6,23 @@ use mathlib.Core.List.{List, [], _∷_, _++_, map}
 use Prim.Native.Nat.{ℕ, zero, suc, pred, _+_, _-_, _*_, _/_, _%_, _≤_, _<_}
 use native.Mathlib.Omega.{arith}
 use lib.Dec.{leb, ltb, eqb}
-use lib.ListN.{length, length-append, length-map, take, drop, getD, take-append-drop, drop-of-length-le}
+use lib.ListN.{length, length-append, length-map, length-drop, take, drop, getD, take-append-drop, drop-of-length-le}
 use lib.Seq.{take-append-seam, getD-append-seam, length-take-le, drop-cons, take-all}
 use borrow.Author.Tests.{leb-true, leb-false, le-leb, ltb-true, ltb-false, lt-ltb, eqb-true, eq-eqb, not-true}
-use Rattle.format.specs.Basics.{fine, flat, unless, chunks, given, refused}
+use Rattle.format.specs.Basics.{fine, unless, chunks, given, refused}
 use Rattle.format.specs.Record.{RecordType, H, E1, E2, E3, E4, E5, E6, E7, E8, G, T, other, typeOf, kindOf, isHead, countIndex, Data, nothing, View, view, viewAs, headerView, elementView, gridView, netView, otherView}
-use Rattle.format.specs.Judge.{File, headersAndItems, openOf, openAfter, dueAfter, faultAt, walk, accepted, judgeSheet}
+use Rattle.format.specs.Judge.{File, headersAndItems, openOf, openAfter, dueAfter, faultAt, walk, AcceptedSheet}
 use Rattle.format.specs.Edit.{blockItem, itemIn, RecordList, absent, dueBehind, openBehind, aboveIn, bodyPlace, blockOf, fault12, notBelow, isBlock, insertFault, remove11, before, aboveBlock}
 use Rattle.format.specs.Calls.{Edit, insert, remove, conclude, plain}
 use Rattle.format.specs.Above.{HeaderAbove}
 use Rattle.format.specs.Run.{Buffer, call, listOf, sheetOf}
 use Rattle.format.specs.Checks.{Check, FirstOf, AnswersFirst, StartsAt, OneItem, OpenLevel, beforeFirst, behindHeader, behindItem, inOrder, headerOrItemFaults, dataFaults, editChecks, beforePlace, LevelWrong, TooMany, TooShort}
 use Rattle.format.proofs.Basics.{and-true, true-and}
-use Rattle.format.proofs.JudgeWalks.{Passes, Walks, good, passes-split, walk-passes, passes-walk}
-use Rattle.format.proofs.Lists.{length-chunks, length-flat}
+use Rattle.format.proofs.JudgeWalks.{Passes, Walks, good, walk-passes, passes-walk}
+use Rattle.format.proofs.Lists.{length-chunks}
 use Rattle.format.proofs.Above.{find-in}
 use Rattle.format.proofs.AboveWayUp.{split-above}
-use Rattle.format.proofs.SheetCounts.{theLaws}
-use Rattle.format.proofs.Run.{Opened, accepted-opened, records-of}
+use Rattle.format.proofs.AcceptedSheet.{inside, accepted-list, all-records, passed}
 use Rattle.format.proofs.EditItems.{item-dataRecords, item-low, dueBehind-data}
 use Rattle.format.proofs.EditInsert.{fine-none, above-is}
 use Rattle.format.proofs.ChecksOrder.{exactly-first, Says, Decides, decides-by, decides-says, surely, says-map, says-and, says-leb, check-first, check-end, values-first, refusal-first}
@@ -325,22 +324,16 @@ module _ (l : ℕ) (pre : List View) (start : List ℕ) (above : HeaderAbove l p
   header-says = says-map (λ x. (above, rw (above-it l pre above) at x)) (λ x. rw (above-it l pre (x .0)) (x .1)) (says-and (says-leb (header .total + 1) 99999) nine-says)
 
 -- ---- 11 to 15
-module _ (b : Buffer) (n m : ℕ) (judged : judgeSheet (b .used) (b .bytes) ≡ accepted n m) where
-  o : Opened theLaws b
-  o = accepted-opened theLaws b n m judged
-
+module _ (b : Buffer) (a : AcceptedSheet (b .used) (b .bytes)) where
   f : File
   f = sheetOf b
 
-  pub whole : (sheetOf b) .partLength + length ((sheetOf b) .body) ≡ b .used / 84
-  whole = records-of theLaws (listOf b) (o .accepted-list) ∙ length-chunks (b .used / 84) (b .bytes)
-
   closed : dueBehind 0 ((sheetOf b) .body) ≡ 0
-  closed = o .accepted-list .ok .walks .1
+  closed = accepted-list a .ok .walks .1
 
   -- the buffer behind the records
   tail-length : b .used + length ((listOf b) .tail) ≡ length (b .bytes)
-  tail-length = omega (arith, ap (λ (x : Buffer). length (x .bytes)) (o .same), ap (λ (x : Buffer). x .used) (o .same), length-append (flat ((listOf b) .records)) ((listOf b) .tail), length-flat ((listOf b) .records) (o .accepted-list .wide))
+  tail-length = omega (arith, length-drop (b .used) (b .bytes), inside a)
 
   module _ (place : ℕ) (block : List ℕ) where
     abbrev views : List View
@@ -370,22 +363,22 @@ module _ (b : Buffer) (n m : ℕ) (judged : judgeSheet (b .used) (b .bytes) ≡ 
 
     module _ (i : OneItem block) (at : placeTest (sheetOf b) place ≡ true) where
       here : ((sheetOf b) .partLength < place) × (bodyPlace (sheetOf b) place ≤ length ((sheetOf b) .body)) × (dueBehind 0 (take (bodyPlace (sheetOf b) place) ((sheetOf b) .body)) ≡ 0)
-      here = place-passes (sheetOf b) place (b .used / 84) whole closed at
+      here = place-passes (sheetOf b) place (b .used / 84) (all-records a) closed at
 
       says13 : Says (leb ((getD views 0 absent) .level) (suc (openBehind 0 0 (beforePlace b place block))) && notBelow ((getD views 0 absent) .level) (drop (bodyPlace (sheetOf b) place) ((sheetOf b) .body))) (LevelWrong b place block)
       says13 = rw (block-view i) (says-and (near-says (sheetOf b) place (start .level)) (now-says (sheetOf b) place (start .level) (here .0) (here .2)))
 
       above : start .level ≤ suc (openBehind 0 0 (beforePlace b place block)) → HeaderAbove (start .level) (beforePlace b place block)
-      above near = split-above (start .level) (beforePlace b place block) (omega (arith, block-low i)) (find-in (pred (start .level)) nothing (beforePlace b place block) ((passes-split 0 0 nothing (beforePlace b place block) (drop (bodyPlace (sheetOf b) place) ((sheetOf b) .body)) (rw (take-append-drop (bodyPlace (sheetOf b) place) ((sheetOf b) .body)) (o .accepted-list .ok .walks .0))) .0) (omega (arith, block-low i)) (omega (arith, block-low i)))
+      above near = split-above (start .level) (beforePlace b place block) (omega (arith, block-low i)) (find-in (pred (start .level)) nothing (beforePlace b place block) (passed a place) (omega (arith, block-low i)) (omega (arith, block-low i)))
 
       says14 : start .level ≤ suc (openBehind 0 0 (beforePlace b place block)) → Says (leb ((aboveBlock (sheetOf b) place views) .total + 1) 99999 && (not (eqb (countIndex ((getD views 0 absent) .kind)) 9) || leb ((aboveBlock (sheetOf b) place views) .count (countIndex ((getD views 0 absent) .kind)) + 1) 9) && leb ((sheetOf b) .partLength + length ((sheetOf b) .body) + length views) 200000) (TooMany b place block)
-      says14 near = rw (block-view i, whole, block-count i) (says-and (header-says (start .level) (beforePlace b place block) (take 84 block) (above near)) (says-leb (b .used / 84 + length block / 84) 200000))
+      says14 near = rw (block-view i, all-records a, block-count i) (says-and (header-says (start .level) (beforePlace b place block) (take 84 block) (above near)) (says-leb (b .used / 84 + length block / 84) 200000))
 
       says15 : Says (leb (84 * length views) (length ((listOf b) .tail))) (TooShort b place block)
       says15 = record { yes = λ e. omega (arith, leb-false (84 * length views) (length ((listOf b) .tail)) e, tail-length, block-count i, i .size); no = λ e l. omega (arith, leb-true (84 * length views) (length ((listOf b) .tail)) e, tail-length, block-count i, i .size) }
 
     insertion-first : FirstOf (editChecks (insert place block) b) (insertFault (sheetOf b) place ((listOf b) .tail) views 200000)
-    insertion-first = check-first 10 (placeTest (sheetOf b) place) _ _ _ (place-says (sheetOf b) place (b .used / 84) whole closed) (λ e11. rw (fault12-is views) (check-first 11 (isOneItem views) _ _ _ (decides-says (one-item-decides block)) (λ e12. let i = (one-item-decides block) .yes e12 in check-first 12 _ _ _ _ (says13 i e11) (λ e13. check-first 13 _ _ _ _ (says14 i e11 (near13 i e13)) (λ e14. check-end 14 _ _ (says15 i e11))))))
+    insertion-first = check-first 10 (placeTest (sheetOf b) place) _ _ _ (place-says (sheetOf b) place (b .used / 84) (all-records a) closed) (λ e11. rw (fault12-is views) (check-first 11 (isOneItem views) _ _ _ (decides-says (one-item-decides block)) (λ e12. let i = (one-item-decides block) .yes e12 in check-first 12 _ _ _ _ (says13 i e11) (λ e13. check-first 13 _ _ _ _ (says14 i e11 (near13 i e13)) (λ e14. check-end 14 _ _ (says15 i e11))))))
 
   removal-first : (place : ℕ) → FirstOf (editChecks (remove place) b) (remove11 (sheetOf b) place)
   removal-first place = check-end 10 _ _ (removal-says (sheetOf b) place)
@@ -396,5 +389,5 @@ module _ (b : Buffer) (n m : ℕ) (judged : judgeSheet (b .used) (b .bytes) ≡ 
 
   pub edit-first : (edit : Edit) → AnswersFirst (editChecks edit b) ((call edit b) .reply)
   unfolding call plain
-  edit-first (insert place block) = rw judged (concluded _ _ (insertion-first place block) _ _)
-  edit-first (remove place) = rw judged (concluded _ _ (removal-first place) _ _)
+  edit-first (insert place block) = rw (a .judged) (concluded _ _ (insertion-first place block) _ _)
+  edit-first (remove place) = rw (a .judged) (concluded _ _ (removal-first place) _ _)

@@ -10,11 +10,10 @@ use Rattle.format.specs.Record.{nothing, view}
 use Rattle.format.specs.Part.{partFrom, partFault}
 use Rattle.format.specs.Sheet.{due-a, sheetMachine, partLength, sheetFault}
 use Rattle.format.specs.Judge.{fileOf, walk, headersAndItems, items, accepted, verdict, judge, afterPart, afterStageOne, judgeRecords, judgeSheet}
-use Rattle.format.specs.Run.{Buffer}
 use Rattle.format.specs.Checks.{Walk, FirstOf, Faults, inOrder, FirstFault, StageOneFails, Ten, StageTwo, SheetRefusal}
 use Rattle.format.proofs.JudgeWalks.{Passes, orElse-none, walk-passes}
 use Rattle.format.proofs.ChecksOrder.{first-is}
-use Rattle.format.proofs.ChecksEdits.{whole}
+use Rattle.format.proofs.AcceptedSheet.{accepted-by, all-records}
 use Rattle.format.proofs.ChecksWalks.{stageTwoFault, stage-two-exactly}
 use Rattle.format.proofs.ChecksCounts.{third, one-ten}
 use Rattle.format.proofs.ChecksCounts.{stageThree as stageThreeFault}
@@ -53,10 +52,7 @@ module _ (used : ℕ) (buffer : List ℕ) where
 
   -- the records are those that the used length makes
   pub sheet-accepted : (n m : ℕ) → judgeSheet used buffer ≡ accepted n m ↔ (((number at : ℕ) → SheetRefusal used buffer number at → ⊥) × (n ≡ used / 84) × (m ≡ items (headersAndItems 0 ((fileOf rs) .body))))
-  sheet-accepted n m = (λ e. let h = (sheet-accepted-as n m) .0 e in (h .0, h .1 ∙ whole b n m e, h .2), λ h. let q = (sheet-accepted-as _ _) .1 (h .0, refl, refl) in (sheet-accepted-as n m) .1 (h .0, h .1 ∙ sym (whole b _ _ q), h .2))
-    where
-      b : Buffer
-      b = record { bytes = buffer; used = used }
+  sheet-accepted n m = (λ e. let h = (sheet-accepted-as n m) .0 e in (h .0, h .1 ∙ all-records (accepted-by e), h .2), λ h. let q = (sheet-accepted-as _ _) .1 (h .0, refl, refl) in (sheet-accepted-as n m) .1 (h .0, h .1 ∙ sym (all-records (accepted-by q)), h .2))
 
 -- ---- Which stage a number comes from: 1 from the first alone, 10 from the third alone, 3 from no record that is there
 abbrev OfRecord : ℕ → Type 0

@@ -8,18 +8,18 @@ use native.Mathlib.Omega.{arith}
 use lib.Dec.{leb, ltb}
 use borrow.Author.Tests.{ltb-true, ltb-false}
 use Rattle.format.specs.Basics.{given, refused, unless}
-use Rattle.format.specs.Judge.{accepted, judgeSheet}
+use Rattle.format.specs.Judge.{AcceptedSheet}
 use Rattle.format.specs.Above.{wayFrom, up}
 use Rattle.format.specs.Run.{Buffer, sheetOf}
 use Rattle.format.specs.Checks.{Check, FirstOf, AnswersFirst, wayUpChecks}
 use Rattle.format.proofs.ChecksOrder.{Says, says-and, says-leb, says-map, check-end, values-first, refusal-first}
-use Rattle.format.proofs.ChecksEdits.{whole}
+use Rattle.format.proofs.AcceptedSheet.{all-records}
 
 tested : {A : Type 0} (checks : List Check) (test : Bool) (n : ℕ) (value : A) → FirstOf checks (unless test (suc n)) → AnswersFirst checks (cond test (given value) (refused (suc n) 0))
 tested checks true n value f = values-first checks value f
 tested checks false n value f = refusal-first checks n f
 
-module _ (b : Buffer) (n m : ℕ) (judged : judgeSheet (b .used) (b .bytes) ≡ accepted n m) (number : ℕ) where
+module _ (b : Buffer) (a : AcceptedSheet (b .used) (b .bytes)) (number : ℕ) where
   part-says : Says (ltb ((sheetOf b) .partLength) number) ((number ≡ 0) ⊎ (number ≤ (sheetOf b) .partLength))
   part-says = record { yes = λ e. inr (ltb-false _ _ e); no = λ e. elim [ inl q ↦ omega (arith, ltb-true ((sheetOf b) .partLength) number e) | inr l ↦ omega (arith, ltb-true ((sheetOf b) .partLength) number e) ] }
 
@@ -35,4 +35,4 @@ module _ (b : Buffer) (n m : ℕ) (judged : judgeSheet (b .used) (b .bytes) ≡ 
 
   pub way-up-first : AnswersFirst (wayUpChecks (b .used) (b .bytes) number) (up (b .used) (b .bytes) number)
   unfolding up
-  way-up-first = rw (judged, whole b n m judged) (tested _ (ltb ((sheetOf b) .partLength) number && leb number (b .used / 84)) 16 (wayFrom (sheetOf b) number) (check-end 16 _ _ (says-map regroup group (says-and part-says (says-leb number (b .used / 84))))))
+  way-up-first = rw (a .judged, all-records a) (tested _ (ltb ((sheetOf b) .partLength) number && leb number (b .used / 84)) 16 (wayFrom (sheetOf b) number) (check-end 16 _ _ (says-map regroup group (says-and part-says (says-leb number (b .used / 84))))))

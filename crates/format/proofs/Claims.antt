@@ -23,12 +23,12 @@ use Rattle.format.proofs.JudgeWalks.{headersAndItems-append, walk-passe
 use Rattle.format.proofs.JudgeCounts.{Agree, counted-at}
 use Rattle.format.proofs.Above.{dataRecords-head}
 use Rattle.format.proofs.JudgeAccepted.{Ok, accepted-ok}
-use Rattle.format.proofs.JudgeStages.{sheet-stages, record-stages}
 use Rattle.format.proofs.JudgeMeaning.{meaning}
 use Rattle.format.proofs.ColumnRoundTrip.{round-trip}
 use Rattle.format.proofs.Corners.{split-only, split-joins, split-answers, refused-unjoined, unjoined-refused}
 use Rattle.format.proofs.Run.{sound, demand3}
-use Rattle.format.proofs.SheetCounts.{theLaws}
+use Rattle.format.proofs.AcceptedSheet as Accepted
+use Rattle.format.proofs.AcceptedSheet.{accepted-by}
 use Rattle.format.proofs.ChecksAlone.{input-index, input-sheet}
 
 -- what was written reads as that number, for every width and number
@@ -49,16 +49,16 @@ pair-or-16 = split-answers
 
 -- DEMAND 3: a whole list of calls, refused ones included, from any accepted sheet in any buffer
 pub runs : (cs : List Edit) (b : Buffer) (n m : ℕ) → judgeSheet (b .used) (b .bytes) ≡ accepted n m → Runs cs b
-runs = demand3 theLaws
+runs cs b n m e = demand3 cs b (accepted-by e)
 
 -- what it says of the sheet after the list holds of every accepted sheet: its counts are exact, the way up from any record after the sheet part
 -- answers the header above with the number of headers met, and the next call keeps every byte but those of four columns
 pub any-sheet : (b : Buffer) (n m : ℕ) → judgeSheet (b .used) (b .bytes) ≡ accepted n m → Sound b
-any-sheet = sound theLaws
+any-sheet b n m e = sound b (accepted-by e)
 
 -- the body of an accepted sheet is accepted by itself
 pub body-judged : (b : Buffer) (n m : ℕ) → judgeSheet (b .used) (b .bytes) ≡ accepted n m → judge (fileOf (chunks (b .used / 84) (b .bytes))) ≡ accepted n m
-body-judged b n m e = (record-stages _ _ ((sheet-stages (b .used) (b .bytes) _ e) .1)) .1
+body-judged b n m e = Accepted.body-judged (accepted-by e)
 
 -- the counts in document 01's own words, of every body that passes stage two: what stands one level below under a header, of a kind, are the
 -- headers and items of that kind whose header above it is. So the counts that 10 compares are these, accepted or refused

@@ -18,6 +18,7 @@ use Rattle.format.specs.Calls.{Edit}
 use Rattle.format.specs.Above.{up}
 use Rattle.format.specs.Run.{Buffer, call}
 use Rattle.format.specs.Checks.{AnswersFirst, OneItem, editChecks, wayUpChecks, StageOneFails, StageTwo, IndexStageTwo, Ten, LeftOver, AllPass, Missing, dueBehindAll, DueMeans, StageMeans, OpenLevel, headerOrItem, FirstOf, inOrder, headerOrItemFaults, stated, joinChecks, TypeMeans, countOf, JudgedBehind, sheetWalk, indexWalk, ofPart, SheetRefusal, IndexRefusal, stageOne, stageTwo, stageThree}
+use Rattle.format.proofs.AcceptedSheet.{accepted-by}
 use Rattle.format.proofs.ChecksJudging.{sheet-refused, sheet-accepted, fault-number}
 use Rattle.format.proofs.ChecksIndex.{index-refused, index-accepted}
 use Rattle.format.proofs.ChecksAlone.{join-first, type-means, count-means}
@@ -129,7 +130,7 @@ blocks-that-are-none = block-none
 -- "then 11 to 15 in order": of an accepted sheet the first that applies, at record 0, and exactly where none applies the new used length. To a
 -- removal only 11 ever does
 pub edits-in-order : (edit : Edit) (b : Buffer) (n m : ℕ) → judgeSheet (b .used) (b .bytes) ≡ accepted n m → AnswersFirst (editChecks edit b) ((call edit b) .reply)
-edits-in-order edit b n m e = edit-first b n m e edit
+edits-in-order edit b n m e = edit-first b (accepted-by e) edit
 
 -- ---- The way up
 -- "The way up judges the sheet first (1 to 10)"
@@ -139,4 +140,4 @@ way-up-judges-first used buffer number at record-number e = rw e
 
 -- "then 17"
 pub way-up-in-order : (b : Buffer) (n m : ℕ) → judgeSheet (b .used) (b .bytes) ≡ accepted n m → (number : ℕ) → AnswersFirst (wayUpChecks (b .used) (b .bytes) number) (up (b .used) (b .bytes) number)
-way-up-in-order = way-up-first
+way-up-in-order b n m e = way-up-first b (accepted-by e)

@@ -1,15 +1,14 @@
--- What an accepted answer says of the stages before it: the used length, the sheet part, the body. Assumes nothing.
+-- What an accepted answer says of the stages before it: the used length and the sheet part. Assumes nothing.
 use mathlib.Core.Path.{_≡_, refl}
 use mathlib.Core.Bool.{Bool, true, false, _&&_}
 use mathlib.Core.List.{List}
-use Prim.Native.Nat.{ℕ, _*_, _/_, _%_, _≤_, _<_}
+use Prim.Native.Nat.{ℕ, _*_, _%_, _≤_, _<_}
 use native.Mathlib.Omega.{arith}
 use lib.Dec.{leb, ltb, eqb}
 use lib.ListN.{length}
 use borrow.Author.Tests.{leb-true, ltb-true, eqb-true}
-use Rattle.format.specs.Basics.{Fault, none, fault, Answer, given, chunks, stageOneOk}
-use Rattle.format.specs.Sheet.{sheetFault}
-use Rattle.format.specs.Judge.{Counts, fileOf, judge, judgeRecords, judgeSheet, afterPart, afterStageOne}
+use Rattle.format.specs.Basics.{Fault, none, fault, Answer, given, stageOneOk}
+use Rattle.format.specs.Judge.{Counts, afterPart, afterStageOne}
 use Rattle.format.proofs.Basics.{and-true}
 
 -- stage one
@@ -34,11 +33,3 @@ stage-given false answer counts e = let z : _≡_ {A = ℕ} 0 1 = cc in absurd (
 pub part-given : (f : Fault) (answer : Answer Counts) (counts : Counts) → afterPart f answer ≡ given counts → (f ≡ none) × (answer ≡ given counts)
 part-given none answer counts e = (refl, e)
 part-given (fault number at) answer counts e = let z : _≡_ {A = ℕ} 0 1 = cc in absurd (omega arith)
-
-pub sheet-stages : (used : ℕ) (buffer : List ℕ) (counts : Counts) → judgeSheet used buffer ≡ given counts → Whole used buffer × (judgeRecords (chunks (used / 84) buffer) ≡ given counts)
-unfolding judgeSheet
-sheet-stages used buffer counts e = let p = stage-given (stageOneOk used buffer) (judgeRecords (chunks (used / 84) buffer)) counts e in (stage-one used buffer (p .0), p .1)
-
-pub record-stages : (rs : List (List ℕ)) (counts : Counts) → judgeRecords rs ≡ given counts → (sheetFault rs ≡ none) × (judge (fileOf rs) ≡ given counts)
-unfolding judgeRecords
-record-stages rs counts e = part-given (sheetFault rs) (judge (fileOf rs)) counts e

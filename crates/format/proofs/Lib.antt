@@ -27,9 +27,9 @@ pub mod EditRecords
 pub mod EditMoves
 pub mod Nested
 pub mod SheetCounts
+pub mod AcceptedSheet
 pub mod RunKept
 pub mod Run
-pub mod AcceptedSheet
 pub mod NormalColumns
 pub mod NormalRecords
 pub mod NormalTables

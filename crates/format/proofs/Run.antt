@@ -1,200 +1,120 @@
 -- DEMAND 3 over bytes. Assumes nothing.
 use mathlib.Core.Path.{_≡_, refl, ap, ap₂, sym, _∙_}
-use mathlib.Core.Bool.{Bool, true}
-use mathlib.Core.List.{List, [], _∷_, _++_, map}
-use Prim.Native.Nat.{ℕ, zero, suc, _+_, _*_, _/_, _%_, _≤_, _<_}
+use mathlib.Core.List.{List, [], _∷_, map}
+use Prim.Native.Nat.{ℕ, zero, suc, _+_}
 use native.Mathlib.Omega.{arith}
-use borrow.Author.Tests.{le-leb, eq-eqb, lt-ltb}
-use lib.ListN.{length, length-append, length-map, length-drop, drop, getD}
-use lib.Seq.{drop-at}
-use Rattle.format.specs.Basics.{Fault, none, Answer, given, refused, chunks, flat, stageOneOk}
+use lib.ListN.{length}
+use Rattle.format.specs.Basics.{Answer, given, refused}
 use Rattle.format.specs.Run.{Buffer, Step, call, bufferOf, listOf, insertions, repliesBuffer, repliesPlain, runBuffer, runPlain, sum-of, removals, Runs, Sound, Keeps, KeepsBytes, EachKeeps, elementCount, sheetOf, inFourColumns, moved}
-use Rattle.format.specs.Above.{up, WayAnswered}
-use Rattle.format.specs.Judge.{File, accepted, fileOf, judge, judgeRecords, judgeSheet, afterPart, afterStageOne}
+use Rattle.format.specs.Above.{up}
+use Rattle.format.specs.Judge.{File, fileOf, AcceptedSheet}
 use Rattle.format.specs.Record.{view}
 use Rattle.format.specs.Edit.{RecordList, blockOf, remove11, removed, inserted, insertFault}
 use Rattle.format.specs.Calls.{Edit, conclude, insert, plain, remove}
-use Rattle.format.specs.Sheet.{statedElements, partLength, sheetFault}
-use Rattle.format.proofs.Basics.{true-and}
-use Rattle.format.proofs.JudgeAccepted.{accepted-ok, ok-accepted}
-use Rattle.format.proofs.JudgeStages.{Whole, sheet-stages, record-stages}
-use Rattle.format.proofs.EditInsert.{fits, fine-none, empty-refused}
+use Rattle.format.proofs.EditInsert.{fits, empty-refused}
 use Rattle.format.proofs.EditRemove.{cuts, cut-ok}
-use Rattle.format.proofs.Lists.{Wide, block-wide, wide-chunks, chunks-flat, flat-chunks, length-flat, length-chunks}
+use Rattle.format.proofs.Lists.{Wide, block-wide}
 use Rattle.format.proofs.AboveWayUp.{way-up}
 use Rattle.format.proofs.RunKept.{KeepsList, plain-keeps, plain-size}
-use Rattle.format.proofs.EditRecords.{Lawful, AcceptedList, put-accepted, cut-accepted, put-file, cut-file}
+use Rattle.format.proofs.EditRecords.{AcceptedList, put-accepted, cut-accepted, put-file, cut-file}
+use Rattle.format.proofs.SheetCounts.{theLaws}
+use Rattle.format.proofs.AcceptedSheet.{accepted-list, same, call-is, all-records, verdict-is, open-bufferOf, list-accepted}
 
-list-path : (a b : RecordList) → a .records ≡ b .records → a .tail ≡ b .tail → a ≡ b
-list-path a b p q = λ i. record { records = p i; tail = q i }
+-- ---- one edit of the plain record list keeps it accepted
+step-put : (g : RecordList) (p : ℕ) (blk : List (List ℕ)) → AcceptedList g → Wide blk → (n : ℕ) → insertFault (fileOf (g .records)) p (g .tail) (map view blk) 200000 ≡ n → AcceptedList ((conclude n g (inserted g p blk)) .list)
+step-put g p [] k w zero e = absurd (empty-refused (fileOf (g .records)) (g .tail) p e)
+step-put g p (x ∷ xs) k w zero e = put-accepted theLaws g p x xs k (fits (fileOf (g .records)) (g .tail) p (view x) (map view xs) e) w
+step-put g p blk k w (suc n) e = k
 
-buffer-path : (a b : Buffer) → a .bytes ≡ b .bytes → a .used ≡ b .used → a ≡ b
-buffer-path a b p q = λ i. record { bytes = p i; used = q i }
+step-cut : (g : RecordList) (p : ℕ) → AcceptedList g → (n : ℕ) → remove11 (fileOf (g .records)) p ≡ n → AcceptedList ((conclude n g (removed g p)) .list)
+step-cut g p k zero e = cut-accepted theLaws g p k (cuts (fileOf (g .records)) p e)
+step-cut g p k (suc n) e = k
 
--- records to a buffer and back
-pub open-bufferOf : (g : RecordList) → Wide (g .records) → listOf (bufferOf g) ≡ g
-open-bufferOf g w = list-path _ _ (rw count (chunks-flat (g .records) (g .tail) w)) (drop-at (flat (g .records)) (g .tail) _ (length-flat (g .records) w))
-  where
-    count : 84 * length (g .records) / 84 ≡ length (g .records)
-    count = omega arith
+plain-accepted : (c : Edit) (g : RecordList) → AcceptedList g → AcceptedList ((plain c g) .list)
+unfolding plain
+plain-accepted (insert p bs) g k = step-put g p (blockOf bs) k (block-wide bs) _ refl
+plain-accepted (remove p) g k = step-cut g p k _ refl
 
-module _ (L : Lawful) where
-  step-put : (g : RecordList) (p : ℕ) (blk : List (List ℕ)) → AcceptedList g → Wide blk → (n : ℕ) → insertFault (fileOf (g .records)) p (g .tail) (map view blk) 200000 ≡ n → AcceptedList ((conclude n g (inserted g p blk)) .list)
-  step-put g p [] k w zero e = absurd (empty-refused (fileOf (g .records)) (g .tail) p e)
-  step-put g p (x ∷ xs) k w zero e = put-accepted L g p x xs k (fits (fileOf (g .records)) (g .tail) p (view x) (map view xs) e) w
-  step-put g p blk k w (suc n) e = k
+-- and counts its elements
+count-put : (g : RecordList) (p : ℕ) (bs : List ℕ) (blk : List (List ℕ)) → AcceptedList g → (n : ℕ) → insertFault (fileOf (g .records)) p (g .tail) (map view blk) 200000 ≡ n → (fileOf ((conclude n g (inserted g p blk)) .list .records)) .statedElements + removals (insert p bs) ((conclude n g (inserted g p blk)) .reply) ≡ (fileOf (g .records)) .statedElements + insertions (insert p bs) ((conclude n g (inserted g p blk)) .reply)
+count-put g p bs [] k zero e = absurd (empty-refused (fileOf (g .records)) (g .tail) p e)
+count-put g p bs (x ∷ xs) k zero e = omega (arith, ap (λ (f : File). f .statedElements) (put-file theLaws g p x xs k (fits (fileOf (g .records)) (g .tail) p (view x) (map view xs) e)))
+count-put g p bs blk k (suc n) e = refl
 
-  step-cut : (g : RecordList) (p : ℕ) → AcceptedList g → (n : ℕ) → remove11 (fileOf (g .records)) p ≡ n → AcceptedList ((conclude n g (removed g p)) .list)
-  step-cut g p k zero e = cut-accepted L g p k (cuts (fileOf (g .records)) p e)
-  step-cut g p k (suc n) e = k
+count-cut : (g : RecordList) (p : ℕ) → AcceptedList g → (n : ℕ) → remove11 (fileOf (g .records)) p ≡ n → (fileOf ((conclude n g (removed g p)) .list .records)) .statedElements + removals (remove p) ((conclude n g (removed g p)) .reply) ≡ (fileOf (g .records)) .statedElements + insertions (remove p) ((conclude n g (removed g p)) .reply)
+count-cut g p k zero e = omega (arith, ap (λ (f : File). f .statedElements) (cut-file theLaws g p k (cuts (fileOf (g .records)) p e)), (cut-ok (fileOf (g .records)) p (k .ok) (cuts (fileOf (g .records)) p e) (λ d i. 0)) .1)
+count-cut g p k (suc n) e = refl
 
-  pub plain-accepted : (c : Edit) (g : RecordList) → AcceptedList g → AcceptedList ((plain c g) .list)
-  unfolding plain
-  plain-accepted (insert p bs) g k = step-put g p (blockOf bs) k (block-wide bs) _ refl
-  plain-accepted (remove p) g k = step-cut g p k _ refl
+plain-count : (c : Edit) (g : RecordList) → AcceptedList g → (fileOf ((plain c g) .list .records)) .statedElements + removals c ((plain c g) .reply) ≡ (fileOf (g .records)) .statedElements + insertions c ((plain c g) .reply)
+unfolding plain
+plain-count (insert p bs) g k = count-put g p bs (blockOf bs) k _ refl
+plain-count (remove p) g k = count-cut g p k _ refl
 
-  stage-ok : (g : RecordList) → AcceptedList g → stageOneOk ((bufferOf g) .used) ((bufferOf g) .bytes) ≡ true
-  stage-ok g k = true-and _ _ (true-and _ _ (true-and _ _ (lt-ltb 0 (84 * length (g .records)) (omega (arith, L .two (g .records) (k .sheet), L .inside (g .records) (k .sheet)))) (le-leb (84 * length (g .records)) (length (flat (g .records) ++ g .tail)) (rw (length-append (flat (g .records)) (g .tail)) (omega (arith, length-flat (g .records) (k .wide)))))) (eq-eqb (84 * length (g .records) % 84) 0 (omega arith))) (le-leb (84 * length (g .records)) (84 * 200000) (omega (arith, k .few)))
+-- ---- one call on an accepted sheet
+module _ (b : Buffer) (a : AcceptedSheet (b .used) (b .bytes)) (c : Edit) where
+  abbrev planned : RecordList
+  planned = (plain c (listOf b)) .list
 
-  -- such records, in a buffer, are accepted
-  pub list-judged : (g : RecordList) → AcceptedList g → judgeSheet ((bufferOf g) .used) ((bufferOf g) .bytes) ≡ judge (fileOf (g .records))
-  unfolding judgeSheet judgeRecords
-  list-judged g k = ap (λ (t : Bool). afterStageOne t (judgeRecords ((listOf (bufferOf g)) .records))) (stage-ok g k) ∙ ap (λ (x : RecordList). judgeRecords (x .records)) (open-bufferOf g (k .wide)) ∙ ap (λ (t : Fault). afterPart t (judge (fileOf (g .records)))) (fine-none (sheetFault (g .records)) (k .sheet))
+  planned-accepted : AcceptedList planned
+  planned-accepted = plain-accepted c (listOf b) (accepted-list a)
 
-  pub call-plain : (c : Edit) (g : RecordList) → AcceptedList g → call c (bufferOf g) ≡ record { reply = (plain c g) .reply; buffer = bufferOf ((plain c g) .list) }
-  unfolding call
-  call-plain c g k = rw (list-judged g k, ok-accepted (fileOf (g .records)) (k .ok), open-bufferOf g (k .wide))
+  reply-is : (call c b) .reply ≡ (plain c (listOf b)) .reply
+  reply-is = ap (λ (s : Step). s .reply) (call-is a c)
 
-  -- an accepted buffer is such records
-  pub record Opened (b : Buffer) : Type 0 where
-    pub same : bufferOf (listOf b) ≡ b
-    pub accepted-list : AcceptedList (listOf b)
+  -- leaves it accepted
+  still : AcceptedSheet ((call c b) .buffer .used) ((call c b) .buffer .bytes)
+  still = rw (call-is a c) (list-accepted planned planned-accepted)
 
-  pub accepted-opened : (b : Buffer) (n m : ℕ) → judgeSheet (b .used) (b .bytes) ≡ accepted n m → Opened b
-  accepted-opened b n m e = record {
-    same = buffer-path _ _ (ap (λ (j : ℕ). flat (chunks (b .used / 84) (b .bytes)) ++ drop j (b .bytes)) all ∙ flat-chunks (b .used / 84) (b .bytes) (omega (arith, w .inside))) (rw (length-chunks (b .used / 84) (b .bytes)) (omega (arith, all)));
-    accepted-list = record { wide = wide-chunks (b .used / 84) (b .bytes) (omega (arith, w .inside)); few = rw (length-chunks (b .used / 84) (b .bytes)) (omega (arith, w .few)); sheet = rw (r .0); ok = accepted-ok _ n m (r .1) };
-  }
+  -- leaves the plain list's records and tail
+  list-after : listOf ((call c b) .buffer) ≡ planned
+  list-after = ap (λ (s : Step). listOf (s .buffer)) (call-is a c) ∙ open-bufferOf planned (planned-accepted .wide)
+
+  call-count : elementCount ((call c b) .buffer) + removals c ((call c b) .reply) ≡ elementCount b + insertions c ((call c b) .reply)
+  call-count = ap₂ (λ (g : RecordList) (r : Answer ℕ). (fileOf (g .records)) .statedElements + removals c r) list-after reply-is ∙ plain-count c (listOf b) (accepted-list a) ∙ ap (λ (r : Answer ℕ). elementCount b + insertions c r) (sym reply-is)
+
+  call-keeps : Keeps ((call c b) .reply) c b ((call c b) .buffer)
+  call-keeps = rw (call-is a c) (record { size = plain-size theLaws c (listOf b) (accepted-list a) ∙ ap (λ (x : Buffer). length (x .bytes)) (same a); bytes = go ((plain c (listOf b)) .reply) (plain-keeps theLaws c (listOf b) (accepted-list a)) })
     where
-      w : Whole (b .used) (b .bytes)
-      w = (sheet-stages (b .used) (b .bytes) _ e) .0
+      go : (r : Answer ℕ) → KeepsList r (inFourColumns c (listOf b)) (listOf b) (moved c (listOf b)) planned → KeepsBytes r c b (bufferOf planned)
+      go (given u) h = h
+      go (refused x y) h = ap bufferOf h ∙ same a
 
-      r : (sheetFault ((listOf b) .records) ≡ none) × (judge (fileOf ((listOf b) .records)) ≡ accepted n m)
-      r = record-stages ((listOf b) .records) _ ((sheet-stages (b .used) (b .bytes) _ e) .1)
+-- what holds of an accepted sheet
+pub sound : (b : Buffer) → AcceptedSheet (b .used) (b .bytes) → Sound b
+unfolding up
+sound b a = record {
+  accepts = verdict-is a;
+  ways = λ number l u. rw (a .judged) (way-up (sheetOf b) number (accepted-list a .ok .walks .0) l (omega (arith, all-records a)));
+  keeps = call-keeps b a;
+}
 
-      all : b .used ≡ 84 * (b .used / 84)
-      all = omega (arith, w .even)
+-- ---- a list of calls
+run-accepted : (cs : List Edit) (b : Buffer) → AcceptedSheet (b .used) (b .bytes) → AcceptedSheet ((runBuffer cs b) .used) ((runBuffer cs b) .bytes)
+run-accepted [] b a = a
+run-accepted (c ∷ cs) b a = run-accepted cs ((call c b) .buffer) (still b a c)
 
-  -- the count of elements
-  count-put : (g : RecordList) (p : ℕ) (bs : List ℕ) (blk : List (List ℕ)) → AcceptedList g → (n : ℕ) → insertFault (fileOf (g .records)) p (g .tail) (map view blk) 200000 ≡ n → (fileOf ((conclude n g (inserted g p blk)) .list .records)) .statedElements + removals (insert p bs) ((conclude n g (inserted g p blk)) .reply) ≡ (fileOf (g .records)) .statedElements + insertions (insert p bs) ((conclude n g (inserted g p blk)) .reply)
-  count-put g p bs [] k zero e = absurd (empty-refused (fileOf (g .records)) (g .tail) p e)
-  count-put g p bs (x ∷ xs) k zero e = omega (arith, ap (λ (f : File). f .statedElements) (put-file L g p x xs k (fits (fileOf (g .records)) (g .tail) p (view x) (map view xs) e)))
-  count-put g p bs blk k (suc n) e = refl
+run-list : (cs : List Edit) (b : Buffer) → AcceptedSheet (b .used) (b .bytes) → listOf (runBuffer cs b) ≡ runPlain cs (listOf b)
+run-list [] b a = refl
+run-list (c ∷ cs) b a = run-list cs ((call c b) .buffer) (still b a c) ∙ ap (runPlain cs) (list-after b a c)
 
-  count-cut : (g : RecordList) (p : ℕ) → AcceptedList g → (n : ℕ) → remove11 (fileOf (g .records)) p ≡ n → (fileOf ((conclude n g (removed g p)) .list .records)) .statedElements + removals (remove p) ((conclude n g (removed g p)) .reply) ≡ (fileOf (g .records)) .statedElements + insertions (remove p) ((conclude n g (removed g p)) .reply)
-  count-cut g p k zero e = omega (arith, ap (λ (f : File). f .statedElements) (cut-file L g p k (cuts (fileOf (g .records)) p e)), (cut-ok (fileOf (g .records)) p (k .ok) (cuts (fileOf (g .records)) p e) (λ d i. 0)) .1)
-  count-cut g p k (suc n) e = refl
+run-replies : (cs : List Edit) (b : Buffer) → AcceptedSheet (b .used) (b .bytes) → repliesBuffer cs b ≡ repliesPlain cs (listOf b)
+run-replies [] b a = refl
+run-replies (c ∷ cs) b a = ap₂ _∷_ (reply-is b a c) (run-replies cs ((call c b) .buffer) (still b a c) ∙ ap (repliesPlain cs) (list-after b a c))
 
-  plain-count : (c : Edit) (g : RecordList) → AcceptedList g → (fileOf ((plain c g) .list .records)) .statedElements + removals c ((plain c g) .reply) ≡ (fileOf (g .records)) .statedElements + insertions c ((plain c g) .reply)
-  unfolding plain
-  plain-count (insert p bs) g k = count-put g p bs (blockOf bs) k _ refl
-  plain-count (remove p) g k = count-cut g p k _ refl
+run-keeps : (cs : List Edit) (b : Buffer) → AcceptedSheet (b .used) (b .bytes) → EachKeeps cs b
+run-keeps [] b a = tt
+run-keeps (c ∷ cs) b a = (call-keeps b a c, run-keeps cs ((call c b) .buffer) (still b a c))
 
-  pub run-count : (cs : List Edit) (g : RecordList) → AcceptedList g → (fileOf ((runPlain cs g) .records)) .statedElements + sum-of removals cs (repliesPlain cs g) ≡ (fileOf (g .records)) .statedElements + sum-of insertions cs (repliesPlain cs g)
-  run-count [] g k = refl
-  run-count (c ∷ cs) g k = omega (arith, plain-count c g k, run-count cs ((plain c g) .list) (plain-accepted c g k))
+run-count : (cs : List Edit) (b : Buffer) → AcceptedSheet (b .used) (b .bytes) → elementCount (runBuffer cs b) + sum-of removals cs (repliesBuffer cs b) ≡ elementCount b + sum-of insertions cs (repliesBuffer cs b)
+run-count [] b a = refl
+run-count (c ∷ cs) b a = omega (arith, call-count b a c, run-count cs ((call c b) .buffer) (still b a c))
 
-  pub run-replies : (cs : List Edit) (g : RecordList) → AcceptedList g → repliesBuffer cs (bufferOf g) ≡ repliesPlain cs g
-  run-replies [] g k = refl
-  run-replies (c ∷ cs) g k = rw (call-plain c g k, run-replies cs ((plain c g) .list) (plain-accepted c g k))
-
-  pub run-bytes : (cs : List Edit) (g : RecordList) → AcceptedList g → runBuffer cs (bufferOf g) ≡ bufferOf (runPlain cs g)
-  run-bytes [] g k = refl
-  run-bytes (c ∷ cs) g k = rw (call-plain c g k) (run-bytes cs ((plain c g) .list) (plain-accepted c g k))
-
-  pub run-accepted : (cs : List Edit) (g : RecordList) → AcceptedList g → AcceptedList (runPlain cs g)
-  run-accepted [] g k = k
-  run-accepted (c ∷ cs) g k = run-accepted cs ((plain c g) .list) (plain-accepted c g k)
-
-  -- the sheet part and the body are all its records
-  pub records-of : (g : RecordList) → AcceptedList g → (fileOf (g .records)) .partLength + length ((fileOf (g .records)) .body) ≡ length (g .records)
-  records-of g k = rw (length-map (drop (partLength (g .records)) (g .records)) view, length-drop (partLength (g .records)) (g .records)) (omega (arith, L .inside (g .records) (k .sheet)))
-
-  -- the numbers of an accepted sheet
-  pub list-accepted : (g : RecordList) → AcceptedList g → judgeSheet ((bufferOf g) .used) ((bufferOf g) .bytes) ≡ accepted (length (g .records)) (statedElements (getD (g .records) 1 []))
-  list-accepted g k = list-judged g k ∙ ok-accepted (fileOf (g .records)) (k .ok) ∙ ap₂ accepted (records-of g k) (sym (k .ok .statedElements))
-
-  -- what holds of an accepted sheet
-  pub sound : (b : Buffer) (n m : ℕ) → judgeSheet (b .used) (b .bytes) ≡ accepted n m → Sound b
-  unfolding up
-  sound b n m e = record { accepts = accepts; ways = ways; keeps = keeps }
-    where
-      o : Opened b
-      o = accepted-opened b n m e
-
-      count : length ((listOf b) .records) ≡ b .used / 84
-      count = length-chunks (b .used / 84) (b .bytes)
-
-      judged : judgeSheet (b .used) (b .bytes) ≡ judge (sheetOf b)
-      judged = sym (ap (λ (x : Buffer). judgeSheet (x .used) (x .bytes)) (o .same)) ∙ list-judged (listOf b) (o .accepted-list)
-
-      accepts : judgeSheet (b .used) (b .bytes) ≡ accepted (b .used / 84) (elementCount b)
-      accepts = sym (ap (λ (x : Buffer). judgeSheet (x .used) (x .bytes)) (o .same)) ∙ list-accepted (listOf b) (o .accepted-list) ∙ ap (λ (x : ℕ). accepted x (elementCount b)) count
-
-      whole : (sheetOf b) .partLength + length ((sheetOf b) .body) ≡ b .used / 84
-      whole = records-of (listOf b) (o .accepted-list) ∙ count
-
-      ways : (number : ℕ) → (sheetOf b) .partLength < number → number ≤ b .used / 84 → WayAnswered (sheetOf b) number (up (b .used) (b .bytes) number)
-      ways number l u = rw e (way-up (sheetOf b) number (o .accepted-list .ok .walks .0) l (omega (arith, whole)))
-
-      keeps : (edit : Edit) → Keeps ((call edit b) .reply) edit b ((call edit b) .buffer)
-      keeps edit = rw is (record { size = plain-size L edit (listOf b) (o .accepted-list) ∙ ap (λ (x : Buffer). length (x .bytes)) (o .same); bytes = go ((plain edit (listOf b)) .reply) (plain-keeps L edit (listOf b) (o .accepted-list)) })
-        where
-          is : call edit b ≡ record { reply = (plain edit (listOf b)) .reply; buffer = bufferOf ((plain edit (listOf b)) .list) }
-          is = ap (call edit) (sym (o .same)) ∙ call-plain edit (listOf b) (o .accepted-list)
-
-          go : (r : Answer ℕ) → KeepsList r (inFourColumns edit (listOf b)) (listOf b) (moved edit (listOf b)) ((plain edit (listOf b)) .list) → KeepsBytes r edit b (bufferOf ((plain edit (listOf b)) .list))
-          go (given u) h = h
-          go (refused x y) h = ap bufferOf h ∙ o .same
-
-  -- a call leaves an accepted sheet accepted
-  still : (c : Edit) (b : Buffer) (n m : ℕ) → judgeSheet (b .used) (b .bytes) ≡ accepted n m → judgeSheet ((call c b) .buffer .used) ((call c b) .buffer .bytes) ≡ accepted (length ((plain c (listOf b)) .list .records)) (statedElements (getD ((plain c (listOf b)) .list .records) 1 []))
-  still c b n m e = ap (λ (x : Buffer). judgeSheet (x .used) (x .bytes)) same ∙ list-accepted _ (plain-accepted c (listOf b) (o .accepted-list))
-    where
-      o : Opened b
-      o = accepted-opened b n m e
-
-      same : (call c b) .buffer ≡ bufferOf ((plain c (listOf b)) .list)
-      same = ap (λ (x : Buffer). (call c x) .buffer) (sym (o .same)) ∙ ap (λ (x : Step). x .buffer) (call-plain c (listOf b) (o .accepted-list))
-
-  pub each-keeps : (cs : List Edit) (b : Buffer) (n m : ℕ) → judgeSheet (b .used) (b .bytes) ≡ accepted n m → EachKeeps cs b
-  each-keeps [] b n m e = tt
-  each-keeps (c ∷ cs) b n m e = ((sound b n m e) .keeps c, each-keeps cs ((call c b) .buffer) _ _ (still c b n m e))
-
-  -- DEMAND 3
-  pub demand3 : (cs : List Edit) (b : Buffer) (n m : ℕ) → judgeSheet (b .used) (b .bytes) ≡ accepted n m → Runs cs b
-  demand3 cs b n m e = record {
-    replies = same-replies;
-    buffer = same-buffer;
-    kept = each-keeps cs b n m e;
-    sound = sound (runBuffer cs b) _ _ (ap (λ (x : Buffer). judgeSheet (x .used) (x .bytes)) same-buffer ∙ list-accepted end last);
-    counts = ap₂ (λ (x : ℕ) (rs : List (Answer ℕ)). x + sum-of removals cs rs) same-count same-replies ∙ run-count cs (listOf b) (o .accepted-list) ∙ ap (λ (rs : List (Answer ℕ)). elementCount b + sum-of insertions cs rs) (sym same-replies);
-  }
-    where
-      o : Opened b
-      o = accepted-opened b n m e
-
-      end : RecordList
-      end = runPlain cs (listOf b)
-
-      last : AcceptedList (runPlain cs (listOf b))
-      last = run-accepted cs (listOf b) (o .accepted-list)
-
-      same-replies : repliesBuffer cs b ≡ repliesPlain cs (listOf b)
-      same-replies = ap (λ (x : Buffer). repliesBuffer cs x) (sym (o .same)) ∙ run-replies cs (listOf b) (o .accepted-list)
-
-      same-buffer : runBuffer cs b ≡ bufferOf (runPlain cs (listOf b))
-      same-buffer = ap (λ (x : Buffer). runBuffer cs x) (sym (o .same)) ∙ run-bytes cs (listOf b) (o .accepted-list)
-
-      same-count : elementCount (runBuffer cs b) ≡ statedElements (getD ((runPlain cs (listOf b)) .records) 1 [])
-      same-count = ap elementCount same-buffer ∙ ap (λ (g : RecordList). statedElements (getD (g .records) 1 [])) (open-bufferOf end (last .wide))
+-- DEMAND 3
+pub demand3 : (cs : List Edit) (b : Buffer) → AcceptedSheet (b .used) (b .bytes) → Runs cs b
+demand3 cs b a = record {
+  replies = run-replies cs b a;
+  buffer = sym (same (run-accepted cs b a)) ∙ ap bufferOf (run-list cs b a);
+  kept = run-keeps cs b a;
+  sound = sound (runBuffer cs b) (run-accepted cs b a);
+  counts = run-count cs b a;
+}

@@ -23,8 +23,8 @@ use Rattle.format.specs.declared.Judged.the-variants as Judged
 use Rattle.format.proofs.Basics.{and-true, first-zero}
 use Rattle.format.proofs.Lists.{Wide, wide-chunks, wide-drop}
 use Rattle.format.proofs.JudgeWalks.{Passes}
-use Rattle.format.proofs.JudgeAccepted.{accepted-ok}
-use Rattle.format.proofs.JudgeStages.{stage-one, stage-given, sheet-stages, record-stages}
+use Rattle.format.proofs.JudgeStages.{stage-one, stage-given}
+use Rattle.format.proofs.AcceptedSheet.{accepted-by, whole-records, inside, accepted-list}
 use Rattle.records.specs.declared.Held.{Held}
 use Rattle.records.specs.declared.Held.the-variants as Held
 use Rattle.records.specs.Entry.{toData, entryOf}
@@ -169,16 +169,14 @@ body-form (r ∷ rs) opened (suc due) held wide p =
 accepted-room : (used : ℕ) (buffer : List ℕ) (a : Answer Judge.Counts) (counts : Judge.Counts) → Judge.afterStageOne (stageOneOk used buffer) a ≡ given counts → (used ≤ length buffer) × (used % 84 ≡ 0)
 accepted-room used buffer a counts e = let w = stage-one used buffer (stage-given (stageOneOk used buffer) a counts e .0) in (w .inside, w .even)
 
-sheet-form : (used : ℕ) (buffer : List ℕ) (counts : Judge.Counts) → Judge.judgeSheet used buffer ≡ given counts → rewritten (Due.Sheet SheetA) (chunks (used / 84) buffer) ≡ normalSheetRecords (chunks (used / 84) buffer)
+sheet-form : (used : ℕ) (buffer : List ℕ) → Judge.AcceptedSheet used buffer → rewritten (Due.Sheet SheetA) (chunks (used / 84) buffer) ≡ normalSheetRecords (chunks (used / 84) buffer)
 unfolding normalSheetRecords Sheet.partLength behindPart dueData
-sheet-form used buffer counts e =
+sheet-form used buffer a =
     let rs = chunks (used / 84) buffer in
-    let stages = sheet-stages used buffer counts e in
-    let ok = accepted-ok (Judge.fileOf rs) (counts .records) (counts .items) (record-stages rs counts (stages .1) .1) in
     let n = partFrom Sheet.sheetMachine Sheet.due-a rs in
-    let wide : Wide rs = wide-chunks (used / 84) buffer (omega (arith, stages .0 .inside)) in
+    let wide : Wide rs = accepted-list a .wide in
     part-form Sheet.due-a rs wide
-    ∙ ap (λ (x : List (List ℕ)). normalPart Sheet.due-a (take n rs) ++ x) (body-form (drop n rs) 0 0 Held.Nothing (wide-drop n rs wide) (ok .walks .0))
+    ∙ ap (λ (x : List (List ℕ)). normalPart Sheet.due-a (take n rs) ++ x) (body-form (drop n rs) 0 0 Held.Nothing (wide-drop n rs wide) (accepted-list a .ok .walks .0))
 
 index-form : (rs : List (List ℕ)) → Wide rs → rewritten (Due.Index IndexA) rs ≡ normalIndexRecords rs
 unfolding normalIndexRecords
@@ -219,14 +217,16 @@ module _ (used : ℕ) (buffer : List ℕ) (j : Judged) where
     sheet-refused second n r e = refused-form used j (Judge.judgeSheet used buffer) told (normalSheetRecords (chunks (used / 84) buffer)) second n r e
 
     module _ (n m : ℕ) (e : j ≡ Judged.Accepted n m) where
+      a : Judge.AcceptedSheet used buffer
+      a = accepted-by (given-counts used j (Judge.judgeSheet used buffer) told n m e)
+
       pub sheet-room : (used ≤ length buffer) × (used % 84 ≡ 0)
-      unfolding Judge.judgeSheet
-      sheet-room = accepted-room used buffer (Judge.judgeRecords (chunks (used / 84) buffer)) _ (given-counts used j (Judge.judgeSheet used buffer) told n m e)
+      sheet-room = (inside a, whole-records a .even)
 
       pub sheet-written : (second : List ℕ) (r : Outcome ℕ) → r ≡ writtenTo used (rewritten (Due.Sheet SheetA) (chunks (used / 84) buffer)) second → r ≡ normalSheet used buffer second
       unfolding normalSheet
       sheet-written second r h =
-          h ∙ rw (sheet-form used buffer _ (given-counts used j (Judge.judgeSheet used buffer) told n m e)) (accepted-form used j (Judge.judgeSheet used buffer) told n m e (normalSheetRecords (chunks (used / 84) buffer)) second)
+          h ∙ rw (sheet-form used buffer a) (accepted-form used j (Judge.judgeSheet used buffer) told n m e (normalSheetRecords (chunks (used / 84) buffer)) second)
 
   module _ (told : judgedAnswer j ≡ Judge.judgeIndex used buffer) where
     pub index-refused : (second : List ℕ) (n r : ℕ) → j ≡ Judged.Refused n r → record { answer = writtenAnswer (Written.Refused n r); bytes = second } ≡ normalIndex used buffer second
