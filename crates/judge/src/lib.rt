@@ -3,6 +3,7 @@
 // place.
 use files::Stride;
 use format::Judged;
+use part_and_index::FourCorners;
 use part_and_index::SheetPart;
 use records::Entry;
 use records::Held;
@@ -28,7 +29,7 @@ pub struct Sheet {
     pub items: usize,
     pub part: usize,
     pub unit: u64,
-    pub corners: [i64; 8],
+    pub corners: FourCorners,
     pub due: usize,
     pub opened: usize,
     pub start: usize,

@@ -6,6 +6,7 @@ ghost use lib.ListN.{length, take};
 ghost use Rattle.format.specs.Text.{same};
 ghost use Rattle.format.specs.Sheet.{unitOf, wholesOf, fractionsOf, fractionsOk, fCountOk};
 ghost use Rattle.part_and_index.specs.Faults.{faultOfSheetA, faultOfSheetB, faultOfSheetD, faultOfSheetE, faultOfIndexA, cornerOf, cornersOf};
+use super::FourCorners;
 use format::Number;
 use layouts::IndexA;
 use layouts::SheetB;
@@ -64,7 +65,7 @@ pub(crate) fn fault_of_sheet_b(record: &[u8], level: usize) -> u8
 }
 
 // The whole metres of record b, in its order.
-pub(crate) fn wholes_of(record: &[u8]) -> [i64; 8]
+pub(crate) fn wholes_of(record: &[u8]) -> FourCorners
     requires { ⌜ length (now «record») ≡ 84 ⌝ }
     ensures { λ r. ⌜ r ≡ wholesOf (now («record» .entry)) ⌝ }
 {
@@ -103,7 +104,7 @@ pub(crate) fn fault_of_sheet_d(record: &[u8]) -> u8
 }
 
 // The fractions of record e, in the order of record b.
-pub(crate) fn fractions_of(record: &[u8]) -> [i64; 8]
+pub(crate) fn fractions_of(record: &[u8]) -> FourCorners
     requires { ⌜ length (now «record») ≡ 84 ⌝ }
     ensures { λ r. ⌜ r ≡ fractionsOf (now («record» .entry)) ⌝ }
 {
@@ -120,7 +121,7 @@ pub(crate) fn fractions_of(record: &[u8]) -> [i64; 8]
 }
 
 // Whether each of eight fractions goes with its whole.
-fn fractions_ok(unit: u64, wholes: [i64; 8], fractions: [i64; 8]) -> bool
+fn fractions_ok(unit: u64, wholes: FourCorners, fractions: FourCorners) -> bool
     ensures { λ r. ⌜ r ≡ fractionsOk unit wholes fractions ⌝ }
 {
     let mut i = 0;
@@ -137,8 +138,8 @@ fn fractions_ok(unit: u64, wholes: [i64; 8], fractions: [i64; 8]) -> bool
 pub(crate) fn fault_of_sheet_e(
     record: &[u8],
     unit: u64,
-    wholes: [i64; 8],
-    fractions: [i64; 8],
+    wholes: FourCorners,
+    fractions: FourCorners,
 ) -> u8
     requires { ⌜ length (now «record») ≡ 84 ⌝ }
     ensures { λ r. ⌜ r ≡ faultOfSheetE unit wholes fractions (now («record» .entry)) ⌝ }
@@ -165,7 +166,7 @@ fn corner(unit: u64, whole: i64, fraction: i64) -> i64
 }
 
 // The corners of eight wholes and their fractions.
-pub(crate) fn corners_of(unit: u64, wholes: [i64; 8], fractions: [i64; 8]) -> [i64; 8]
+pub(crate) fn corners_of(unit: u64, wholes: FourCorners, fractions: FourCorners) -> FourCorners
     ensures { λ r. ⌜ r ≡ cornersOf unit wholes fractions ⌝ }
 {
     let mut corners = [0; 8];

@@ -14,6 +14,9 @@ mod due;
 mod faults;
 mod progress;
 
+// x and y of a sheet's four corners in the order of record b: whole metres, the fractions that belong to them, or millimetres.
+pub type FourCorners = [i64; 8];
+
 // The sheet part of a file: the first fault, 0 for none, and its record; else how many records it has, the two counts and the unit that record 2 states, and
 // the corners in millimetres, in the order of record 2, that the last e record gives.
 pub struct SheetPart {
@@ -23,7 +26,7 @@ pub struct SheetPart {
     pub elements: usize,
     pub records: usize,
     pub unit: u64,
-    pub corners: [i64; 8],
+    pub corners: FourCorners,
 }
 
 // A fault, 0 for none, and its record.

@@ -3,6 +3,7 @@ ghost use mathlib.Core.Path.{_≡_};
 ghost use lib.ListN.{length};
 ghost use Rattle.part_and_index.specs.Faults.{faultOfSheetA, faultOfSheetB};
 ghost use Rattle.part_and_index.specs.Progress.{started, put, saidA, saidB, overE, stepped};
+use super::FourCorners;
 use super::due;
 use super::due::Due;
 use super::faults;
@@ -16,10 +17,10 @@ pub struct Progress {
     pub due: Due,
     pub level: usize,
     pub unit: u64,
-    pub wholes: [i64; 8],
+    pub wholes: FourCorners,
     pub elements: usize,
     pub records: usize,
-    pub corners: [i64; 8],
+    pub corners: FourCorners,
 }
 
 // Before the first record.
