@@ -19,7 +19,7 @@ use Rattle.format.specs.Layout.{find, column, integerAt, sheetB, sheetE}
 use Rattle.format.specs.Sheet.{wholesOf, fractionsOf, fractionsOk}
 use Rattle.columns.specs.InRecord.{columnAt}
 use Rattle.format.proofs.Signed.{stored, back}
-use Rattle.part_and_index.specs.Faults.{joined, cornerOf, cornersOf}
+use Rattle.part_and_index.specs.Progress.{joined, cornerOf, cornersOf}
 use Rattle.part_and_index.proofs.FaultLaws.{integer-there}
 
 pub stored-is : (z y : ℤ) → mag z < 2 ^ 63 → z ≡ y → stored z ≡ y

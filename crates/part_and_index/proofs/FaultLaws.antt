@@ -23,7 +23,7 @@ use Rattle.columns.proofs.Laws.{column-at-inside}
 use Rattle.columns.proofs.NumberIn.{number-in-below}
 use Rattle.layout_faults.specs.Faults.{faultIn}
 use Rattle.layout_faults.proofs.Laws.{fault-in-record}
-use Rattle.part_and_index.specs.Faults.{faultOfSheetA, faultOfSheetB, faultOfSheetD, faultOfSheetE, faultOfIndexA}
+use Rattle.part_and_index.specs.Steps.{faultOfSheetA, faultOfSheetB, faultOfSheetD, faultOfSheetE, faultOfIndexA}
 
 -- ---- the numbers in the columns of a record, as the code reads them
 module _ (r : List ℕ) (start width : ℕ) (wide : length r ≡ 84) (inside : start + width ≤ 84) (narrow : width ≤ 18) where

@@ -23,7 +23,8 @@ use Rattle.part_and_index.specs.declared.progress.Progress.{Progress}
 use Rattle.part_and_index.specs.declared.SheetPart.{SheetPart}
 use Rattle.part_and_index.specs.Due.{dueIn, dueAt, dueBehind, isOver}
 use Rattle.part_and_index.specs.Result.{refusedPart}
-use Rattle.part_and_index.specs.Progress.{phaseBy, phaseOf, stageBy, stageOf, faultOf, put, said, stepped, passedPart, walkedFrom}
+use Rattle.part_and_index.specs.Progress.{phaseBy, phaseOf, stageBy, stageOf, faultOf, put, said, stepped}
+use Rattle.part_and_index.specs.Steps.{passedPart, walkedFrom}
 
 -- ---- a progress over a sheet part, and one over an index
 abbrev pub OfSheet : Due → Type 0

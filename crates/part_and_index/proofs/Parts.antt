@@ -28,9 +28,9 @@ use Rattle.part_and_index.specs.declared.due.Due.the-variants.{SheetA, S
 use Rattle.part_and_index.specs.declared.progress.Progress.{Progress}
 use Rattle.part_and_index.specs.declared.SheetPart.{SheetPart}
 use Rattle.part_and_index.specs.Due.{dueIn, dueBehind, isOver}
-use Rattle.part_and_index.specs.Faults.{cornerOf, cornersOf}
 use Rattle.part_and_index.specs.Result.{soundPart, partAnswer, sheetPartOf, faultAnswer, indexFaultOf}
-use Rattle.part_and_index.specs.Progress.{phaseBy, phaseOf, stageOf, faultOf, started, put, said, stepped, passedPart, walkedFrom}
+use Rattle.part_and_index.specs.Progress.{phaseBy, phaseOf, stageOf, faultOf, started, put, cornerOf, cornersOf, said, stepped}
+use Rattle.part_and_index.specs.Steps.{passedPart, walkedFrom}
 use Rattle.part_and_index.proofs.Meaning.{OfSheet, step-taken, due-stepped, over-phase, after-phase, still-sheet, progressFrom, partBy, walked-sheet, walked-index}
 
 -- ---- numbers fit the columns that they were read from

@@ -18,8 +18,8 @@ use Rattle.part_and_index.specs.declared.due.Due.{Due}
 use Rattle.part_and_index.specs.declared.due.Due.the-variants.{SheetA, SheetB, SheetC, SheetD, SheetE, SheetF, IndexA, IndexB, IndexC, Over}
 use Rattle.part_and_index.specs.declared.progress.Progress.{Progress}
 use Rattle.part_and_index.specs.Due.{dueBehind}
-use Rattle.part_and_index.specs.Faults.{faultOfSheetA, faultOfSheetB, faultOfSheetD, faultOfSheetE, faultOfIndexA, cornersOf}
-use Rattle.part_and_index.specs.Progress.{phaseBy, phaseOf, stageBy, stageOf, faultOf, put, saidA, saidB, overE, said, stepped}
+use Rattle.part_and_index.specs.Progress.{phaseBy, phaseOf, stageBy, stageOf, faultOf, put, cornersOf, saidA, saidB, said, stepped}
+use Rattle.part_and_index.specs.Steps.{faultOfSheetA, faultOfSheetB, faultOfSheetD, faultOfSheetE, faultOfIndexA, overE}
 use Rattle.part_and_index.proofs.FaultLaws.{number-there, columns-first, c-unjudged, index-b-unjudged}
 use Rattle.part_and_index.proofs.Meaning.{step-taken}
 

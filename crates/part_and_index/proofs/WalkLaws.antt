@@ -18,7 +18,8 @@ use Rattle.part_and_index.specs.declared.progress.Progress.{Progress}
 use Rattle.part_and_index.specs.declared.SheetPart.{SheetPart}
 use Rattle.part_and_index.specs.Due.{isOver}
 use Rattle.part_and_index.specs.Result.{refusedPart}
-use Rattle.part_and_index.specs.Progress.{stepped, passedPart, walkedFrom}
+use Rattle.part_and_index.specs.Progress.{stepped}
+use Rattle.part_and_index.specs.Steps.{passedPart, walkedFrom}
 
 pub walk-starts : (rs : List (List ℕ)) (p q : Progress) → p ≡ q → walkedFrom p 0 (drop 0 rs) ≡ walkedFrom q 0 rs
 walk-starts rs p q e = ap (λ (p : Progress). walkedFrom p 0 rs) e

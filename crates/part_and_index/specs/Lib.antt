@@ -1,5 +1,5 @@
 pub mod Result
 pub mod Cases
 pub mod Due
-pub mod Faults
 pub mod Progress
+pub mod Steps

@@ -1,21 +1,19 @@
 -- Judging a sheet part or an index a record at a time: where a progress stands among format's phases and stages, and one record more. Assumes nothing.
 use mathlib.Core.Bool.{cond}
 use mathlib.Core.List.{List, [], _∷_}
-use Prim.Native.Nat.{ℕ, suc}
+use Prim.Native.Nat.{ℕ}
 use lib.Dec.{eqb}
 use lib.IntN.{ℤ, pos}
 use lib.ListN.{length, replicate}
-use Rattle.format.specs.Basics.{first}
+use Rattle.format.specs.Basics.{Answer, given, refused, first}
+use Rattle.format.specs.Corner.{join}
 use Rattle.format.specs.Layout.{numberAt, sheetA, sheetB}
 use Rattle.format.specs.Sheet as Sheet
 use Rattle.format.specs.Index as Index
 use Rattle.part_and_index.specs.declared.due.Due.{Due}
 use Rattle.part_and_index.specs.declared.due.Due.the-variants.{SheetA, SheetB, SheetC, SheetD, SheetE, SheetF, IndexA, IndexB, IndexC, Over}
 use Rattle.part_and_index.specs.declared.progress.Progress.{Progress}
-use Rattle.part_and_index.specs.declared.SheetPart.{SheetPart}
-use Rattle.part_and_index.specs.Due.{dueBehind, isOver}
-use Rattle.part_and_index.specs.Faults.{faultOfSheetE, cornersOf}
-use Rattle.part_and_index.specs.Result.{refusedPart}
+use Rattle.part_and_index.specs.Due.{dueBehind}
 
 -- ---- where a progress stands
 -- the phase of a sheet part, which is over where no record of one is due
@@ -63,6 +61,19 @@ started d = record { fault = 0; due = d; level = 0; unit = 0; wholes = replicate
 abbrev pub put : Progress → (fault : ℕ) → Due → Progress
 put p n d = record { fault = n; due = d; level = p .level; unit = p .unit; wholes = p .wholes; elements = p .elements; records = p .records; corners = p .corners }
 
+-- a corner in millimetres, as joining answers it; 0 where it refuses, which a record without fault never has (proofs/Parts: corners-from)
+abbrev pub joined : Answer ℤ → ℤ
+joined (given z) = z
+joined (refused number at) = pos 0
+
+unfoldable pub cornerOf : (unit : ℕ) → (whole fraction : ℤ) → ℤ
+cornerOf unit whole fraction = joined (join unit whole fraction)
+
+abbrev pub cornersOf : (unit : ℕ) → (wholes fractions : List ℤ) → List ℤ
+cornersOf unit [] fs = []
+cornersOf unit (w ∷ ws) [] = []
+cornersOf unit (w ∷ ws) (f ∷ fs) = cornerOf unit w f ∷ cornersOf unit ws fs
+
 -- what records a, b and e say
 abbrev pub saidA : List ℕ → Progress → Progress
 saidA r p = record { fault = p .fault; due = p .due; level = numberAt sheetA "level" r; unit = p .unit; wholes = p .wholes; elements = p .elements; records = p .records; corners = p .corners }
@@ -72,10 +83,6 @@ saidB r p = record { fault = p .fault; due = p .due; level = p .level; unit = nu
 
 abbrev pub saidE : List ℕ → Progress → Progress
 saidE r p = record { fault = p .fault; due = p .due; level = p .level; unit = p .unit; wholes = p .wholes; elements = p .elements; records = p .records; corners = cornersOf (p .unit) (p .wholes) (Sheet.fractionsOf r) }
-
--- an e record's fault and corners, with what is due next: its fractions serve both
-abbrev pub overE : List ℕ → Progress → Due → Progress
-overE r p next = saidE r (put p (faultOfSheetE (p .unit) (p .wholes) (Sheet.fractionsOf r) r) next)
 
 abbrev pub said : Due → List ℕ → Progress → Progress
 said SheetA r p = saidA r p
@@ -92,13 +99,3 @@ said Over r p = p
 -- "records of 84 bytes": bytes that are no whole record are 1, and all else stays
 unfoldable pub stepped : Progress → List ℕ → Progress
 stepped p r = cond (eqb (length r) 84) (said (p .due) r (put p (faultOf p r) (dueBehind (p .due) r))) (put p 1 (p .due))
-
--- ---- the due records from the front, `passed` others being behind: what is answered where nothing is due, where a record has a fault and where one is missing
-abbrev pub passedPart : Progress → (passed : ℕ) → SheetPart
-passedPart p n = record { fault = 0; at = 0; length = n; elements = p .elements; records = p .records; unit = p .unit; corners = p .corners }
-
-abbrev pub walkedFrom : Progress → (passed : ℕ) → List (List ℕ) → SheetPart
-walkedFrom p n [] = cond (isOver (p .due)) (passedPart p n) (refusedPart 3 1)
-walkedFrom p n (r ∷ rs) =
-    cond (isOver (p .due)) (passedPart p n) (
-    cond (eqb ((stepped p r) .fault) 0) (walkedFrom (stepped p r) (suc n) rs) (refusedPart ((stepped p r) .fault) (suc n)))

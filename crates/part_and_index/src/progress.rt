@@ -1,8 +1,8 @@
 // Judging the records of a sheet part, or of an index, one after the other: what is due and what the records said so far, kept by value, and one record more.
 ghost use mathlib.Core.Path.{_≡_};
 ghost use lib.ListN.{length};
-ghost use Rattle.part_and_index.specs.Faults.{faultOfSheetA, faultOfSheetB};
-ghost use Rattle.part_and_index.specs.Progress.{started, put, saidA, saidB, overE, stepped};
+ghost use Rattle.part_and_index.specs.Progress.{started, put, saidA, saidB, stepped};
+ghost use Rattle.part_and_index.specs.Steps.{faultOfSheetA, faultOfSheetB, overE};
 use super::FourCorners;
 use super::due;
 use super::due::Due;

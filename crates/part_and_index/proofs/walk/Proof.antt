@@ -6,7 +6,8 @@ use borrow.Author.Needs.{needs}
 use lib.ListN.{drop}
 use Rattle.files.specs.Records.{recordsOf}
 use Rattle.part_and_index.specs.declared.progress.Progress.{Progress}
-use Rattle.part_and_index.specs.Progress.{started, walkedFrom}
+use Rattle.part_and_index.specs.Progress.{started}
+use Rattle.part_and_index.specs.Steps.{walkedFrom}
 use Rattle.part_and_index.proofs.WalkLaws.{walk-starts, walk-missing, walk-wrong, walk-sound, walk-over}
 use Rattle.part_and_index.proofs.walk.Statement.{statement}
 use Rattle.part_and_index.proofs.walk.Tie as tie

@@ -4,7 +4,7 @@ use Prim.Native.Nat.{_≤_, _-_}
 use native.Mathlib.Omega.{arith}
 use borrow.Author.Needs.{needs}
 use lib.ListN.{length, take}
-use Rattle.part_and_index.specs.Faults.{cornersOf}
+use Rattle.part_and_index.specs.Progress.{cornersOf}
 use Rattle.part_and_index.proofs.Corners.{corner-more, corners-all}
 use Rattle.part_and_index.proofs.faults.corners_of.Statement.{statement}
 use Rattle.part_and_index.proofs.faults.corners_of.Tie as tie
