@@ -1,5 +1,5 @@
 -- The counts of a header and of record 2, in the code's own words: what is read of them, and how they are written. Assumes nothing.
-use mathlib.Core.Path.{_≡_, refl, ap, sym, _∙_}
+use mathlib.Core.Path.{_≡_, refl, ap, _∙_}
 use mathlib.Core.Bool.{Bool, true, false}
 use mathlib.Core.List.{List}
 use Prim.Native.Nat.{ℕ, _+_, _-_, _*_, _^_, _≤_, _<_}
@@ -12,43 +12,28 @@ use lib.ListN.{length}
 use mir.Syntax.{w64}
 use mir.Val.{SFits, toZ, ofZ}
 use mir.ValLaws.{toZ-ofZ}
-use Rattle.format.specs.Column.{columnOf, numberOf, written}
+use Rattle.format.specs.Column.{written}
 use Rattle.format.specs.Layout.{column, splice, numberAt, header}
 use Rattle.format.specs.Record.{countIn}
 use Rattle.format.proofs.Columns.{length-column, number-below, length-splice, length-written}
 use Rattle.format.proofs.ColumnFits.{fits-plus}
-use Rattle.format.proofs.RecordHeaders.{number-total, number-count}
+use Rattle.format.proofs.RecordHeaders.{number-count}
 use Rattle.columns.specs.InRecord.{numberIn, writeAt}
-use Rattle.columns.proofs.Laws.{column-at-inside, write-at-bytes}
+use Rattle.columns.proofs.Laws.{write-at-bytes}
 use Rattle.columns.proofs.NumberIn.{number-in-below}
 use Rattle.edit.specs.declared.counts.Change.{Change}
 use Rattle.records.specs.Entry.{countStart, countWidth}
-use Rattle.records.proofs.Counts.{nine-width, grid-width, count-place}
+use Rattle.records.proofs.Counts.{nine-width, grid-width, count-place, total-stated}
 use Rattle.edit.specs.Counts.{withCounts, Fitting}
 
 -- ---- reading
 
-in-column : (r : List ℕ) (start width : ℕ) → start + width ≤ length r → width ≤ 18 → numberIn r start width ≡ numberOf (columnOf (column start width r))
-unfolding numberIn
-in-column r start width h k = ap numberOf (column-at-inside r start width h k)
+module _ (r : List ℕ) (n : ℕ) (wide : length r ≡ 84) (e : n ≡ numberIn r 18 5) where
+  pub total-read : n ≡ numberAt header "total" r
+  total-read = e ∙ total-stated r wide
 
-small-column : (r : List ℕ) (start width : ℕ) → width ≤ 5 → numberIn r start width < 100000
-small-column r start width h = omega (arith, number-in-below r start width, pow-le-pow-right {n = 10} (omega arith) {i = width} {j = 5} h)
-
-module _ (r : List ℕ) (n : ℕ) (wide : length r ≡ 84) where
-  pub total-read : n ≡ numberIn r 18 5 → n ≡ numberAt header "total" r
-  total-read e = e ∙ in-column r 18 5 (omega arith) (omega arith) ∙ sym (number-total r)
-
-  pub total-small : n ≡ numberIn r 18 5 → n < 100000
-  total-small e = omega (arith, small-column r 18 5 (omega arith))
-
-module _ (kind start width : ℕ) (h : kind ≤ 9) (s : start ≡ countStart kind) (w : width ≡ countWidth kind) (r : List ℕ) (n : ℕ) (wide : length r ≡ 84) (e : n ≡ numberIn r start width) where
-  pub count-read : n ≡ countIn r kind
-  unfolding countStart countWidth
-  count-read = e ∙ in-column r start width (omega (arith, (count-place kind h) .0)) (omega (arith, (count-place kind h) .2)) ∙ rw (s, w) (sym (number-count kind r))
-
-  pub count-small : n < 100000
-  count-small = omega (arith, small-column r start width (omega (arith, (count-place kind h) .2)))
+  pub total-small : n < 100000
+  total-small = omega (arith, number-in-below r 18 5)
 
 -- ---- writing
 

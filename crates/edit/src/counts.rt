@@ -1,11 +1,10 @@
-// The counts that an edit changes: those of a header read, and all four written.
+// The counts that an edit changes: a header's total read, and all four written.
 ghost use mathlib.Core.Path.{_≡_};
 ghost use Prim.Native.Nat.{_+_, _^_, _≤_, _<_};
 ghost use lib.IntN.{pos};
 ghost use lib.ListN.{length};
 ghost use Rattle.format.specs.Column.{written};
 ghost use Rattle.format.specs.Layout.{splice, numberAt, header};
-ghost use Rattle.format.specs.Record.{countIn};
 ghost use Rattle.edit.specs.Counts.{Fitting, withCounts};
 use layouts::Header;
 use layouts::SheetB;
@@ -30,16 +29,6 @@ pub(crate) fn stated_total(record: &[u8]) -> usize
     ensures { λ r. ⌜ (r ≡ numberAt header "total" (now («record» .entry))) × (r < 100000) ⌝ }
 {
     columns::number_at(record, Header::TOTAL_START, Header::TOTAL_WIDTH)
-}
-
-// Its count of a kind.
-pub(crate) fn stated_count(record: &[u8], kind: usize) -> usize
-    requires { ⌜ (length (now «record») ≡ 84) × (kind ≤ 9) ⌝ }
-    ensures { λ r. ⌜ (r ≡ countIn (now («record» .entry)) kind) × (r < 100000) ⌝ }
-{
-    let start = records::count_start(kind);
-    let width = records::count_width(kind);
-    columns::number_at(record, start, width)
 }
 
 // A number in a column of the buffer, in written form.

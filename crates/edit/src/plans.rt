@@ -53,7 +53,7 @@ fn header_above(file: &[u8], sheet: Sheet, level: usize, kind: usize) -> Above
     Above {
         header,
         total: counts::stated_total(record),
-        count: counts::stated_count(record, kind),
+        count: records::stated_count(record, kind),
     }
 }
 

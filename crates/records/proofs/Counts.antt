@@ -1,21 +1,23 @@
 -- The ten counts of a header and their total, in the code's own words. Assumes nothing.
-use mathlib.Core.Path.{_≡_, refl, sym, _∙_}
+use mathlib.Core.Path.{_≡_, refl, ap, sym, _∙_}
 use mathlib.Core.Bool.{Bool, true, false, _&&_, and-comm}
 use mathlib.Core.List.{List}
 use Prim.Native.Nat.{ℕ, zero, suc, _+_, _*_, _≤_, _<_}
-use native.Mathlib.Nat.{add-comm}
+use native.Mathlib.Nat.{add-comm, pow-le-pow-right}
 use native.Mathlib.Numerals.{add-one}
 use native.Mathlib.Omega.{arith}
-use borrow.Author.Tests.{eq-eqb, ne-eqb, le-leb, ltb-true, ltb-false}
+use borrow.Author.Tests.{eq-eqb, ne-eqb, ltb-true, ltb-false}
 use lib.Dec.{eqb, ltb}
 use lib.ListN.{length, getD}
 use mir.Syntax.{w64}
 use mir.Val.{Fits}
-use Rattle.format.specs.Layout.{natural, I, find, numberAt, header}
+use Rattle.format.specs.Column.{numberOf}
+use Rattle.format.specs.Layout.{find, numberAt, header}
 use Rattle.format.specs.Record.{countName, countIn}
 use Rattle.format.specs.Judge.{sum, all}
 use Rattle.columns.specs.InRecord.{numberIn}
-use Rattle.records.specs.Entry.{countStart, countWidth, statesCount, statesCounts}
+use Rattle.records.specs.Entry.{countStart, countWidth, statedCount, statesCount, statesCounts}
+use Rattle.columns.proofs.Laws.{column-at-inside}
 use Rattle.columns.proofs.NumberIn.{number-in-below}
 use Rattle.records.proofs.Numbers.{stated}
 
@@ -85,50 +87,42 @@ module _ (kind : ℕ) where
       go true e = let p = nine kind (ltb-true kind 9 e) in let l : kind < 9 = ltb-true kind 9 e in (omega (arith, p .0, p .1), omega (arith, p .1), omega (arith, p .1))
       go false e = let p = tenth kind (ltb-false kind 9 e) h in (omega (arith, p .0, p .1), omega (arith, p .1), omega (arith, p .1))
 
+  inside : (countStart kind + countWidth kind ≤ 84) × (countWidth kind ≤ 5)
+  inside = go (ltb kind 10) refl
+    where
+      go : (t : Bool) → ltb kind 10 ≡ t → (countStart kind + countWidth kind ≤ 84) × (countWidth kind ≤ 5)
+      go true e = let h : kind ≤ 9 = omega (arith, ltb-true kind 10 e) in (count-place h .0, count-place h .2)
+      go false e = let p = beyond kind (ltb-false kind 10 e) in (omega (arith, p .0, p .1), omega (arith, p .1))
+
 -- ---- `stated_count`
 
-nine-counts : (kind : ℕ) → kind < 9 → find (countName kind) header ≡ I (countName kind) (23 + kind * 5) 5 natural
-unfolding countName find header
-nine-counts zero h = refl
-nine-counts (suc zero) h = refl
-nine-counts (suc (suc zero)) h = refl
-nine-counts (suc (suc (suc zero))) h = refl
-nine-counts (suc (suc (suc (suc zero)))) h = refl
-nine-counts (suc (suc (suc (suc (suc zero))))) h = refl
-nine-counts (suc (suc (suc (suc (suc (suc zero)))))) h = refl
-nine-counts (suc (suc (suc (suc (suc (suc (suc zero))))))) h = refl
-nine-counts (suc (suc (suc (suc (suc (suc (suc (suc zero)))))))) h = refl
-nine-counts (suc (suc (suc (suc (suc (suc (suc (suc (suc k))))))))) h = absurd (omega arith)
+pub states-none : (l : List ℕ) (kind : ℕ) → (length l ≡ 84 → ⊥) → 0 ≡ statedCount l kind
+unfolding statedCount
+states-none l kind h = rw (ne-eqb (length l) 84 h)
 
 module _ (l : List ℕ) (kind r : ℕ) (whole : length l ≡ 84) where
-  pub count-of-nine : r ≡ numberIn l (23 + kind * 5) 5 → kind < 9 → r ≡ countIn l kind
-  count-of-nine e h = e ∙ stated l whole header (countName kind) (23 + kind * 5) 5 natural (nine-counts kind h) (le-leb (23 + kind * 5 + 5) 84 (omega arith))
+  count-there : numberIn l (countStart kind) (countWidth kind) ≡ countIn l kind
+  unfolding numberIn numberAt countStart countWidth
+  count-there = ap numberOf (column-at-inside l (countStart kind) (countWidth kind) (omega (arith, inside kind .0)) (omega (arith, inside kind .1)))
 
-  pub count-of-grids : r ≡ numberIn l 68 1 → 9 ≤ kind → kind < 10 → r ≡ countIn l kind
-  unfolding countName find header
-  count-of-grids e h k = let n : kind ≡ 9 = omega arith in rw n (e ∙ stated l whole header "grid and net" 68 1 _ refl refl)
+  -- a record's count is that of the header's column, and small
+  pub count-read : r ≡ statedCount l kind → r ≡ countIn l kind
+  unfolding statedCount
+  count-read e = rw (eq-eqb (length l) 84 whole) at e
+
+  pub count-small : r ≡ statedCount l kind → r < 100000
+  count-small e = omega (arith, count-read e, count-there, number-in-below l (countStart kind) (countWidth kind), pow-le-pow-right {n = 10} (omega arith) {i = countWidth kind} {j = 5} (inside kind .1))
 
   module _ (start width : ℕ) (s : start ≡ countStart kind) (w : width ≡ countWidth kind) where
-    pub count-inside : kind < 10 → start + width ≤ 84
-    count-inside h = omega (arith, (count-place kind (omega arith)) .0)
+    pub count-inside : start + width ≤ 84
+    count-inside = omega (arith, inside kind .0)
 
-    pub count-narrow : kind < 10 → width ≤ 7
-    count-narrow h = omega (arith, (count-place kind (omega arith)) .2)
+    pub count-narrow : width ≤ 7
+    count-narrow = omega (arith, inside kind .1)
 
-    pub count-stated : kind < 10 → r ≡ numberIn l start width → r ≡ countIn l kind
-    count-stated h e = go (ltb kind 9) refl
-      where
-        go : (t : Bool) → ltb kind 9 ≡ t → r ≡ countIn l kind
-        go true b =
-            let k : kind < 9 = ltb-true kind 9 b in
-            let p : start ≡ 23 + kind * 5 = s ∙ sym (nine-start kind k) in
-            let q : width ≡ 5 = w ∙ sym (nine-width kind k) in
-            count-of-nine (rw (p, q) at e) k
-        go false b =
-            let k : 9 ≤ kind = ltb-false kind 9 b in
-            let p : start ≡ 68 = s ∙ sym (grid-start kind k (omega arith)) in
-            let q : width ≡ 1 = w ∙ sym (grid-width kind k (omega arith)) in
-            count-of-grids (rw (p, q) at e) k h
+    pub count-stated : r ≡ numberIn l start width → r ≡ statedCount l kind
+    unfolding statedCount
+    count-stated e = rw (eq-eqb (length l) 84 whole) ((rw (s, w) at e) ∙ count-there)
 
 pub total-stated : (l : List ℕ) → length l ≡ 84 → numberIn l 18 5 ≡ numberAt header "total" l
 unfolding find header
@@ -136,35 +130,24 @@ total-stated l whole = stated l whole header "total" 18 5 _ refl refl
 
 -- ---- `counts_agree`
 
-count-below : (l : List ℕ) (kind : ℕ) → length l ≡ 84 → kind < 10 → countIn l kind < 100000
-count-below l kind whole h = go (ltb kind 9) refl
-  where
-    go : (t : Bool) → ltb kind 9 ≡ t → countIn l kind < 100000
-    go true e =
-        let p : numberIn l (23 + kind * 5) 5 ≡ countIn l kind = count-of-nine l kind (numberIn l (23 + kind * 5) 5) whole refl (ltb-true kind 9 e) in
-        rw p at (number-in-below l (23 + kind * 5) 5)
-    go false e =
-        let p : numberIn l 68 1 ≡ countIn l kind = count-of-grids l kind (numberIn l 68 1) whole refl (ltb-false kind 9 e) h in
-        let q : countIn l kind < 10 = rw p at (number-in-below l 68 1) in
-        omega arith
-
 sum-below : (l : List ℕ) (n : ℕ) → length l ≡ 84 → n ≤ 10 → sum n (countIn l) ≤ n * 100000
 sum-below l zero whole h = omega arith
-sum-below l (suc n) whole h = omega (arith, count-below l n whole (omega arith), sum-below l n whole (omega arith))
+sum-below l (suc n) whole h = omega (arith, count-small l n (countIn l n) whole (sym (count-read l n (statedCount l n) whole refl)), sum-below l n whole (omega arith))
 
 pub no-record : (l tally : List ℕ) → (length l ≡ 84 → ⊥) → false ≡ statesCounts l tally
 unfolding statesCounts
 no-record l tally h = rw (ne-eqb (length l) 84 h)
 
 module _ (l tally : List ℕ) (whole : length l ≡ 84) (agree : Bool) (s kind r : ℕ) where
-  pub sum-fits : s ≡ sum kind (countIn l) → r ≡ countIn l kind → kind < 10 → Fits w64 (s + r)
-  sum-fits e c h = record { fits = omega (arith, sum-below l kind whole (omega arith), count-below l kind whole h) }
+  module _ (c : r ≡ statedCount l kind) where
+    pub sum-fits : s ≡ sum kind (countIn l) → kind < 10 → Fits w64 (s + r)
+    sum-fits e h = record { fits = omega (arith, sum-below l kind whole (omega arith), count-small l kind r whole c) }
 
-  pub next-agrees : agree ≡ all kind (statesCount l tally) → r ≡ countIn l kind → agree && eqb r (getD tally kind 0) ≡ all (kind + 1) (statesCount l tally)
-  next-agrees e c = rw (add-one kind, e, c) (and-comm (all kind (statesCount l tally)) (statesCount l tally kind))
+    pub next-agrees : agree ≡ all kind (statesCount l tally) → agree && eqb r (getD tally kind 0) ≡ all (kind + 1) (statesCount l tally)
+    next-agrees e = rw (add-one kind, e, count-read l kind r whole c) (and-comm (all kind (statesCount l tally)) (statesCount l tally kind))
 
-  pub next-sum : s ≡ sum kind (countIn l) → r ≡ countIn l kind → s + r ≡ sum (kind + 1) (countIn l)
-  next-sum e c = rw (add-one kind, e, c) (add-comm (sum kind (countIn l)) (countIn l kind))
+    pub next-sum : s ≡ sum kind (countIn l) → s + r ≡ sum (kind + 1) (countIn l)
+    next-sum e = rw (add-one kind, e, count-read l kind r whole c) (add-comm (sum kind (countIn l)) (countIn l kind))
 
   pub all-agree : agree ≡ all kind (statesCount l tally) → s ≡ sum kind (countIn l) → kind ≤ 10 → 10 ≤ kind → r ≡ numberIn l 18 5 → agree && eqb r s ≡ statesCounts l tally
   unfolding statesCounts

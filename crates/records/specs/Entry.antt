@@ -76,6 +76,10 @@ countStart kind = (find (countName kind) header) .start
 unfoldable pub countWidth : ℕ → ℕ
 countWidth kind = (find (countName kind) header) .width
 
+-- the count of a kind that a header states; what is no record of 84 bytes states none
+unfoldable pub statedCount : List ℕ → (kind : ℕ) → ℕ
+statedCount l kind = cond (eqb (length l) 84) (countIn l kind) 0
+
 -- a header states of a kind what the tally has
 abbrev pub statesCount : List ℕ → List ℕ → (kind : ℕ) → Bool
 statesCount l tally kind = eqb (countIn l kind) (getD tally kind 0)

@@ -1,10 +1,9 @@
 // One record of a sheet's body: what a header or an item states, and the first fault of its own columns; the first fault of a data record; and
 // whether a header states the counts of a tally.
 ghost use mathlib.Core.Path.{_≡_};
-ghost use Prim.Native.Nat.{_<_};
 ghost use lib.ListN.{length};
-ghost use Rattle.format.specs.Record.{typeOf, countIn, notes, dataFault};
-ghost use Rattle.records.specs.Entry.{entryOf, dataFaultOf, countStart, countWidth, statesCounts};
+ghost use Rattle.format.specs.Record.{typeOf, notes, dataFault};
+ghost use Rattle.records.specs.Entry.{entryOf, dataFaultOf, countStart, countWidth, statedCount, statesCounts};
 ghost use Rattle.records.specs.Steps.{codeOf};
 
 mod data;
@@ -107,11 +106,13 @@ pub fn count_width(kind: usize) -> usize
     0
 }
 
-// A count that a header states, by kind.
-fn stated_count(record: &[u8], kind: usize) -> usize
-    requires { ⌜ (length (now «record») ≡ 84) × (kind < 10) ⌝ }
-    ensures { λ r. ⌜ r ≡ countIn (now («record» .entry)) kind ⌝ }
+// The count of a kind that a header states. What is no record states none.
+pub fn stated_count(record: &[u8], kind: usize) -> usize
+    ensures { λ r. ⌜ r ≡ statedCount (now («record» .entry)) kind ⌝ }
 {
+    if record.len() != RECORD {
+        return 0;
+    }
     let start = count_start(kind);
     let width = count_width(kind);
     reading::plain_number(record, start, width)

@@ -1,4 +1,5 @@
 -- `header_above` answers what the header states. Assumes nothing.
+use Rattle.records.proofs.Counts.{count-read, count-small}
 use Rattle.edit.proofs.OpenedAt.{header-wide, above-read}
 use borrow.Author.Needs.{needs}
 use Rattle.edit.proofs.plans.header_above.Statement.{statement}
@@ -23,10 +24,10 @@ stated-total-requires : tie.Need-stated-total-requires
 stated-total-requires c κs = search header-wide
 
 stated-count-requires : tie.Need-stated-count-requires
-stated-count-requires c κs = search (needs, header-wide)
+stated-count-requires c κs = search needs
 
 returns : tie.Need-returns
-returns c = search above-read
+returns c = search (above-read, header-wide, count-read, count-small)
 
 pub header-above-spec : {M : Type 1} → statement M
 header-above-spec =
