@@ -15,10 +15,10 @@ use Rattle.format.specs.Judge.{File, items, accepted, countFault, bodyFault, ve
 use Rattle.format.specs.Edit.{lastHeader}
 use Rattle.format.specs.Above.{lastStart}
 use Rattle.part_and_index.specs.declared.SheetPart.{SheetPart}
-use Rattle.judge.specs.declared.Extent.{Extent}
-use Rattle.judge.specs.declared.Seen.{Seen}
+use Rattle.judge.specs.declared.body_records.Extent.{Extent}
+use Rattle.judge.specs.declared.walk.Seen.{Seen}
 use Rattle.judge.specs.declared.Sheet.{Sheet}
-use Rattle.judge.specs.declared.WalkedBody.{WalkedBody}
+use Rattle.judge.specs.declared.walk.WalkedBody.{WalkedBody}
 use Rattle.judge.specs.Walks.{Room, viewsFrom, faultFrom, entries, wrongAt, upTo, seenNone, SeenUpTo, Body, bodyOf, wrongSheetOf, Stands, standingSheet, WholeBody, bodySheet}
 use Rattle.judge.specs.Sheet.{values, startBefore, headerBefore, refusedSheet, sheetFor}
 use Rattle.judge.proofs.Steps.{views-end}

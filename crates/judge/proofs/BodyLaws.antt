@@ -16,11 +16,11 @@ use Rattle.format.specs.Judge.{countUnder}
 use Rattle.format.proofs.Basics.{first-alone}
 use Rattle.records.specs.Entry.{toData, entryOf}
 use Rattle.records.specs.declared.items.Entry.{Entry}
-use Rattle.judge.specs.declared.Extent.{Extent}
-use Rattle.judge.specs.declared.Seen.{Seen}
-use Rattle.judge.specs.declared.Walked.{Walked}
-use Rattle.judge.specs.declared.WalkedGroup.{WalkedGroup}
-use Rattle.judge.specs.declared.WalkedBody.{WalkedBody}
+use Rattle.judge.specs.declared.body_records.Extent.{Extent}
+use Rattle.judge.specs.declared.walk.Seen.{Seen}
+use Rattle.judge.specs.declared.walk.Walked.{Walked}
+use Rattle.judge.specs.declared.walk.WalkedGroup.{WalkedGroup}
+use Rattle.judge.specs.declared.walk.WalkedBody.{WalkedBody}
 use Rattle.judge.specs.Walks.{recordAt, viewsFrom, faultFrom, entries, Room, entryFault, lastBefore, withItem, JoinsTo, SeesTo, SeenUpTo, Item, HeaderAt, Child, Body, passedBodyOf, itemAsGroup}
 use Rattle.judge.proofs.Steps.{views-more, views-end, fault-here}
 use Rattle.judge.proofs.EntryLaws.{Sound, fault-is}

@@ -9,11 +9,11 @@ use lib.ListN.{getD, length-set}
 use Rattle.format.specs.Basics.{none}
 use Rattle.format.specs.Record.{Kind, head, item, neither, isHead, countIndex, nothing, View, view}
 use Rattle.format.specs.Judge.{countUnder, countsAgree}
-use Rattle.judge.specs.declared.Extent.{Extent}
-use Rattle.judge.specs.declared.Seen.{Seen}
-use Rattle.judge.specs.declared.Walked.{Walked}
-use Rattle.judge.specs.declared.WalkedGroup.{WalkedGroup}
-use Rattle.judge.specs.declared.WalkedBody.{WalkedBody}
+use Rattle.judge.specs.declared.body_records.Extent.{Extent}
+use Rattle.judge.specs.declared.walk.Seen.{Seen}
+use Rattle.judge.specs.declared.walk.Walked.{Walked}
+use Rattle.judge.specs.declared.walk.WalkedGroup.{WalkedGroup}
+use Rattle.judge.specs.declared.walk.WalkedBody.{WalkedBody}
 use Rattle.judge.specs.Walks.{Room, recordAt, viewsFrom, faultFrom, entries, withItem, withHeader, SeenUpTo, Joins, Sees, Item, HeaderAt, Child, Body, passedGroupOf, itemAsGroup}
 use Rattle.format.proofs.JudgeWalks.{good}
 use Rattle.records.specs.Entry.{toData, statesCounts}

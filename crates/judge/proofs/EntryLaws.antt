@@ -16,7 +16,7 @@ use Rattle.format.proofs.Basics.{first-zero, first-some}
 use Rattle.format.proofs.JudgeWalks.{good}
 use Rattle.records.proofs.Laws.{entry-kind, entry-level, entry-data-records, entry-held, entry-rule, fault-at}
 use Rattle.records.specs.Entry.{toData, entryOf}
-use Rattle.judge.specs.declared.Extent.{Extent}
+use Rattle.judge.specs.declared.body_records.Extent.{Extent}
 use Rattle.judge.proofs.Steps.{wide-at}
 use Rattle.judge.specs.Walks.{Room, recordAt, lowestOf, highestOf, levelFits, entryFault}
 

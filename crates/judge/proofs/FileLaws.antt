@@ -23,7 +23,7 @@ use Rattle.part_and_index.specs.Result.{sheetPartOf, indexFaultOf}
 use Rattle.part_and_index.specs.declared.SheetPart.{SheetPart}
 use Rattle.part_and_index.specs.declared.Fault.{Fault}
 use Rattle.part_and_index.proofs.Laws.{SoundPart, sound-part, refused-part, sound-index, refused-index}
-use Rattle.judge.specs.declared.Extent.{Extent}
+use Rattle.judge.specs.declared.body_records.Extent.{Extent}
 use Rattle.judge.specs.declared.Sheet.{Sheet}
 use Rattle.judge.specs.Walks.{Room, viewsFrom, bodyOf, bodySheet}
 use Rattle.judge.specs.Sheet.{refusedSheet, sheetFor, recordsSheet, openedIn}

@@ -10,8 +10,8 @@ use Rattle.records.specs.Entry.{toData, dataFaultOf}
 use Rattle.records.specs.declared.Held.{Held}
 use Rattle.records.proofs.Laws.{data-fault-at}
 use Rattle.format.specs.Judge.{walk}
-use Rattle.judge.specs.declared.Extent.{Extent}
-use Rattle.judge.specs.declared.Walked.{Walked}
+use Rattle.judge.specs.declared.body_records.Extent.{Extent}
+use Rattle.judge.specs.declared.walk.Walked.{Walked}
 use Rattle.judge.specs.Walks.{Room, recordAt, viewsFrom, Through, Item, passedOf}
 use Rattle.judge.proofs.Steps.{wide-at, views-more, views-end, through-none, through-one, through-more, data-wrong, data-missing}
 

@@ -12,7 +12,7 @@ use Rattle.format.specs.Basics.{Fault, none, fault, orElse, toFault, unless, fi
 use Rattle.format.specs.Record.{nothing, head, item, isHead, countIndex, View}
 use Rattle.format.specs.Judge.{walk, faultAt, headersAndItems, items, countUnder, countsAgree, countFault, openAfter, dueAfter}
 use Rattle.format.proofs.JudgeSteps.{walk-step}
-use Rattle.judge.specs.declared.Seen.{Seen}
+use Rattle.judge.specs.declared.walk.Seen.{Seen}
 use Rattle.judge.specs.Walks.{faultFrom, entries, wrongAt, lastBefore, withItem, withHeader, Through, Joins, Sees}
 use Rattle.judge.proofs.Steps.{any-owner}
 use Rattle.judge.proofs.SeenLaws.{start-step, header-step, header-set}

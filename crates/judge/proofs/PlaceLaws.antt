@@ -21,8 +21,8 @@ use Rattle.records.specs.declared.items.Entry.{Entry}
 use Rattle.records.specs.Entry.{viewFault, entryOf}
 use Rattle.records.proofs.Laws.{entry-fault, entry-kind, entry-level, entry-data-records, view-data-records-most}
 use Rattle.part_and_index.specs.declared.SheetPart.{SheetPart}
-use Rattle.judge.specs.declared.Extent.{Extent}
-use Rattle.judge.specs.declared.Seen.{Seen}
+use Rattle.judge.specs.declared.body_records.Extent.{Extent}
+use Rattle.judge.specs.declared.walk.Seen.{Seen}
 use Rattle.judge.specs.declared.Sheet.{Sheet}
 use Rattle.judge.specs.Walks.{Room, recordAt, viewsFrom, bodyOf, dueOfEntry, openOfEntry, placeIn, sheetWith, Stands, standingSheet}
 use Rattle.judge.specs.Sheet.{bodyBefore}

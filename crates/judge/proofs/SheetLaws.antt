@@ -3,7 +3,7 @@ use mathlib.Core.Path.{_≡_}
 use Prim.Native.Nat.{ℕ, _≤_, _<_}
 use borrow.Author.Tests.{eq-eqb, ne-eqb, lt-ltb, le-ltb}
 use Rattle.part_and_index.specs.declared.SheetPart.{SheetPart}
-use Rattle.judge.specs.declared.Extent.{Extent}
+use Rattle.judge.specs.declared.body_records.Extent.{Extent}
 use Rattle.judge.specs.Walks.{wrongSheetOf, placeIn}
 
 -- ---- the sheet's two counts

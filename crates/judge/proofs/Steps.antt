@@ -15,7 +15,7 @@ use Rattle.files.specs.Records.{strideOf, recordsOf}
 use Rattle.files.specs.declared.Stride.{Stride}
 use Rattle.files.specs.declared.Stride.the-variants.{Plain, Lines}
 use Rattle.files.proofs.Records.{length-records, record-wide}
-use Rattle.judge.specs.declared.Extent.{Extent}
+use Rattle.judge.specs.declared.body_records.Extent.{Extent}
 use Rattle.judge.specs.Walks.{Room, recordAt, viewsFrom, faultFrom, upTo, Through}
 use Rattle.judge.proofs.SeenLaws.{start-data, header-data}
 

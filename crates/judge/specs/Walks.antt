@@ -14,11 +14,11 @@ use Rattle.format.specs.Above.{lastStart}
 use Rattle.files.specs.Records.{recordsOf}
 use Rattle.records.specs.declared.items.Entry.{Entry}
 use Rattle.part_and_index.specs.declared.SheetPart.{SheetPart}
-use Rattle.judge.specs.declared.Extent.{Extent}
-use Rattle.judge.specs.declared.Seen.{Seen}
-use Rattle.judge.specs.declared.Walked.{Walked}
-use Rattle.judge.specs.declared.WalkedGroup.{WalkedGroup}
-use Rattle.judge.specs.declared.WalkedBody.{WalkedBody}
+use Rattle.judge.specs.declared.body_records.Extent.{Extent}
+use Rattle.judge.specs.declared.walk.Seen.{Seen}
+use Rattle.judge.specs.declared.walk.Walked.{Walked}
+use Rattle.judge.specs.declared.walk.WalkedGroup.{WalkedGroup}
+use Rattle.judge.specs.declared.walk.WalkedBody.{WalkedBody}
 use Rattle.judge.specs.declared.Sheet.{Sheet}
 use Rattle.judge.specs.Sheet.{values, startBefore, headerBefore, acceptedSheet, sheetFor}
 

@@ -1,0 +1,243 @@
+// The walk of stage two over the body. It also counts, so that stage three reads no more than each header's own counts, and keeps what stands
+// before the place.
+use super::body_records;
+use super::body_records::Extent;
+use records::Entry;
+ghost use mathlib.Core.Path.{_≡_};
+ghost use Prim.Native.Nat.{_<_, _≤_};
+ghost use Rattle.format.specs.Basics.{first};
+ghost use Rattle.records.specs.Entry.{toData};
+ghost use Rattle.judge.specs.Walks.{Room, lastBefore, seenNone, withHeader, SeenUpTo, passedOf, passedGroupOf, passedBodyOf, Item, HeaderAt, Child, Body};
+
+// What a walk has seen so far: how many items; and of what stands before the place the last header or item, and the last header of each level,
+// by their numbers in the file.
+pub(crate) struct Seen {
+    pub items: usize,
+    pub start: usize,
+    pub headers: [usize; 9],
+}
+
+// What the walk of an item and its data came to. `number` is 0, or the number of the fault at record `at`. Where it is 0, `next` is the record
+// past the walk.
+struct Walked {
+    number: u8,
+    at: usize,
+    next: usize,
+}
+
+// The same of a header with all that belongs to it. `low` is the first header with a wrong count, or 0.
+struct WalkedGroup {
+    number: u8,
+    at: usize,
+    next: usize,
+    low: usize,
+    seen: Seen,
+}
+
+// The same of a body. `tally` counts, by kind, what stands one level below the open one.
+pub(crate) struct WalkedBody {
+    pub number: u8,
+    pub at: usize,
+    pub next: usize,
+    pub low: usize,
+    pub tally: [usize; 10],
+    pub seen: Seen,
+}
+
+// A walk that found a fault.
+fn failed(number: u8, at: usize) -> Walked
+    ensures { λ r. ⌜ (r .number ≡ number) × (r .at ≡ at) ⌝ }
+{
+    Walked {
+        number,
+        at,
+        next: 0,
+    }
+}
+
+fn failed_group(number: u8, at: usize, seen: Seen) -> WalkedGroup
+    ensures { λ r. ⌜ (r .number ≡ number) × (r .at ≡ at) ⌝ }
+{
+    WalkedGroup {
+        number,
+        at,
+        next: 0,
+        low: 0,
+        seen,
+    }
+}
+
+fn failed_body(number: u8, at: usize, seen: Seen) -> WalkedBody
+    ensures { λ r. ⌜ (r .number ≡ number) × (r .at ≡ at) ⌝ }
+{
+    WalkedBody {
+        number,
+        at,
+        next: 0,
+        low: 0,
+        tally: [0; 10],
+        seen,
+    }
+}
+
+// A walk that came to the record `next` without one.
+fn passed(next: usize) -> Walked
+    ensures { λ r. ⌜ r ≡ passedOf next ⌝ }
+{
+    Walked {
+        number: 0,
+        at: 0,
+        next,
+    }
+}
+
+fn passed_group(next: usize, low: usize, seen: Seen) -> WalkedGroup
+    ensures { λ r. ⌜ r ≡ passedGroupOf next low seen ⌝ }
+{
+    WalkedGroup {
+        number: 0,
+        at: 0,
+        next,
+        low,
+        seen,
+    }
+}
+
+fn passed_body(next: usize, low: usize, tally: [usize; 10], seen: Seen) -> WalkedBody
+    ensures { λ r. ⌜ r ≡ passedBodyOf next low tally seen ⌝ }
+{
+    WalkedBody {
+        number: 0,
+        at: 0,
+        next,
+        low,
+        tally,
+        seen,
+    }
+}
+
+// The first of two numbers that is not 0; 0 is none.
+pub(crate) fn first_of(a: usize, b: usize) -> usize
+    ensures { λ r. ⌜ r ≡ first a b ⌝ }
+{
+    if a == 0 { b } else { a }
+}
+
+// The number of record k where that stands before the place, else the latest one that does.
+fn last_before(k: usize, before: usize, latest: usize) -> usize
+    ensures { λ r. ⌜ r ≡ lastBefore k before latest ⌝ }
+{
+    if k < before { k + 1 } else { latest }
+}
+
+// What a walk has seen where it begins, behind the sheet part.
+pub(crate) fn seen_none(part: usize) -> Seen
+    ensures { λ r. ⌜ r ≡ seenNone part ⌝ }
+{
+    Seen {
+        items: 0,
+        start: part,
+        headers: [part; 9],
+    }
+}
+
+// What is seen with the header of a level at record k.
+fn see_header(seen: Seen, k: usize, before: usize, level: usize) -> Seen
+    requires { ⌜ level ≤ 8 ⌝ }
+    ensures { λ r. ⌜ r ≡ withHeader seen k before level ⌝ }
+{
+    let mut headers = seen.headers;
+    headers[level] = last_before(k, before, headers[level]);
+    Seen {
+        items: seen.items,
+        start: last_before(k, before, seen.start),
+        headers,
+    }
+}
+
+// The data records of the item at record k, whose entry this is.
+fn walk_item(file: &[u8], extent: Extent, k: usize, entry: Entry) -> Walked
+    requires { ⌜ (Room (now file) extent) × (k < extent .records) ⌝ }
+    ensures { λ r. ⌜ Item (now (file .entry)) extent k (entry .«data_records») (toData (entry .held)) r ⌝ }
+{
+    let held = entry.held;
+    let mut at = body_records::next(file, extent, k);
+    let mut left = entry.data_records;
+    while 0 < left {
+        if extent.records <= at {
+            return failed(3, k + 1);
+        }
+        let fault = body_records::data_fault_at(file, extent, at, held, left - 1);
+        if fault != 0 {
+            return failed(fault, at + 1);
+        }
+        at = body_records::next(file, extent, at);
+        left -= 1;
+    }
+    passed(at)
+}
+
+// The header at record k, one level below the open one, and its body, which has one level less left.
+fn walk_group(file: &[u8], extent: Extent, k: usize, opened: usize, seen: Seen) -> WalkedGroup
+    requires { ⌜ (Room (now file) extent) × (k < extent .records) × (opened < 8) × (HeaderAt (now file) extent k opened) × (SeenUpTo k seen) ⌝ }
+    ensures { λ r. ⌜ Child (now (file .entry)) extent k opened seen r ⌝ }
+{
+    let level = opened + 1;
+    let with_header = see_header(seen, k, extent.before, level);
+    let body = walk_body(file, extent, k + 1, level, with_header);
+    if body.number != 0 {
+        return failed_group(body.number, body.at, seen);
+    }
+    let tally = body.tally;
+    if body_records::counts_agree_at(file, extent, k, &tally) {
+        return passed_group(body.next, body.low, body.seen);
+    }
+    passed_group(body.next, k + 1, body.seen)
+}
+
+// The headers and items one level below the open one, from record k on.
+pub(crate) fn walk_body(
+    file: &[u8],
+    extent: Extent,
+    k: usize,
+    opened: usize,
+    given: Seen,
+) -> WalkedBody
+    requires { ⌜ (Room (now file) extent) × (k ≤ extent .records) × (opened ≤ 8) × (SeenUpTo k given) ⌝ }
+    ensures { λ r. ⌜ Body (now (file .entry)) extent k opened given r ⌝ }
+{
+    let mut at = k;
+    let mut tally = [0usize; 10];
+    let mut low = 0;
+    let mut seen = given;
+    while at < extent.records {
+        let entry = body_records::entry_at(file, extent, at);
+        let fault = body_records::entry_fault(entry, opened);
+        if fault != 0 {
+            return failed_body(fault, at + 1, seen);
+        }
+        if entry.level <= opened {
+            return passed_body(at, low, tally, seen);
+        }
+        let kind = entry.kind;
+        tally[kind] = tally[kind] + 1;
+        if kind == 0 {
+            let group = walk_group(file, extent, at, opened, seen);
+            if group.number != 0 {
+                return failed_body(group.number, group.at, seen);
+            }
+            at = group.next;
+            low = first_of(low, group.low);
+            seen = group.seen;
+        } else {
+            let item = walk_item(file, extent, at, entry);
+            if item.number != 0 {
+                return failed_body(item.number, item.at, seen);
+            }
+            seen.items = seen.items + 1;
+            seen.start = last_before(at, extent.before, seen.start);
+            at = item.next;
+        }
+    }
+    passed_body(at, low, tally, seen)
+}
