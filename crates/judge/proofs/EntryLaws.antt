@@ -2,7 +2,9 @@
 use mathlib.Core.Path.{_≡_, refl, sym, _∙_}
 use mathlib.Core.Bool.{Bool, true, false, not}
 use mathlib.Core.List.{List}
-use Prim.Native.Nat.{ℕ, zero, suc, _+_, _≤_, _<_}
+use Prim.Native.Nat.{ℕ, zero, suc, _+_, _-_, _*_, _≤_, _<_}
+use mir.Syntax.{w64}
+use mir.Val.{Fits}
 use native.Mathlib.Omega.{arith}
 use native.Mathlib.Numerals.{add-one}
 use borrow.Author.Tests.{not-true, not-false, le-leb, lt-leb, ne-eqb}
@@ -18,7 +20,7 @@ use Rattle.records.proofs.Laws.{entry-kind, entry-level, entry-data-records, en
 use Rattle.records.specs.Entry.{toData, entryOf}
 use Rattle.judge.specs.declared.body_records.Extent.{Extent}
 use Rattle.judge.proofs.Steps.{wide-at}
-use Rattle.judge.specs.Walks.{Room, recordAt, lowestOf, highestOf, levelFits, entryFault}
+use Rattle.judge.specs.Walks.{Room, recordAt, lowestOf, highestOf, levelFits, entryFault, HeaderAt}
 
 -- ---- the level
 module _ (kind level opened : ℕ) where
@@ -137,3 +139,22 @@ module _ (file : List ℕ) (x : Extent) (k opened : ℕ) (e : Entry) (fault : �
         records-are = rw is (entry-data-records one whole fine);
         held-is = rw is (entry-held one whole fine);
       }
+
+  module _ (z : fault ≡ 0) where
+    -- its kind has a place in a tally
+    pub kind-small : e .kind < 10
+    kind-small = omega (arith, sound z .kind-small)
+
+    pub kind-fits : Fits w64 (e .kind * 8)
+    kind-fits = omega (arith, kind-small)
+
+    -- a header one level below the open one: by the measures of the walks fewer levels are left to its group
+    module _ (deep : opened < e .level) (no-item : e .kind ≡ 0) where
+      pub header-level : opened < 8
+      header-level = omega (arith, sound z .header-high no-item)
+
+      pub header-falls : (t : ℕ) → 2 * (9 - opened) ≡ t → 2 * (8 - opened) + 1 < t
+      header-falls t p = omega (arith, header-level)
+
+      pub header-at : HeaderAt file x k opened
+      header-at = record { well = sound z .well; header = sound z .header no-item; deep = omega (arith, sound z .level-is, sound z .near) }

@@ -65,12 +65,7 @@ loop-less c = search needs
 
 loop-again : tie.Need-loop-again Inv-loop μ-loop
 unfolding columnsOf behindFirst placesOf placesIn behind
-loop-again c =
-    let k = c .before .before .before .before .before .loop in
-    let a = c .before .before .before .before .before .before .before .before .before in (
-      search needs,
-      few-next-doubt (a .args .bytes .now) (a .args .at) (a .args .count) (a .pre .2) (c .counted .result) (c .before .doubt-at2 .result) (k .i) (k .doubts) (c .counted .ensures) (c .before .doubt-at2 .ensures .is) (search needs) (k .inv .1),
-    )
+loop-again c = (search needs, few-next-doubt _ _ _ (search needs) _ _ _ _ (c .counted .ensures) (c .before .doubt-at2 .ensures .is) (search needs) (search needs))
 
 returns : tie.Need-returns Inv-loop μ-loop
 returns c = search few-no-doubt

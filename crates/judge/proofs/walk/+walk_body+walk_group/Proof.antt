@@ -2,9 +2,8 @@
 -- Assumes nothing.
 use borrow.Author.Needs.{needs}
 use native.Mathlib.Omega.{arith}
-use denote.Ref.{now}
-use Rattle.judge.proofs.BodyLaws.{Going, going, body-fault, body-ends, body-stops, Turn, turn-kind, turn-count, turn-items, turn-level, turn-header, group-stops, group-further, group-goes, item-stops, item-further, item-goes}
-use Rattle.judge.proofs.EntryLaws.{Sound, sound}
+use Rattle.judge.proofs.BodyLaws.{Going, going, body-fault, body-ends, body-stops, count-fits, items-fit, group-stops, group-further, group-goes, item-stops, item-further, item-goes}
+use Rattle.judge.proofs.EntryLaws.{kind-small, kind-fits, header-falls, header-level, header-at}
 use Rattle.judge.proofs.ChildLaws.{see-header-upto, group-fails, group-agrees, group-differs}
 use Prim.Native.Nat.{ℕ, _<_, _+_, _-_, _*_}
 use borrow.Fn.Kinds.{In}
@@ -63,14 +62,6 @@ walk-body-Inv-loop file extent k opened at₀ tally₀ low₀ seen₀ at tally l
 abbrev walk-body-μ-loop : walk-body-lts.MeasureT-loop
 walk-body-μ-loop file extent k opened at₀ tally₀ low₀ seen₀ at tally low seen = extent .records - at
 
--- behind the test of its fault, the record at hand is sound
-sound-at : (t : ℕ) (c : walk-body-lts.Else2 (body-claims t) (walk-body-at t) walk-body.Post walk-body-Inv-loop walk-body-μ-loop) → let a = c .before .before .before .before .before .before .before .args in Sound (now (a .file)) (a .extent) (c .before .before .before .before .before .loop .at) (a .opened) (c .before .before .entry-at .result)
-sound-at t c = sound _ _ _ _ _ _ (c .before .before .before .before .before .before .before .pre .1 .0) (c .before .before .before .if1 .taken) (c .before .before .entry-at .ensures) (c .before .entry-fault .ensures) (c .if2 .left)
-
--- behind the test of its level it is one level below the open one
-turn-at : (t : ℕ) (c : walk-body-lts.Else3 (body-claims t) (walk-body-at t) walk-body.Post walk-body-Inv-loop walk-body-μ-loop) → let a = c .before .before .before .before .before .before .before .before .before .args in let l = c .before .before .before .before .before .before .before .loop in Turn (now (a .file)) (a .extent) (a .k) (a .opened) (a .given) (l .at) (l .tally) (l .low) (l .seen) (c .before .before .before .before .entry-at .result)
-turn-at t c = record { room = c .before .before .before .before .before .before .before .before .before .pre .1 .0; going-here = c .before .before .before .before .before .before .before .loop .inv; here = c .before .before .before .before .before .if1 .taken; is = sound-at t (c .before .before); deep = omega (arith, c .if3 .left) }
-
 walk-body-loop-holds : (t : ℕ) → walk-body-lts.Need-loop-holds (body-claims t) (walk-body-at t) walk-body.Post walk-body-Inv-loop walk-body-μ-loop
 walk-body-loop-holds t c = search going
 
@@ -93,67 +84,70 @@ walk-body-passed-body-requires : (t : ℕ) → walk-body-lts.Need-passed-body-re
 walk-body-passed-body-requires t c κs = search needs
 
 walk-body-returns-2 : (t : ℕ) → walk-body-lts.Need-returns-2 (body-claims t) (walk-body-at t) walk-body.Post walk-body-Inv-loop walk-body-μ-loop
-walk-body-returns-2 t c = body-stops _ _ (c .before .before .before .before .before .before .before .before .before .before .pre .1 .0) _ _ _ _ _ _ _ (c .before .before .before .before .before .before .before .before .loop .inv) _ _ (c .before .before .before .before .before .before .if1 .taken) (sound-at t (c .before .before .before)) (omega (arith, c .before .if3 .taken)) (c .passed-body .ensures)
+walk-body-returns-2 t c = search body-stops
 
 walk-body-mul-tally : (t : ℕ) → walk-body-lts.Need-mul-tally (body-claims t) (walk-body-at t) walk-body.Post walk-body-Inv-loop walk-body-μ-loop
-walk-body-mul-tally t c = omega (arith, turn-kind (turn-at t c))
+walk-body-mul-tally t c = search kind-fits
 
 walk-body-array-read-tally : (t : ℕ) → walk-body-lts.Need-array-read-tally (body-claims t) (walk-body-at t) walk-body.Post walk-body-Inv-loop walk-body-μ-loop
-walk-body-array-read-tally t c = turn-kind (turn-at t c)
+walk-body-array-read-tally t c = search kind-small
 
 walk-body-add-tally : (t : ℕ) → walk-body-lts.Need-add-tally (body-claims t) (walk-body-at t) walk-body.Post walk-body-Inv-loop walk-body-μ-loop
-walk-body-add-tally t c = omega (arith, turn-count (turn-at t c), turn-at t c .room .few)
+walk-body-add-tally t c = search count-fits
 
 walk-body-mul-tally-2 : (t : ℕ) → walk-body-lts.Need-mul-tally-2 (body-claims t) (walk-body-at t) walk-body.Post walk-body-Inv-loop walk-body-μ-loop
-walk-body-mul-tally-2 t c = omega (arith, turn-kind (turn-at t c))
+walk-body-mul-tally-2 t c = search kind-fits
 
 walk-body-array-write-tally : (t : ℕ) → walk-body-lts.Need-array-write-tally (body-claims t) (walk-body-at t) walk-body.Post walk-body-Inv-loop walk-body-μ-loop
-walk-body-array-write-tally t c = turn-kind (turn-at t c)
+walk-body-array-write-tally t c = search kind-small
 
 walk-body-walk-group-requires : (t : ℕ) → walk-body-lts.Need-walk-group-requires (body-claims t) (walk-body-at t) walk-body.Post walk-body-Inv-loop walk-body-μ-loop
-walk-body-walk-group-requires t c κs = let u = turn-at t (c .before) in (omega (arith, turn-level u (c .if4 .taken)), (u .room, u .here, turn-level u (c .if4 .taken), turn-header u (c .if4 .taken), u .going-here .seen-then))
+walk-body-walk-group-requires t c κs = (
+  search header-falls,
+  (search needs, search needs, search header-level, let tested = c .before .before .before in header-at _ _ _ _ _ _ (search needs) (search needs) (tested .before .before .entry-at .ensures) (search needs) (tested .if2 .left) (search needs) (c .if4 .taken), search needs),
+)
 
 walk-body-failed-body-requires-2 : (t : ℕ) → walk-body-lts.Need-failed-body-requires-2 (body-claims t) (walk-body-at t) walk-body.Post walk-body-Inv-loop walk-body-μ-loop
 walk-body-failed-body-requires-2 t c κs = search needs
 
 walk-body-returns-3 : (t : ℕ) → walk-body-lts.Need-returns-3 (body-claims t) (walk-body-at t) walk-body.Post walk-body-Inv-loop walk-body-μ-loop
-walk-body-returns-3 t c = group-stops (turn-at t (c .before .before .before .before .before)) _ (c .before .before .before .walk-group .ensures) _ (c .before .if5 .taken) (c .failed-body2 .ensures .0) (c .failed-body2 .ensures .1)
+walk-body-returns-3 t c = search (group-stops, c .before .before .before .before)
 
 walk-body-first-of-requires : (t : ℕ) → walk-body-lts.Need-first-of-requires (body-claims t) (walk-body-at t) walk-body.Post walk-body-Inv-loop walk-body-μ-loop
 walk-body-first-of-requires t c κs = search needs
 
 walk-body-loop-less : (t : ℕ) → walk-body-lts.Need-loop-less (body-claims t) (walk-body-at t) walk-body.Post walk-body-Inv-loop walk-body-μ-loop
-walk-body-loop-less t c = group-further (turn-at t (c .before .before .before .before .before .before)) _ (c .before .before .before .before .walk-group .ensures) (c .before .before .if5 .left)
+walk-body-loop-less t c = search group-further
 
 walk-body-loop-again : (t : ℕ) → walk-body-lts.Need-loop-again (body-claims t) (walk-body-at t) walk-body.Post walk-body-Inv-loop walk-body-μ-loop
-walk-body-loop-again t c = group-goes (turn-at t (c .before .before .before .before .before .before)) _ (c .before .before .before .before .walk-group .ensures) (c .before .before .if5 .left) _ (c .before .first-of .ensures)
+walk-body-loop-again t c = search group-goes
 
 walk-body-walk-item-requires : (t : ℕ) → walk-body-lts.Need-walk-item-requires (body-claims t) (walk-body-at t) walk-body.Post walk-body-Inv-loop walk-body-μ-loop
-walk-body-walk-item-requires t c κs = let u = turn-at t (c .before) in (u .room, u .here)
+walk-body-walk-item-requires t c κs = search needs
 
 walk-body-failed-body-requires-3 : (t : ℕ) → walk-body-lts.Need-failed-body-requires-3 (body-claims t) (walk-body-at t) walk-body.Post walk-body-Inv-loop walk-body-μ-loop
 walk-body-failed-body-requires-3 t c κs = search needs
 
 walk-body-returns-4 : (t : ℕ) → walk-body-lts.Need-returns-4 (body-claims t) (walk-body-at t) walk-body.Post walk-body-Inv-loop walk-body-μ-loop
-walk-body-returns-4 t c = item-stops (turn-at t (c .before .before .before .before .before)) _ (c .before .before .before .walk-item .ensures) (c .before .before .before .before .if4 .left) _ (c .before .if6 .taken) (c .failed-body3 .ensures .0) (c .failed-body3 .ensures .1)
+walk-body-returns-4 t c = search item-stops
 
 walk-body-add-seen : (t : ℕ) → walk-body-lts.Need-add-seen (body-claims t) (walk-body-at t) walk-body.Post walk-body-Inv-loop walk-body-μ-loop
-walk-body-add-seen t c = let u = turn-at t (c .before .before .before .before .before) in omega (arith, turn-items u, u .room .few)
+walk-body-add-seen t c = search items-fit
 
 walk-body-last-before-requires : (t : ℕ) → walk-body-lts.Need-last-before-requires (body-claims t) (walk-body-at t) walk-body.Post walk-body-Inv-loop walk-body-μ-loop
 walk-body-last-before-requires t c κs = search needs
 
 walk-body-loop-less-2 : (t : ℕ) → walk-body-lts.Need-loop-less-2 (body-claims t) (walk-body-at t) walk-body.Post walk-body-Inv-loop walk-body-μ-loop
-walk-body-loop-less-2 t c = item-further (turn-at t (c .before .before .before .before .before .before)) _ (c .before .before .before .before .walk-item .ensures) (c .before .before .before .before .before .if4 .left) (c .before .before .if6 .left)
+walk-body-loop-less-2 t c = search item-further
 
 walk-body-loop-again-2 : (t : ℕ) → walk-body-lts.Need-loop-again-2 (body-claims t) (walk-body-at t) walk-body.Post walk-body-Inv-loop walk-body-μ-loop
-walk-body-loop-again-2 t c = item-goes (turn-at t (c .before .before .before .before .before .before)) _ (c .before .before .before .before .walk-item .ensures) (c .before .before .before .before .before .if4 .left) (c .before .before .if6 .left) _ (c .last-before .ensures)
+walk-body-loop-again-2 t c = search item-goes
 
 walk-body-passed-body-requires-2 : (t : ℕ) → walk-body-lts.Need-passed-body-requires-2 (body-claims t) (walk-body-at t) walk-body.Post walk-body-Inv-loop walk-body-μ-loop
 walk-body-passed-body-requires-2 t c κs = search needs
 
 walk-body-returns-5 : (t : ℕ) → walk-body-lts.Need-returns-5 (body-claims t) (walk-body-at t) walk-body.Post walk-body-Inv-loop walk-body-μ-loop
-walk-body-returns-5 t c = body-ends _ _ (c .before .before .before .before .before .pre .1 .0) _ _ _ _ _ _ _ (c .before .before .before .loop .inv) _ (c .before .if1 .left) (c .passed-body2 .ensures)
+walk-body-returns-5 t c = search body-ends
 
 walk-group-add-level : (t : ℕ) → walk-group-lts.Need-add-level (group-claims t) (walk-group-at t) walk-group.Post
 walk-group-add-level t c = search needs
@@ -171,7 +165,7 @@ walk-group-failed-group-requires : (t : ℕ) → walk-group-lts.Need-failed-grou
 walk-group-failed-group-requires t c κs = search needs
 
 walk-group-returns : (t : ℕ) → walk-group-lts.Need-returns (group-claims t) (walk-group-at t) walk-group.Post
-walk-group-returns t c = let p = c .before .before .before .before .before .before .pre .1 in group-fails _ _ (p .0) _ (p .1) _ (p .3) _ (p .4) _ (c .before .before .before .before .see-header .ensures) _ (c .before .before .before .walk-body .ensures) _ (c .before .if1 .taken) (c .failed-group .ensures .0) (c .failed-group .ensures .1)
+walk-group-returns t c = search group-fails
 
 walk-group-counts-agree-at-requires : (t : ℕ) → walk-group-lts.Need-counts-agree-at-requires (group-claims t) (walk-group-at t) walk-group.Post
 walk-group-counts-agree-at-requires t c κs = search needs
@@ -180,7 +174,7 @@ walk-group-passed-group-requires : (t : ℕ) → walk-group-lts.Need-passed-grou
 walk-group-passed-group-requires t c κs = search needs
 
 walk-group-returns-2 : (t : ℕ) → walk-group-lts.Need-returns-2 (group-claims t) (walk-group-at t) walk-group.Post
-walk-group-returns-2 t c = let p = c .before .before .before .before .before .before .before .before .before .before .pre .1 in group-agrees _ _ (p .0) _ (p .1) _ (p .3) _ (p .4) _ (c .before .before .before .before .before .before .before .before .see-header .ensures) _ (c .before .before .before .before .before .before .before .walk-body .ensures) (c .before .before .before .before .before .if1 .left) _ _ (c .before .before .counts-agree-at .ensures) (c .before .if2 .taken) (c .passed-group .ensures)
+walk-group-returns-2 t c = search group-agrees
 
 walk-group-add-passed-group : (t : ℕ) → walk-group-lts.Need-add-passed-group (group-claims t) (walk-group-at t) walk-group.Post
 walk-group-add-passed-group t c = search needs
@@ -189,7 +183,7 @@ walk-group-passed-group-requires-2 : (t : ℕ) → walk-group-lts.Need-passed-gr
 walk-group-passed-group-requires-2 t c κs = search needs
 
 walk-group-returns-3 : (t : ℕ) → walk-group-lts.Need-returns-3 (group-claims t) (walk-group-at t) walk-group.Post
-walk-group-returns-3 t c = let p = c .before .before .before .before .before .before .before .before .before .before .pre .1 in group-differs _ _ (p .0) _ (p .1) _ (p .3) _ (p .4) _ (c .before .before .before .before .before .before .before .before .see-header .ensures) _ (c .before .before .before .before .before .before .before .walk-body .ensures) (c .before .before .before .before .before .if1 .left) _ _ (c .before .before .counts-agree-at .ensures) (c .before .if2 .left) (c .passed-group2 .ensures)
+walk-group-returns-3 t c = search group-differs
 
 pub +walk-body+walk-group-spec : {M : Type 1} → statement M
 +walk-body+walk-group-spec = close μ-walk-body μ-walk-group (λ t. walk-body-lts.spec (body-claims t)
