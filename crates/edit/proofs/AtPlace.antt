@@ -6,8 +6,8 @@ use Prim.Native.Nat.{ℕ, suc, pred, _+_, _-_, _/_, _≤_, _<_}
 use native.Mathlib.Omega.{arith}
 use borrow.Author.Tests.{le-leb, ltb-true, ltb-false}
 use lib.Dec.{leb, ltb}
-use lib.ListN.{length, drop, getD, length-append, length-drop, drop-of-length-le, List·getD-eq-default}
-use lib.Seq.{length-take-le, getD-take, getD-drop, drop-cons}
+use lib.ListN.{length, drop, getD, length-append, drop-of-length-le, List·getD-eq-default}
+use lib.Seq.{length-take-le, getD-take, drop-cons}
 use Rattle.format.specs.Basics.{chunks}
 use Rattle.format.specs.Record.{isHead, countIndex, nothing, View, view, countIn}
 use Rattle.format.specs.Layout.{numberAt, header}
@@ -15,9 +15,8 @@ use Rattle.format.specs.Sheet.{partLength}
 use Rattle.format.specs.Judge.{File, sheetIn, AcceptedSheet}
 use Rattle.format.specs.Edit.{absent, aboveIn, lastHeader, dueBehind, openBehind, notBelow, before, after, bodyPlace}
 use Rattle.format.proofs.Above.{Split, find-in, lastHeader-split}
-use Rattle.format.proofs.AcceptedSheet.{accepted-list, length-records, length-body, passed, behind}
+use Rattle.format.proofs.AcceptedSheet.{length-records, length-body, record-wide, body-view, passed, behind}
 use Rattle.format.proofs.EditInsert.{above-is}
-use Rattle.format.proofs.Lists.{wide-get, getD-views}
 use Rattle.format.proofs.JudgeWalks.{Passes, Good, good, sort}
 use Rattle.records.specs.Entry.{viewFault, entryOf}
 use Rattle.records.proofs.Laws.{entry-fault, entry-level, header-total, header-count}
@@ -35,13 +34,6 @@ module _ {used : ℕ} {l : List ℕ} (a : AcceptedSheet used l) (place : ℕ) wh
   abbrev q : ℕ
   q = bodyPlace (sheetIn used l) place
 
-  -- the body's records
-  body-view : (i : ℕ) → i < length (file .body) → getD (file .body) i absent ≡ view (getD rs (partLength rs + i) [])
-  body-view i h = getD-views (drop (partLength rs) rs) i (omega (arith, h, length-body a, length-drop (partLength rs) rs, length-records a)) ∙ ap view (getD-drop (partLength rs) rs i [])
-
-  body-wide : (i : ℕ) → i < length (file .body) → length (getD rs (partLength rs + i) []) ≡ 84
-  body-wide i h = wide-get (partLength rs + i) rs (accepted-list a .wide) (omega (arith, h, length-body a, length-records a))
-
   -- ---- the header or item at the place
   module _ (follows : partLength (chunks (used / 84) l) < place) (closed : dueBehind 0 (before (sheetIn used l) place) ≡ 0) where
     index-is : partLength rs + q ≡ place - 1
@@ -58,10 +50,10 @@ module _ {used : ℕ} {l : List ℕ} (a : AcceptedSheet used l) (place : ℕ) wh
     starts h = record { wide = w; seen = v; sound = entry-fault (getD rs (place - 1) []) w ∙ rw (← v, le-leb (countIndex ((getD (file .body) q absent) .kind)) 9 (g .known), g .sound); good-here = g }
       where
         w : length (getD rs (place - 1) []) ≡ 84
-        w = rw (← index-is) (body-wide q h)
+        w = record-wide a (place - 1) (omega (arith, h, length-body a))
 
         v : getD (file .body) q absent ≡ view (getD rs (place - 1) [])
-        v = rw (← index-is) (body-view q h)
+        v = rw (← index-is) (body-view a q h)
 
         p : Passes (openBehind 0 0 pre) 0 (sort 0 nothing pre) (getD (file .body) q absent ∷ drop (suc q) (file .body))
         p = rw (closed, drop-cons (file .body) q absent h) at (behind a place)
@@ -103,10 +95,10 @@ module _ {used : ℕ} {l : List ℕ} (a : AcceptedSheet used l) (place : ℕ) wh
     above-record = getD (chunks (used / 84) l) (partLength (chunks (used / 84) l) + pred (aboveIn level (before (sheetIn used l) place))) []
 
     pub above-wide : length above-record ≡ 84
-    above-wide = body-wide (pred (aboveIn level pre)) (omega (arith, above-low, above-high))
+    above-wide = record-wide a (partLength rs + pred (aboveIn level pre)) (omega (arith, above-low, above-high, length-body a))
 
     above-view : getD pre (pred (aboveIn level pre)) absent ≡ view above-record
-    above-view = getD-take q (file .body) (pred (aboveIn level pre)) absent (omega (arith, above-low, above-high)) ∙ body-view (pred (aboveIn level pre)) (omega (arith, above-low, above-high))
+    above-view = getD-take q (file .body) (pred (aboveIn level pre)) absent (omega (arith, above-low, above-high)) ∙ body-view a (pred (aboveIn level pre)) (omega (arith, above-low, above-high))
 
     above-head : isHead ((view above-record) .kind) ≡ true
     above-head = rw (sym above-view ∙ above-is level pre split) (split .is-head)

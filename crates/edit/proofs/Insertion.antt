@@ -17,13 +17,14 @@ use Rattle.format.specs.Edit.{hasRoom, blockItem, insertFault, insert11, fault1
 use Rattle.format.specs.declared.Block.{Block}
 use Rattle.format.specs.declared.Block.the-variants.{Item, NoItem}
 use Rattle.format.specs.Answers.{blockAnswer}
-use Rattle.format.proofs.AcceptedSheet.{records-are, sheet-two}
+use Rattle.format.proofs.AcceptedSheet.{records-are, sheet-two, all-records}
 use Rattle.format.proofs.Basics.{and-true, first-zero, unless-zero}
 use Rattle.format.proofs.Lists.{length-chunks, flat-chunks}
 use Rattle.records.specs.declared.items.Entry.{Entry}
 use Rattle.records.specs.Entry.{entryOf}
 use Rattle.files.specs.Records as Files
 use Rattle.files.specs.declared.Stride.the-variants.{Plain}
+use Rattle.files.proofs.Records.{front-records}
 use Rattle.edit_block.proofs.Laws.{OneItem, read-item, read-none}
 use Rattle.edit.specs.declared.plans.Plan.the-variants.{Refuse, Store}
 use Rattle.judge.specs.declared.Sheet.{Sheet}
@@ -33,7 +34,7 @@ use Rattle.edit.proofs.Columns.{one-more-fits}
 use Rattle.edit.proofs.Inserted.{count-of-total, insert-stored}
 use Rattle.edit.proofs.Refused.{insert-refused}
 use Rattle.edit.proofs.AtPlace.{not-below, above-total, above-count}
-use Rattle.edit.proofs.OpenedAt.{body-long, start-is, insert-place, AtStart, at-start, plain-file, at-inside, has-above, index-is, index-inside, record-is}
+use Rattle.edit.proofs.OpenedAt.{start-is, insert-place, AtStart, at-start, at-inside, has-above, index-is, index-inside, record-is}
 
 -- ---- a block that is an item is whole records
 module _ (block : List ℕ) (no-fault : fault12 (map view (blockOf block)) ≡ 0) where
@@ -106,7 +107,7 @@ module _ (l : List ℕ) (used place : ℕ) (sheet : Sheet) (s : OpenedAt l used 
           module _ (next : Entry) (next-is : next ≡ entryOf (getD (Files.recordsOf Plain (take used l)) (place - 1) [])) (nests : Bool) (nests-is : nests ≡ nestsIn (sheet .opened) level (next .level)) where
             thirteen : insert13 file place views ≡ unless nests 13
             unfolding nestsIn
-            thirteen = rw (← (one .level-is), not-below (s .accepted) place (omega (arith, start .follows, s .part-is)) (start .closed) level, ← (s .opened-is), nests-is, next-is, plain-file l used place sheet s)
+            thirteen = rw (← (one .level-is), not-below (s .accepted) place (omega (arith, start .follows, s .part-is)) (start .closed) level, ← (s .opened-is), nests-is, next-is, front-records used l (s .inside))
 
             pub wrong-level : not nests ≡ true → InsertionPlanned l used place block (Refuse 13 0)
             wrong-level n = refusal 12 (rw (eleven, one .no-fault, thirteen, not-true nests n))
@@ -148,7 +149,7 @@ module _ (l : List ℕ) (used place : ℕ) (block : List ℕ) (sheet : Sheet) (k
     long = length-map (blockOf block) view ∙ length-block block (n .twelve)
 
     body-there : (sheetIn used l) .partLength + length ((sheetIn used l) .body) ≡ used / 84
-    body-there = omega (arith, n .opened-at .part-is, body-long l used place sheet (n .opened-at))
+    body-there = omega (arith, n .opened-at .part-is, all-records (n .opened-at .accepted))
 
     fourteen : insert14 (sheetIn used l) place itemViews 200000 ≡ unless (hasRoom (above .total) kind (above .count) (used / 84 + length block / 84) 200000) 14
     fourteen = rw (total-seen, count-seen, ← (n .kind-is), body-there, long)

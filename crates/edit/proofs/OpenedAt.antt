@@ -7,16 +7,15 @@ use native.Mathlib.Omega.{arith}
 use borrow.Author.Tests.{leb-true, ltb-true, ltb-false, le-leb, lt-leb, eqb-true}
 use lib.Dec.{leb, ltb, eqb}
 use lib.ListN.{length, take, getD}
-use lib.Seq.{length-take-le}
 use Rattle.format.specs.Basics.{none, fault, unless, chunks}
 use Rattle.format.specs.Layout.{numberAt, header}
 use Rattle.format.specs.Record.{View, isHead, countIn}
 use Rattle.format.specs.Sheet.{partLength}
-use Rattle.format.specs.Judge.{sheetIn, AcceptedSheet}
+use Rattle.format.specs.Judge.{sheetIn}
 use Rattle.format.specs.Calls.{insert, remove}
 use Rattle.format.specs.Edit.{absent, aboveIn, lastHeader, dueBehind, openBehind, insert11, remove11, before, bodyPlace}
 use Rattle.format.proofs.Basics.{and-true, and-same, leb-same}
-use Rattle.format.proofs.AcceptedSheet.{inside, few, used-length, length-records, sheet-inside, length-body, elements-few}
+use Rattle.format.proofs.AcceptedSheet.{inside, few, used-length, all-records, elements-few}
 use Rattle.files.specs.Records as Files
 use Rattle.files.specs.declared.Stride.the-variants.{Plain}
 use Rattle.files.proofs.Records.{front-records, plain-records, count-plain, record-wide}
@@ -24,7 +23,7 @@ use Rattle.records.specs.declared.items.Entry.{Entry}
 use Rattle.records.specs.Entry.{entryOf}
 use Rattle.judge.specs.declared.Sheet.{Sheet}
 use Rattle.judge.specs.Sheet.{bodyBefore, openedIn}
-use Rattle.judge.proofs.Opened.{Opened, sheet-refused-is, opened-sheet}
+use Rattle.judge.proofs.Opened.{Opened, sheet-refused-is, opened-sheet, before-place}
 use Rattle.edit.specs.declared.plans.Plan.the-variants.{Refuse}
 use Rattle.edit.specs.Plans.{InsertionPlanned, RemovalPlanned, OpenedAt, isPlace, HasAbove, headerRecord, AboveRead}
 use Rattle.edit.proofs.Refused.{not-accepted}
@@ -44,24 +43,21 @@ module _ (l : List ℕ) (used place at : ℕ) (at-is : at ≡ place - 1) (sheet 
     o : Opened used l at sheet
     o = opened-sheet used l at sheet is none
 
-    a : AcceptedSheet used l
-    a = record { counts = record { records = used / 84; items = sheet .items }; judged = o .judged }
-
     before-is : bodyBefore (sheetIn used l) at ≡ before (sheetIn used l) place
-    before-is = ap (λ (n : ℕ). take n ((sheetIn used l) .body)) (let e : at - (sheetIn used l) .partLength ≡ bodyPlace (sheetIn used l) place = omega (arith, at-is) in e)
+    before-is = ap (bodyBefore (sheetIn used l)) at-is ∙ before-place (sheetIn used l) place
 
     pub opens-at : OpenedAt l used place sheet
     opens-at = record {
-      accepted = a;
+      accepted = o .accepted;
       part-is = o .part-is;
-      items-are = o .elements-are;
+      items-are = o .items-are;
       due-is = o .due-is ∙ ap (dueBehind 0) before-is;
       opened-is = o .opened-is ∙ ap (openBehind 0 0) before-is;
       header-is = λ level low high. o .header-is (level - 1) (omega arith) ∙ ap (λ (rs : List View). (sheetIn used l) .partLength + lastHeader (level - 1) 0 1 0 rs) before-is ∙ ap (λ (n : ℕ). (sheetIn used l) .partLength + lastHeader n 0 1 0 (before (sheetIn used l) place)) (let e : level - 1 ≡ pred level = omega arith in e);
-      inside = o .used-inside;
-      few = few a;
-      part-inside = o .inside;
-      items-few = omega (arith, o .elements-are, elements-few a);
+      inside = inside (o .accepted);
+      few = few (o .accepted);
+      part-inside = omega (arith, o .part-is, all-records (o .accepted));
+      items-few = omega (arith, o .items-are, elements-few (o .accepted));
     }
 
 ltb-leb : (a b : ℕ) → ltb a b ≡ leb (suc a) b
@@ -73,30 +69,20 @@ ltb-leb a b = go (ltb a b) refl
 
 -- ---- at a place
 module _ (l : List ℕ) (used place : ℕ) (sheet : Sheet) (s : OpenedAt l used place sheet) where
-  -- the used part has the buffer's records
-  pub plain-file : Files.recordsOf Plain (take used l) ≡ chunks (used / 84) l
-  plain-file = front-records used l (s .inside)
-
-  file-records : chunks (length (take used l) / 84) (take used l) ≡ chunks (used / 84) l
-  file-records = sym (plain-records (take used l)) ∙ plain-file
-
-  pub body-long : sheet .part + length ((sheetIn used l) .body) ≡ used / 84
-  body-long = omega (arith, s .part-is, length-body (s .accepted), sheet-inside (s .accepted), length-records (s .accepted))
-
   -- 11, by the numbers
   pub insert-place : insert11 (sheetIn used l) place ≡ unless (isPlace (sheet .part) (used / 84 + 1) (sheet .due) place) 11
   unfolding isPlace
   insert-place = rw (s .part-is, s .due-is) (ap (λ (t : Bool). unless (t && eqb (dueBehind 0 (before (sheetIn used l) place)) 0) 11) (and-same (ltb ((sheetIn used l) .partLength) place) _ _ same))
     where
       same : ltb ((sheetIn used l) .partLength) place ≡ true → leb (bodyPlace (sheetIn used l) place) (length ((sheetIn used l) .body)) ≡ leb place (used / 84 + 1)
-      same e = leb-same (bodyPlace (sheetIn used l) place) (length ((sheetIn used l) .body)) place (used / 84 + 1) (λ h. omega (arith, h, ltb-true ((sheetIn used l) .partLength) place e, body-long, s .part-is)) (λ h. omega (arith, h, ltb-true ((sheetIn used l) .partLength) place e, body-long, s .part-is))
+      same e = leb-same (bodyPlace (sheetIn used l) place) (length ((sheetIn used l) .body)) place (used / 84 + 1) (λ h. omega (arith, h, ltb-true ((sheetIn used l) .partLength) place e, all-records (s .accepted), s .part-is)) (λ h. omega (arith, h, ltb-true ((sheetIn used l) .partLength) place e, all-records (s .accepted), s .part-is))
 
   pub remove-place : remove11 (sheetIn used l) place ≡ unless (isPlace (sheet .part) (used / 84) (sheet .due) place && not (isHead ((getD ((sheetIn used l) .body) (bodyPlace (sheetIn used l) place) absent) .kind))) 11
   unfolding isPlace
   remove-place = rw (s .part-is, s .due-is) (ap (λ (t : Bool). unless (t && eqb (dueBehind 0 (before (sheetIn used l) place)) 0 && not (isHead ((getD ((sheetIn used l) .body) (bodyPlace (sheetIn used l) place) absent) .kind))) 11) (and-same (ltb ((sheetIn used l) .partLength) place) _ _ same))
     where
       same : ltb ((sheetIn used l) .partLength) place ≡ true → ltb (bodyPlace (sheetIn used l) place) (length ((sheetIn used l) .body)) ≡ leb place (used / 84)
-      same e = ltb-leb (bodyPlace (sheetIn used l) place) (length ((sheetIn used l) .body)) ∙ leb-same (suc (bodyPlace (sheetIn used l) place)) (length ((sheetIn used l) .body)) place (used / 84) (λ h. omega (arith, h, ltb-true ((sheetIn used l) .partLength) place e, body-long, s .part-is)) (λ h. omega (arith, h, ltb-true ((sheetIn used l) .partLength) place e, body-long, s .part-is))
+      same e = ltb-leb (bodyPlace (sheetIn used l) place) (length ((sheetIn used l) .body)) ∙ leb-same (suc (bodyPlace (sheetIn used l) place)) (length ((sheetIn used l) .body)) place (used / 84) (λ h. omega (arith, h, ltb-true ((sheetIn used l) .partLength) place e, all-records (s .accepted), s .part-is)) (λ h. omega (arith, h, ltb-true ((sheetIn used l) .partLength) place e, all-records (s .accepted), s .part-is))
 
   -- what a place has
   pub record AtStart (last : ℕ) : Type 0 where
@@ -118,7 +104,7 @@ module _ (l : List ℕ) (used place : ℕ) (sheet : Sheet) (s : OpenedAt l used 
   -- ---- the header above an item there
   module _ (follows : sheet .part < place) (up-to : place ≤ used / 84 + 1) (level : ℕ) (low : 2 ≤ level) (high : level ≤ 9) (near : pred level ≤ openBehind 0 0 (before (sheetIn used l) place)) where
     pub at-inside : bodyPlace (sheetIn used l) place ≤ length ((sheetIn used l) .body)
-    at-inside = omega (arith, body-long, s .part-is)
+    at-inside = omega (arith, all-records (s .accepted), s .part-is)
 
     number : getD (sheet .headers) (level - 1) 0 ≡ (sheetIn used l) .partLength + aboveIn level (before (sheetIn used l) place)
     number = s .header-is level (omega arith) high
@@ -130,16 +116,16 @@ module _ (l : List ℕ) (used place : ℕ) (sheet : Sheet) (s : OpenedAt l used 
     number-high = above-high (s .accepted) place level at-inside low near
 
     pub has-above : (kind : ℕ) → kind ≤ 9 → HasAbove (take used l) sheet level kind
-    has-above kind most = record { level-low = omega arith; level-high = omega arith; header-low = omega (arith, number, number-low); header-high = rw (← (used-length (s .accepted))) (omega (arith, number, number-high, at-inside, body-long)); kind-most = most }
+    has-above kind most = record { level-low = omega arith; level-high = omega arith; header-low = omega (arith, number, number-low); header-high = rw (← (used-length (s .accepted))) (omega (arith, number, number-high, at-inside, all-records (s .accepted))); kind-most = most }
 
     pub index-is : getD (sheet .headers) (level - 1) 0 - 1 ≡ partLength (chunks (used / 84) l) + pred (aboveIn level (before (sheetIn used l) place))
     index-is = omega (arith, number, number-low, s .part-is)
 
     pub index-inside : getD (sheet .headers) (level - 1) 0 - 1 < used / 84
-    index-inside = omega (arith, number, number-low, number-high, at-inside, body-long)
+    index-inside = omega (arith, number, number-low, number-high, at-inside, all-records (s .accepted))
 
     pub record-is : headerRecord (take used l) sheet level ≡ getD (chunks (used / 84) l) (partLength (chunks (used / 84) l) + pred (aboveIn level (before (sheetIn used l) place))) []
-    record-is = rw (file-records, index-is)
+    record-is = ap (λ (rs : List (List ℕ)). getD rs (getD (sheet .headers) (level - 1) 0 - 1) []) (sym (plain-records (take used l)) ∙ front-records used l (s .inside)) ∙ rw index-is
 
 -- ---- `header_above`
 module _ (file : List ℕ) (sheet : Sheet) (level kind : ℕ) (h : HasAbove file sheet level kind) (r : List ℕ) (is : r ≡ getD (Files.recordsOf Plain file) (getD (sheet .headers) (level - 1) 0 - 1) []) where
@@ -155,7 +141,3 @@ module _ (file : List ℕ) (sheet : Sheet) (level kind : ℕ) (h : HasAbove file
 -- ---- `entry_at`
 pub entry-read : (file r : List ℕ) (index : ℕ) (e : Entry) → r ≡ getD (Files.recordsOf Plain file) index [] → e ≡ entryOf r → e ≡ entryOf (getD (Files.recordsOf Plain file) index [])
 entry-read file r index e read is = is ∙ ap entryOf read
-
--- the used part of the buffer
-pub used-inside : (used : ℕ) (l : List ℕ) → used ≤ length l → used ≡ length (take used l)
-used-inside used l h = sym (length-take-le used l h)

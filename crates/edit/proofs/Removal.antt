@@ -13,7 +13,7 @@ use Rattle.format.specs.Record.{isHead, countIndex, View, countIn}
 use Rattle.format.specs.Sheet.{partLength}
 use Rattle.format.specs.Judge.{File, sheetIn}
 use Rattle.format.specs.Edit.{remove11, absent, aboveIn, openBehind, before, bodyPlace}
-use Rattle.format.proofs.AcceptedSheet.{accepted-list, sheet-two, records-are}
+use Rattle.format.proofs.AcceptedSheet.{accepted-list, sheet-two, all-records, records-are}
 use Rattle.format.proofs.EditItems.{item-low}
 use Rattle.format.proofs.EditRemove.{cuts, enough, b-good}
 use Rattle.records.specs.declared.items.Entry.{Entry}
@@ -21,6 +21,7 @@ use Rattle.records.specs.Entry.{entryOf}
 use Rattle.records.proofs.Laws.{entry-kind, entry-level, entry-data-records, entry-head}
 use Rattle.files.specs.Records as Files
 use Rattle.files.specs.declared.Stride.the-variants.{Plain}
+use Rattle.files.proofs.Records.{front-records}
 use Rattle.edit_block.proofs.Items.{item-high}
 use Rattle.edit.specs.declared.plans.Plan.the-variants.{Refuse, Store}
 use Rattle.judge.specs.declared.Sheet.{Sheet}
@@ -29,7 +30,7 @@ use Rattle.edit.specs.Plans.{OpenedAt, isPlace, HasAbove, headerRecord, 
 use Rattle.edit.proofs.Columns.{one-less-fits}
 use Rattle.edit.proofs.Refused.{remove-refused}
 use Rattle.edit.proofs.AtPlace.{Start, starts, above-wide}
-use Rattle.edit.proofs.OpenedAt.{body-long, start-is, remove-place, AtStart, at-start, plain-file, at-inside, has-above, index-is, index-inside, record-is}
+use Rattle.edit.proofs.OpenedAt.{start-is, remove-place, AtStart, at-start, at-inside, has-above, index-is, index-inside, record-is}
 use Rattle.edit.proofs.Removed.{remove-stored}
 
 -- ---- 11
@@ -56,7 +57,7 @@ module _ (l : List ℕ) (used place : ℕ) (sheet : Sheet) (s : OpenedAt l used 
       place-some = omega (arith, start .follows)
 
       inside : bodyPlace file place < length (file .body)
-      inside = omega (arith, start .follows, start .up-to, body-long l used place sheet s, s .part-is)
+      inside = omega (arith, start .follows, start .up-to, all-records (s .accepted), s .part-is)
 
       module _ (item : Entry) (item-is : item ≡ entryOf (getD (Files.recordsOf Plain (take used l)) (place - 1) [])) where
         follows : partLength (chunks (used / 84) l) < place
@@ -69,7 +70,7 @@ module _ (l : List ℕ) (used place : ℕ) (sheet : Sheet) (s : OpenedAt l used 
         there = starts (s .accepted) place follows (start .closed) inside
 
         is : item ≡ entryOf here
-        is = item-is ∙ ap (λ (rs : List (List ℕ)). entryOf (getD rs (place - 1) [])) (plain-file l used place sheet s)
+        is = item-is ∙ ap (λ (rs : List (List ℕ)). entryOf (getD rs (place - 1) [])) (front-records used l (s .inside))
 
         head-is : isHead (gone .kind) ≡ eqb (item .kind) 0
         head-is = ap (λ (v : View). isHead (v .kind)) (there .seen) ∙ entry-head here (there .wide) (there .sound) ∙ rw is
@@ -110,7 +111,7 @@ module _ (l : List ℕ) (used place : ℕ) (sheet : Sheet) (s : OpenedAt l used 
             level-low = omega (arith, level-is, low);
             level-high = omega (arith, level-is, high);
             behind = start .follows;
-            data-inside = omega (arith, data-is, enough file place (accepted-list (s .accepted) .ok) (cuts file place eleven), length-drop (bodyPlace file place) (file .body), body-long l used place sheet s, s .part-is, start .follows);
+            data-inside = omega (arith, data-is, enough file place (accepted-list (s .accepted) .ok) (cuts file place eleven), length-drop (bodyPlace file place) (file .body), all-records (s .accepted), s .part-is, start .follows);
           }
 
 -- ---- the counts
@@ -165,5 +166,5 @@ module _ (l : List ℕ) (used place : ℕ) (sheet : Sheet) (item : Entry) (m : R
           records-fit = omega (arith, m .opened-at .few);
         };
       };
-      outcome = remove-stored l used place (m .opened-at .accepted) _ (m .eleven) (omega (arith, m .data-inside, m .data-is, m .behind, body-long l used place sheet (m .opened-at), m .opened-at .part-is)) (omega (arith, m .level-low, m .level-is)) (omega (arith, near, m .level-is)) (omega (arith, m .kind-most, m .kind-is)) header-is (m .kind-is) (total-is ∙ ap (λ (n : ℕ). n - 1) (read .total-is ∙ ap (numberAt header "total") record-there)) (count-is ∙ ap (λ (n : ℕ). n - 1) (read .count-is ∙ ap (λ (r : List ℕ). countIn r (item .kind)) record-there ∙ ap (countIn (getD (chunks (used / 84) l) index [])) (m .kind-is))) (elements-is ∙ ap (λ (n : ℕ). n - 1) (m .opened-at .items-are)) (omega (arith, records-are (m .opened-at .accepted), m .opened-at .part-is, m .data-is)) (start-is l used place sheet (m .opened-at) (m .behind)) out-is;
+      outcome = remove-stored l used place (m .opened-at .accepted) _ (m .eleven) (omega (arith, m .data-inside, m .data-is, m .behind, all-records (m .opened-at .accepted), m .opened-at .part-is)) (omega (arith, m .level-low, m .level-is)) (omega (arith, near, m .level-is)) (omega (arith, m .kind-most, m .kind-is)) header-is (m .kind-is) (total-is ∙ ap (λ (n : ℕ). n - 1) (read .total-is ∙ ap (numberAt header "total") record-there)) (count-is ∙ ap (λ (n : ℕ). n - 1) (read .count-is ∙ ap (λ (r : List ℕ). countIn r (item .kind)) record-there ∙ ap (countIn (getD (chunks (used / 84) l) index [])) (m .kind-is))) (elements-is ∙ ap (λ (n : ℕ). n - 1) (m .opened-at .items-are)) (omega (arith, records-are (m .opened-at .accepted), m .opened-at .part-is, m .data-is)) (start-is l used place sheet (m .opened-at) (m .behind)) out-is;
     }

@@ -3,23 +3,23 @@
 use mathlib.Core.Path.{_≡_, ap, ap₂, sym, _∙_}
 use mathlib.Core.Bool.{Bool, true}
 use mathlib.Core.List.{List, [], _++_}
-use Prim.Native.Nat.{ℕ, _+_, _-_, _*_, _/_, _%_, _≤_}
+use Prim.Native.Nat.{ℕ, _+_, _-_, _*_, _/_, _%_, _≤_, _<_}
 use native.Mathlib.Omega.{arith}
 use borrow.Author.Tests.{le-leb, eq-eqb, lt-ltb}
 use lib.ListN.{length, take, drop, getD, length-append, length-drop, length-map, take-append-drop}
-use lib.Seq.{length-take-le, drop-at}
+use lib.Seq.{length-take-le, drop-at, getD-drop}
 use Rattle.format.specs.Basics.{Answer, given, refused, Fault, none, chunks, flat, stageOneOk}
 use Rattle.format.specs.Record.{nothing, view}
 use Rattle.format.specs.Sheet.{partLength, sheetFault, statedElements, statedRecords}
 use Rattle.format.specs.Judge.{Counts, accepted, fileOf, judge, judgeRecords, judgeSheet, afterPart, afterStageOne, sheetIn, AcceptedSheet}
-use Rattle.format.specs.Edit.{RecordList, dueBehind, openBehind, before, after, bodyPlace}
+use Rattle.format.specs.Edit.{RecordList, absent, dueBehind, openBehind, before, after, bodyPlace}
 use Rattle.format.specs.Calls.{Edit, plain}
 use Rattle.format.specs.Run.{bufferOf, listOf, call}
 use Rattle.format.proofs.Basics.{true-and}
 use Rattle.format.proofs.JudgeWalks.{Passes, sort, passes-split}
 use Rattle.format.proofs.JudgeAccepted.{accepted-ok, ok-accepted}
 use Rattle.format.proofs.JudgeStages.{Whole, stage-one, stage-given, part-given}
-use Rattle.format.proofs.Lists.{Wide, wide-chunks, chunks-flat, flat-chunks, length-flat, length-chunks}
+use Rattle.format.proofs.Lists.{Wide, wide-chunks, wide-get, getD-views, chunks-flat, flat-chunks, length-flat, length-chunks}
 use Rattle.format.proofs.EditInsert.{fine-none}
 use Rattle.format.proofs.EditRecords.{AcceptedList, items-few}
 use Rattle.format.proofs.SheetCounts.{theLaws}
@@ -98,6 +98,14 @@ module _ {used : ℕ} {l : List ℕ} (a : AcceptedSheet used l) where
 
   pub all-records : (sheetIn used l) .partLength + length ((sheetIn used l) .body) ≡ used / 84
   all-records = omega (arith, length-body, sheet-inside, length-records)
+
+  pub record-wide : (k : ℕ) → k < used / 84 → length (getD (chunks (used / 84) l) k []) ≡ 84
+  record-wide k h = wide-get k (chunks (used / 84) l) (accepted-list .wide) (rw length-records h)
+
+  pub body-view : (i : ℕ) → i < length ((sheetIn used l) .body) → getD ((sheetIn used l) .body) i absent ≡ view (getD (chunks (used / 84) l) (partLength (chunks (used / 84) l) + i) [])
+  body-view i h =
+      let part = partLength (chunks (used / 84) l) in
+      getD-views (drop part (chunks (used / 84) l)) i (omega (arith, length-body, length-drop part (chunks (used / 84) l), length-records)) ∙ ap view (getD-drop part (chunks (used / 84) l) i [])
 
   -- ---- the two counts of record 2, and the verdict
   pub records-are : statedRecords (getD (chunks (used / 84) l) 1 []) ≡ used / 84 - partLength (chunks (used / 84) l)

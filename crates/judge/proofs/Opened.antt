@@ -2,26 +2,19 @@
 use mathlib.Core.Path.{_≡_, refl, ap, sym, _∙_}
 use mathlib.Core.Bool.{Bool, true, false}
 use mathlib.Core.List.{List, [], _∷_}
-use Prim.Native.Nat.{ℕ, zero, suc, _+_, _-_, _*_, _/_, _≤_, _<_}
+use Prim.Native.Nat.{ℕ, zero, suc, _-_, _/_, _≤_}
 use native.Mathlib.Omega.{arith}
 use native.Mathlib.Nat.{zero-add}
-use lib.ListN.{length, take, getD, drop, length-drop}
-use lib.Seq.{getD-drop}
+use lib.ListN.{take, getD}
 use Rattle.format.specs.Basics.{Answer, given, refused, Fault, none, fault, orElse, toFault, chunks, stageOneOk}
-use Rattle.format.specs.Record.{Data, View, view, nothing}
+use Rattle.format.specs.Record.{Data, View, nothing}
 use Rattle.format.specs.Layout.{numberAt, sheetB}
-use Rattle.format.specs.Sheet.{corners, sheetFault, partLength, statedElements, statedRecords}
-use Rattle.format.specs.Judge.{Counts, File, fileOf, walk, missing, faultAt, openAfter, dueAfter, heldAfter, ownerAfter, countFault, headersAndItems, headerCountFault, sheetCountFault, bodyFault, items, accepted, verdict, judge, afterPart, judgeRecords, afterStageOne, judgeSheet, sheetIn, AcceptedSheet}
-use Rattle.format.specs.Edit.{absent, dueBehind, openBehind, bodyPlace}
+use Rattle.format.specs.Sheet.{corners, sheetFault, partLength, statedElements}
+use Rattle.format.specs.Judge.{Counts, File, fileOf, walk, missing, faultAt, openAfter, dueAfter, heldAfter, ownerAfter, countFault, headersAndItems, headerCountFault, sheetCountFault, bodyFault, verdict, judge, afterPart, judgeRecords, afterStageOne, judgeSheet, sheetIn, AcceptedSheet}
+use Rattle.format.specs.Edit.{dueBehind, openBehind, bodyPlace}
 use Rattle.format.specs.Answers.{judgedAnswer}
 use Rattle.format.specs.declared.Judged.the-variants.{Accepted, Refused}
-use Rattle.format.proofs.JudgeAccepted.{Ok, ok-accepted}
-use Rattle.format.proofs.AcceptedSheet as Accepted
-use Rattle.format.proofs.AcceptedSheet.{inside, body-judged, accepted-list, length-records, whole, sheet-two, sheet-inside, length-body, elements-are, records-are}
-use Rattle.format.proofs.Lists.{length-chunks, wide-chunks, wide-get, getD-views}
-use Rattle.files.specs.declared.Stride.the-variants.{Plain}
-use Rattle.files.specs.Records.{recordsOf}
-use Rattle.files.proofs.Records.{front-records}
+use Rattle.format.proofs.AcceptedSheet.{verdict-is, elements-are}
 use Rattle.part_and_index.specs.Result.{sheetPartOf}
 use Rattle.part_and_index.proofs.Laws.{sound-part}
 use Rattle.judge.specs.declared.Sheet.{Sheet}
@@ -100,26 +93,11 @@ sheet-some used buffer = go (stageOneOk used buffer)
     go true = records-some (chunks (used / 84) buffer)
     go false = λ z. omega arith
 
-abbrev recordsIn : Answer Counts → ℕ
-recordsIn (given counts) = counts .records
-recordsIn (refused number at) = 0
-
--- judging counts its records
-all-records : (used : ℕ) (buffer : List ℕ) (a : AcceptedSheet used buffer) → a .counts .records ≡ used / 84
-all-records used buffer a = ap recordsIn (sym (body-judged a) ∙ ok-accepted (sheetIn used buffer) (accepted-list a .ok)) ∙ omega (arith, length-body a, sheet-inside a, length-records a)
-
--- what fault 0 says of an opened sheet `s`; `f` are its sheet part and body
+-- what fault 0 says of an opened sheet `s`: that it is accepted, and what its numbers are
 pub record Opened (used : ℕ) (buffer : List ℕ) (before : ℕ) (s : Sheet) : Type 0 where
-  pub judged : judgeSheet used buffer ≡ accepted (used / 84) (s .items)
-  pub ok : Ok (sheetIn used buffer)
-  pub used-inside : used ≤ length buffer
-  pub used-records : used ≡ 84 * (used / 84)
-  pub body-length : length ((sheetIn used buffer) .body) ≡ used / 84 - s .part
+  pub accepted : AcceptedSheet used buffer
+  pub items-are : s .items ≡ statedElements (getD (chunks (used / 84) buffer) 1 [])
   pub part-is : s .part ≡ partLength (chunks (used / 84) buffer)
-  pub inside : s .part ≤ used / 84
-  pub two : 2 ≤ s .part
-  pub elements-are : s .items ≡ statedElements (getD (chunks (used / 84) buffer) 1 [])
-  pub records-are : used / 84 - s .part ≡ statedRecords (getD (chunks (used / 84) buffer) 1 [])
   pub unit-is : s .unit ≡ numberAt sheetB "unit" (getD (chunks (used / 84) buffer) 1 [])
   pub corners-are : s .corners ≡ corners (chunks (used / 84) buffer)
   pub due-is : s .due ≡ dueBehind 0 (bodyBefore (sheetIn used buffer) before)
@@ -143,23 +121,13 @@ module _ (used : ℕ) (buffer : List ℕ) (before : ℕ) (s : Sheet) (is : s ≡
   unfolding SomeRefusal
   opened-sheet z = go (judgeSheet used buffer) refl (sheet-some used buffer)
     where
-      given-opened : (counts : Counts) → judgeSheet used buffer ≡ given counts → Opened used buffer before s
-      given-opened counts e =
-          let fields : s ≡ openedSheet (given counts) (chunks (used / 84) buffer) before = by (given counts) e in
-          let a : AcceptedSheet used buffer = record { counts = counts; judged = e } in
-          let part : s .part ≡ partLength (chunks (used / 84) buffer) = ap (λ (r : Sheet). r .part) fields in
-          let found : s .items ≡ counts .items = ap (λ (r : Sheet). r .items) fields in
+      given-opened : (a : AcceptedSheet used buffer) → Opened used buffer before s
+      given-opened a =
+          let fields : s ≡ openedSheet (given (a .counts)) (chunks (used / 84) buffer) before = by (given (a .counts)) (a .judged) in
           record {
-            judged = e ∙ rw (found, ← all-records used buffer a);
-            ok = accepted-list a .ok;
-            used-inside = inside a;
-            used-records = whole a ∙ rw (length-records a);
-            body-length = length-body a ∙ rw part;
-            part-is = part;
-            inside = omega (arith, part, sheet-inside a, length-records a);
-            two = omega (arith, part, sheet-two a);
-            elements-are = found ∙ sym (elements-are a);
-            records-are = sym (records-are a ∙ rw part);
+            accepted = a;
+            items-are = ap (λ (r : Sheet). r .items) fields ∙ sym (elements-are a);
+            part-is = ap (λ (r : Sheet). r .part) fields;
             unit-is = ap (λ (r : Sheet). r .unit) fields;
             corners-are = ap (λ (r : Sheet). r .corners) fields;
             due-is = ap (λ (r : Sheet). r .due) fields;
@@ -169,29 +137,8 @@ module _ (used : ℕ) (buffer : List ℕ) (before : ℕ) (s : Sheet) (is : s ≡
           }
 
       go : (answer : Answer Counts) → judgeSheet used buffer ≡ answer → SomeRefusal answer → Opened used buffer before s
-      go (given counts) e p = given-opened counts e
+      go (given counts) e p = given-opened (record { counts = counts; judged = e })
       go (refused number at) e p = absurd (p (sym (ap (λ (r : Sheet). r .fault) (by (refused number at) e)) ∙ z))
-
-  -- one notion of an accepted sheet
-  module _ (o : Opened used buffer before s) where
-    pub accepted-is : AcceptedSheet used buffer
-    accepted-is = record { counts = record { records = used / 84; items = s .items }; judged = o .judged }
-
-    -- its bytes are those of the records
-    pub used-length : used ≡ length (take used buffer)
-    used-length = Accepted.used-length accepted-is
-
-    pub file-records : recordsOf Plain (take used buffer) ≡ chunks (used / 84) buffer
-    file-records = front-records used buffer (o .used-inside)
-
-    pub body-at : (i : ℕ) → s .part + i < used / 84 → getD ((sheetIn used buffer) .body) i absent ≡ view (getD (chunks (used / 84) buffer) (s .part + i) [])
-    body-at i h =
-        let part = partLength (chunks (used / 84) buffer) in
-        getD-views (drop part (chunks (used / 84) buffer)) i (rw (length-drop part (chunks (used / 84) buffer), length-chunks (used / 84) buffer) (omega (arith, o .part-is)))
-        ∙ ap view (getD-drop part (chunks (used / 84) buffer) i [] ∙ rw (o .part-is))
-
-    pub record-wide : (k : ℕ) → k < used / 84 → length (getD (chunks (used / 84) buffer) k []) ≡ 84
-    record-wide k h = wide-get k (chunks (used / 84) buffer) (wide-chunks (used / 84) buffer (omega (arith, o .used-inside))) (rw (length-chunks (used / 84) buffer) h)
 
 -- a place by its record number, as edits have it, stands behind one record less
 pub before-place : (f : File) (place : ℕ) → bodyBefore f (place - 1) ≡ take (bodyPlace f place) (f .body)
@@ -205,4 +152,4 @@ module _ (used : ℕ) (buffer : List ℕ) (s : Sheet) (is : s ≡ openedIn used 
 
   pub verdict-accepted : s .fault ≡ 0 → judgedAnswer (Accepted (used / 84) (s .items)) ≡ judgeSheet used buffer
   unfolding judgedAnswer
-  verdict-accepted z = sym ((opened-sheet used buffer 0 s is z) .judged)
+  verdict-accepted z = let o = opened-sheet used buffer 0 s is z in sym (verdict-is (o .accepted) ∙ rw (o .items-are))

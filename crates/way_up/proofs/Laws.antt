@@ -16,15 +16,17 @@ use Rattle.format.specs.Answers.{wayUpAnswer}
 use Rattle.format.specs.declared.WayUp.the-variants.{Header, LayerHeader, Refused}
 use Rattle.format.proofs.JudgeWalks.{Passes}
 use Rattle.format.proofs.AboveWayUp.{Climbs, climbs}
+use Rattle.format.proofs.AcceptedSheet as Accepted
+use Rattle.format.proofs.AcceptedSheet.{accepted-list, all-records, record-wide, body-view}
 use Rattle.files.specs.declared.Stride.the-variants.{Plain}
 use Rattle.files.specs.Records.{recordsOf}
+use Rattle.files.proofs.Records.{front-records}
 use Rattle.records.specs.declared.items.Entry.{Entry}
 use Rattle.records.specs.Entry.{viewFault, entryOf}
 use Rattle.records.proofs.Laws.{entry-fault, entry-level}
 use Rattle.judge.specs.declared.Sheet.{Sheet}
 use Rattle.judge.specs.Sheet.{openedIn}
-use Rattle.judge.proofs.Opened as Opened
-use Rattle.judge.proofs.Opened.{Opened, opened-sheet, sheet-refused-is, file-records, body-at, record-wide}
+use Rattle.judge.proofs.Opened.{Opened, opened-sheet, sheet-refused-is}
 use Rattle.way_up.proofs.Own.{OwnRecord, own-record}
 
 module _ (used : ℕ) (buffer : List ℕ) (number : ℕ) (s : Sheet) (is : s ≡ openedIn used buffer number) where
@@ -37,7 +39,7 @@ module _ (used : ℕ) (buffer : List ℕ) (number : ℕ) (s : Sheet) (is : s ≡
     o = opened-sheet used buffer number s is accepted
 
     pub used-length : used ≡ length (take used buffer)
-    used-length = Opened.used-length used buffer number s is o
+    used-length = Accepted.used-length (o .accepted)
 
     abbrev sheet : File
     sheet = sheetIn used buffer
@@ -49,12 +51,12 @@ module _ (used : ℕ) (buffer : List ℕ) (number : ℕ) (s : Sheet) (is : s ≡
     body = (sheetIn used buffer) .body
 
     passes : Passes 0 0 nothing body
-    passes = o .ok .walks .0
+    passes = accepted-list (o .accepted) .ok .walks .0
 
     -- ---- 17
     way-is : up used buffer number ≡ upFrom sheet number
     unfolding up
-    way-is = ap (λ (answer : Answer Counts). afterJudging answer (upFrom sheet number)) (o .judged)
+    way-is = ap (λ (answer : Answer Counts). afterJudging answer (upFrom sheet number)) (o .accepted .judged)
 
     pub in-part : number ≤ s .part → wayUpAnswer (Refused 17 0) ≡ up used buffer number
     unfolding wayUpAnswer
@@ -62,7 +64,7 @@ module _ (used : ℕ) (buffer : List ℕ) (number : ℕ) (s : Sheet) (is : s ≡
 
     pub past-end : s .part < number → used / 84 < number → wayUpAnswer (Refused 17 0) ≡ up used buffer number
     unfolding wayUpAnswer
-    past-end l h = sym (way-is ∙ rw (lt-ltb part number (omega (arith, o .part-is)), lt-leb number (part + length body) (omega (arith, o .part-is, o .body-length, o .inside))))
+    past-end l h = sym (way-is ∙ rw (lt-ltb part number (omega (arith, o .part-is)), lt-leb number (part + length body) (omega (arith, o .part-is, all-records (o .accepted)))))
 
     -- ---- a record behind the sheet part
     module _ (behind : s .part < number) (inside : number ≤ used / 84) where
@@ -73,7 +75,7 @@ module _ (used : ℕ) (buffer : List ℕ) (number : ℕ) (s : Sheet) (is : s ≡
       low = omega (arith, o .part-is)
 
       high : at ≤ length body
-      high = omega (arith, o .part-is, o .body-length, o .inside)
+      high = omega (arith, o .part-is, all-records (o .accepted))
 
       answer : up used buffer number ≡ given (cond (eqb (aboveAt body at) 0) noHeader (toHeader (part + aboveAt body at) (levelAt body at - 1)))
       answer = way-is ∙ rw (lt-ltb part number (omega (arith, o .part-is)), le-leb number (part + length body) (omega (arith, high, low)), c .passed number (omega (arith, c .within)))
@@ -91,20 +93,20 @@ module _ (used : ℕ) (buffer : List ℕ) (number : ℕ) (s : Sheet) (is : s ≡
       own-some = omega (arith, start-is, w .some)
 
       module _ (r : List ℕ) (read : r ≡ getD (recordsOf Plain (take used buffer)) (s .start - 1) []) (e : Entry) (of : e ≡ entryOf r) where
-        index-is : s .start - 1 ≡ s .part + pred (own body at)
-        index-is = omega (arith, start-is, w .some, o .part-is)
+        index-is : s .start - 1 ≡ part + pred (own body at)
+        index-is = omega (arith, start-is, w .some)
 
         index-inside : s .start - 1 < used / 84
         index-inside = omega (arith, start-is, w .some, w .inside, o .part-is)
 
         read-is : r ≡ getD (chunks (used / 84) buffer) (s .start - 1) []
-        read-is = read ∙ ap (λ (rs : List (List ℕ)). getD rs (s .start - 1) []) (file-records used buffer number s is o)
+        read-is = read ∙ ap (λ (rs : List (List ℕ)). getD rs (s .start - 1) []) (front-records used buffer (Accepted.inside (o .accepted)))
 
         view-is : getD body (pred (own body at)) absent ≡ view r
-        view-is = body-at used buffer number s is o (pred (own body at)) (omega (arith, index-is, index-inside)) ∙ ap view (sym (read-is ∙ ap (λ (i : ℕ). getD (chunks (used / 84) buffer) i []) index-is))
+        view-is = body-view (o .accepted) (pred (own body at)) (omega (arith, w .some, w .inside, high)) ∙ ap view (sym (read-is ∙ ap (λ (i : ℕ). getD (chunks (used / 84) buffer) i []) index-is))
 
         wide : length r ≡ 84
-        wide = ap length read-is ∙ record-wide used buffer number s is o (s .start - 1) index-inside
+        wide = ap length read-is ∙ record-wide (o .accepted) (s .start - 1) index-inside
 
         level-is : e .level ≡ levelAt body at
         level-is = ap (λ (q : Entry). q .level) of ∙ entry-level r wide (entry-fault r wide ∙ ap viewFault (sym view-is) ∙ w .reads) ∙ ap (λ (v : View). v .level) (sym view-is)

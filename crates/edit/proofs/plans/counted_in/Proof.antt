@@ -1,5 +1,5 @@
 -- `counted_in` refuses by 14 and 15, or raises the counts. Assumes nothing.
-use Rattle.edit.proofs.OpenedAt.{used-inside}
+use Rattle.format.proofs.AcceptedSheet.{used-length}
 use Rattle.edit.proofs.Insertion.{above-there, full, few-then, stored}
 use native.Mathlib.Omega.{arith}
 use borrow.Author.Needs.{needs}
@@ -7,7 +7,7 @@ use Rattle.edit.proofs.plans.counted_in.Statement.{statement}
 use Rattle.edit.proofs.plans.counted_in.Tie as tie
 
 slice-aggregate-header-above : tie.Need-slice-aggregate-header-above
-slice-aggregate-header-above c = search used-inside
+slice-aggregate-header-above c = search used-length
 
 header-above-requires : tie.Need-header-above-requires
 header-above-requires c κs = search above-there

@@ -1,12 +1,12 @@
 -- `counted_out` lowers the counts. Assumes nothing.
-use Rattle.edit.proofs.OpenedAt.{used-inside}
+use Rattle.format.proofs.AcceptedSheet.{used-length}
 use Rattle.edit.proofs.Removal.{above-there, stored}
 use borrow.Author.Needs.{needs}
 use Rattle.edit.proofs.plans.counted_out.Statement.{statement}
 use Rattle.edit.proofs.plans.counted_out.Tie as tie
 
 slice-aggregate-header-above : tie.Need-slice-aggregate-header-above
-slice-aggregate-header-above c = search used-inside
+slice-aggregate-header-above c = search used-length
 
 header-above-requires : tie.Need-header-above-requires
 header-above-requires c κs = search above-there

@@ -1,5 +1,5 @@
 -- `insertion_in_sheet` refuses by 11 to 13, or hands on a block that nests. Assumes nothing.
-use Rattle.edit.proofs.OpenedAt.{used-inside}
+use Rattle.format.proofs.AcceptedSheet.{used-length}
 use Rattle.edit.proofs.Insertion.{no-place, place-some, no-item, level-some, wrong-level, nested}
 use borrow.Author.Needs.{needs}
 use Rattle.edit.proofs.plans.insertion_in_sheet.Statement.{statement}
@@ -27,7 +27,7 @@ returns-2 : tie.Need-returns-2
 returns-2 c = search no-item
 
 slice-aggregate-entry-at : tie.Need-slice-aggregate-entry-at
-slice-aggregate-entry-at c = search used-inside
+slice-aggregate-entry-at c = search used-length
 
 sub-entry-at : tie.Need-sub-entry-at
 sub-entry-at c = search place-some

@@ -1,5 +1,5 @@
 -- `removal_in_sheet` refuses by 11, or hands on the item. Assumes nothing.
-use Rattle.edit.proofs.OpenedAt.{used-inside}
+use Rattle.format.proofs.AcceptedSheet.{used-length}
 use Rattle.edit.proofs.Removal.{no-place, place-some, at-header, removable}
 use borrow.Author.Needs.{needs}
 use Rattle.edit.proofs.plans.removal_in_sheet.Statement.{statement}
@@ -12,7 +12,7 @@ returns : tie.Need-returns
 returns c = search no-place
 
 slice-aggregate-entry-at : tie.Need-slice-aggregate-entry-at
-slice-aggregate-entry-at c = search used-inside
+slice-aggregate-entry-at c = search used-length
 
 sub-entry-at : tie.Need-sub-entry-at
 sub-entry-at c = search place-some
