@@ -33,16 +33,12 @@ pub(crate) fn kind_and_count(element: usize, data_kind: usize, count: usize) -> 
     if element <= 4 {
         return points & (count == 3);
     }
-    if element == 5 {
-        return (((data_kind == 0) | (data_kind == 1)) & (count == 0)) | (points & (1 <= count));
+    match element {
+        5 => (((data_kind == 0) | (data_kind == 1)) & (count == 0)) | (points & (1 <= count)),
+        6 => points & (count % 2 == 0) & (2 <= count),
+        7 => (data_kind == 4) & (1 <= count),
+        _ => (data_kind == 5) & (1 <= count),
     }
-    if element == 6 {
-        return points & (count % 2 == 0) & (2 <= count);
-    }
-    if element == 7 {
-        return (data_kind == 4) & (1 <= count);
-    }
-    (data_kind == 5) & (1 <= count)
 }
 
 // How many data records an element has.
