@@ -104,10 +104,10 @@ module _ (l : List ℕ) (used place : ℕ) (sheet : Sheet) (s : OpenedAt l used 
           pub level-some : 1 ≤ level
           level-some = omega (arith, one .low)
 
-          module _ (next : Entry) (next-is : next ≡ entryOf (getD (Files.recordsOf Plain (take used l)) (place - 1) [])) (nests : Bool) (nests-is : nests ≡ nestsIn (sheet .opened) level (next .level)) where
+          module _ (next : Entry) (next-is : next ≡ entryOf (getD (Files.recordsOf Plain (take used l)) (place - 1) [])) (nests : Bool) (nests-is : nests ≡ nestsIn (sheet .«open_level») level (next .level)) where
             thirteen : insert13 file place views ≡ unless nests 13
             unfolding nestsIn
-            thirteen = rw (← (one .level-is), not-below (s .accepted) place (omega (arith, start .follows, s .part-is)) (start .closed) level, ← (s .opened-is), nests-is, next-is, front-records used l (s .inside))
+            thirteen = rw (← (one .level-is), not-below (s .accepted) place (omega (arith, start .follows, s .part-is)) (start .closed) level, ← (s .open-level-is), nests-is, next-is, front-records used l (s .inside))
 
             pub wrong-level : not nests ≡ true → InsertionPlanned l used place block (Refuse 13 0)
             wrong-level n = refusal 12 (rw (eleven, one .no-fault, thirteen, not-true nests n))

@@ -52,7 +52,7 @@ module _ (l : List ℕ) (used place at : ℕ) (at-is : at ≡ place - 1) (sheet 
       part-is = o .part-is;
       items-are = o .items-are;
       due-is = o .due-is ∙ ap (dueBehind 0) before-is;
-      opened-is = o .opened-is ∙ ap (openBehind 0 0) before-is;
+      open-level-is = o .open-level-is ∙ ap (openBehind 0 0) before-is;
       header-is = λ level low high. o .header-is (level - 1) (omega arith) ∙ ap (λ (rs : List View). (sheetIn used l) .partLength + lastHeader (level - 1) 0 1 0 rs) before-is ∙ ap (λ (n : ℕ). (sheetIn used l) .partLength + lastHeader n 0 1 0 (before (sheetIn used l) place)) (let e : level - 1 ≡ pred level = omega arith in e);
       inside = inside (o .accepted);
       few = few (o .accepted);

@@ -29,7 +29,7 @@ pub record OpenedAt (bytes : List ℕ) (used place : ℕ) (sheet : Sheet) : Type
   pub part-is : sheet .part ≡ (sheetIn used bytes) .partLength
   pub items-are : sheet .items ≡ (sheetIn used bytes) .statedElements
   pub due-is : sheet .due ≡ dueBehind 0 (before (sheetIn used bytes) place)
-  pub opened-is : sheet .opened ≡ openBehind 0 0 (before (sheetIn used bytes) place)
+  pub open-level-is : sheet .«open_level» ≡ openBehind 0 0 (before (sheetIn used bytes) place)
   pub header-is : (level : ℕ) → 1 ≤ level → level ≤ 9 → getD (sheet .headers) (level - 1) 0 ≡ (sheetIn used bytes) .partLength + aboveIn level (before (sheetIn used bytes) place)
   -- no sum of them is too large
   pub inside : used ≤ length bytes

@@ -127,7 +127,7 @@ fn insertion_in_sheet(buffer: &[u8], used: usize, sheet: Sheet, place: usize, bl
         return Plan::Refuse(refusals::NO_ITEM, 0);
     };
     let next = entry_at(&buffer[..used], place - 1);
-    if !refusals::nests(sheet.opened, level, next.level) {
+    if !refusals::nests(sheet.open_level, level, next.level) {
         return Plan::Refuse(refusals::WRONG_LEVEL, 0);
     }
     counted_in(buffer, used, sheet, place, block, kind, level)

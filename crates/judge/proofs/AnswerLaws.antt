@@ -19,7 +19,7 @@ use Rattle.judge.specs.declared.body_records.Extent.{Extent}
 use Rattle.judge.specs.declared.walk.Seen.{Seen}
 use Rattle.judge.specs.declared.Sheet.{Sheet}
 use Rattle.judge.specs.declared.walk.WalkedBody.{WalkedBody}
-use Rattle.judge.specs.Walks.{Room, viewsFrom, faultFrom, entries, wrongAt, upTo, seenNone, SeenUpTo, Body, bodyOf, wrongSheetOf, Stands, standingSheet, WholeBody, bodySheet}
+use Rattle.judge.specs.Walks.{ExtentOf, viewsFrom, faultFrom, entries, wrongAt, upTo, seenNone, SeenUpTo, Body, bodyOf, wrongSheetOf, Stands, standingSheet, WholeBody, bodySheet}
 use Rattle.judge.specs.Sheet.{values, startBefore, headerBefore, refusedSheet, sheetFor}
 use Rattle.judge.proofs.Steps.{views-end}
 use Rattle.judge.proofs.Joined.{wrong-first}
@@ -67,7 +67,7 @@ begin-seen s k e = rw e (record { few = omega arith; nine = refl })
 pub begun-body : (file : List ℕ) (x : Extent) (k begun : ℕ) (s : Seen) (w : WalkedBody) → begun ≡ k → s ≡ seenNone begun → Body file x begun 0 s w → Body file x k 0 (seenNone k) w
 begun-body file x k begun s w begins none-seen walked = rw begins at (subst (λ (s : Seen). Body file x begun 0 s w) none-seen walked)
 
-module _ (file : List ℕ) (x : Extent) (room : Room file x) (part : SheetPart) (w : WalkedBody) (b : WholeBody file x part w) where
+module _ (file : List ℕ) (x : Extent) (extent-of : ExtentOf file x) (part : SheetPart) (w : WalkedBody) (b : WholeBody file x part w) where
   abbrev f : File
   f = bodyOf file x part
 
@@ -80,7 +80,7 @@ module _ (file : List ℕ) (x : Extent) (room : Room file x) (part : SheetPart) 
 
   module _ (z : w .number ≡ 0) where
     over : viewsFrom file x (w .next) ≡ []
-    over = views-end file x room (w .next) (omega (arith, b .whole z refl))
+    over = views-end file x extent-of (w .next) (omega (arith, b .whole z refl))
 
     no-fault : faultFrom 0 (suc (part .length)) body ≡ none
     no-fault = b .passes z .same ∙ ap (faultFrom 0 (suc (w .next))) over
@@ -122,7 +122,7 @@ module _ (file : List ℕ) (x : Extent) (room : Room file x) (part : SheetPart) 
       body-fault : bodyFault f ≡ wrongAt low
       unfolding wrongSheetOf
       body-fault =
-          rw (no-fault, items-are, length-views file x room (part .length), wrong-is)
+          rw (no-fault, items-are, length-views file x extent-of (part .length), wrong-is)
           (ap (λ (f : Fault). orElse f (wrongAt (w .low))) (wrong-sheet (eqb (part .elements) (w .seen .items) && eqb (part .records) (x .records - part .length)) ∙ ap wrongAt (sym of)) ∙ ap (orElse (wrongAt sheet)) (sym (or-none (w .low))) ∙ wrong-first sheet (w .low) none ∙ or-none (first sheet (w .low)) ∙ ap wrongAt (sym first-is))
 
       pub answers-count : (r : Sheet) → (low ≡ 0 → ⊥) → r ≡ refusedSheet 10 low → r ≡ bodySheet file x part
@@ -138,7 +138,7 @@ module _ (file : List ℕ) (x : Extent) (room : Room file x) (part : SheetPart) 
         unfolding judge
         judged =
             let whole : part .length + (x .records - part .length) ≡ x .records = omega arith in
-            rw (body-fault, right, length-views file x room (part .length), items-are, whole)
+            rw (body-fault, right, length-views file x extent-of (part .length), items-are, whole)
 
         pub stands : Stands file x part (w .seen)
         stands = record { judged = judged; start-is = start-found; headers-are = headers-found }

@@ -23,7 +23,7 @@ use Rattle.judge.specs.declared.walk.Seen.{Seen}
 use Rattle.judge.specs.declared.walk.Walked.{Walked}
 use Rattle.judge.specs.declared.walk.WalkedGroup.{WalkedGroup}
 use Rattle.judge.specs.declared.walk.WalkedBody.{WalkedBody}
-use Rattle.judge.specs.Walks.{recordAt, viewsFrom, faultFrom, entries, Room, entryFault, lastBefore, withItem, JoinsTo, SeesTo, SeenUpTo, Item, Child, Body, passedBodyOf, itemAsGroup}
+use Rattle.judge.specs.Walks.{recordAt, viewsFrom, faultFrom, entries, ExtentOf, entryFault, lastBefore, withItem, JoinsTo, SeesTo, SeenUpTo, Item, Child, Body, passedBodyOf, itemAsGroup}
 use Rattle.judge.proofs.Steps.{views-more, views-end, fault-here}
 use Rattle.judge.proofs.EntryLaws.{Sound, sound, fault-is}
 use Rattle.judge.proofs.Ends.{level-some, ends-same, ends-uncounted}
@@ -32,7 +32,7 @@ use Rattle.judge.proofs.Joined.{joins-none, joins-more, sees-none, sees
 
 -- the walk of a body that began at record k has come to record `at`
 pub record Going (file : List ℕ) (x : Extent) (k opened : ℕ) (s : Seen) (at : ℕ) (tally : List ℕ) (low : ℕ) (s′ : Seen) : Type 0 where
-  pub room : Room file x
+  pub extent-of : ExtentOf file x
   pub start : k ≤ at
   pub within : at ≤ x .records
   pub young : (kind : ℕ) → k + getD tally kind 0 ≤ at
@@ -47,9 +47,9 @@ zeros zero j = refl
 zeros (suc m) zero = refl
 zeros (suc m) (suc j) = zeros m j
 
-pub going : (file : List ℕ) (x : Extent) (k opened : ℕ) (s : Seen) → Room file x → k ≤ x .records → SeenUpTo k s → Going file x k opened s k (replicate 10 0) 0 s
-going file x k opened s room h u = record {
-  room = room;
+pub going : (file : List ℕ) (x : Extent) (k opened : ℕ) (s : Seen) → ExtentOf file x → k ≤ x .records → SeenUpTo k s → Going file x k opened s k (replicate 10 0) 0 s
+going file x k opened s extent-of h u = record {
+  extent-of = extent-of;
   start = omega arith;
   within = h;
   young = λ kind. rw (zeros 10 kind) (omega arith);
@@ -73,8 +73,8 @@ one-more tally kind j h = go (eqb kind j) refl
     go false e = rw (e, getD-set-other tally kind j (getD tally kind 0 + 1) 0 (λ q. eqb-false kind j e (sym q))) (sym (zero-add _))
 
 module _ (file : List ℕ) (x : Extent) (k opened : ℕ) (s : Seen) (at : ℕ) (tally : List ℕ) (low : ℕ) (s′ : Seen) (g : Going file x k opened s at tally low s′) where
-  room : Room file x
-  room = g .room
+  extent-of : ExtentOf file x
+  extent-of = g .extent-of
 
   fails-at : (w : WalkedBody) → (w .number ≡ 0 → ⊥) → faultFrom opened (suc at) (viewsFrom file x at) ≡ fault (w .number) (w .at) → Body file x k opened s w
   fails-at w ne e = record {
@@ -90,7 +90,7 @@ module _ (file : List ℕ) (x : Extent) (k opened : ℕ) (s : Seen) (at : ℕ) (
 
   -- the record at hand has a fault, number and entry as the code has them
   pub body-fault : (w : WalkedBody) (e : Entry) (number : ℕ) → at < x .records → e ≡ entryOf (recordAt file x at) → number ≡ entryFault e opened → (number ≡ 0 → ⊥) → w .number ≡ number → w .at ≡ at + 1 → Body file x k opened s w
-  body-fault w e number h is of ne p q = fails-at w (λ z. ne (sym p ∙ z)) (ap (faultFrom opened (suc at)) (views-more file x room at h) ∙ fault-here opened (suc at) (view (recordAt file x at)) (viewsFrom file x (at + 1)) number (fault-is file x at opened e number room h is of) ne ∙ rw (p, q, add-one at))
+  body-fault w e number h is of ne p q = fails-at w (λ z. ne (sym p ∙ z)) (ap (faultFrom opened (suc at)) (views-more file x extent-of at h) ∙ fault-here opened (suc at) (view (recordAt file x at)) (viewsFrom file x (at + 1)) number (fault-is file x at opened e number extent-of h is of) ne ∙ rw (p, q, add-one at))
 
   stopped : faultFrom opened (suc at) (viewsFrom file x at) ≡ faultFrom (opened - 1) (suc at) (viewsFrom file x at) → (faultFrom (opened - 1) (suc at) (viewsFrom file x at) ≡ none → (kind : ℕ) → countUnder opened kind (entries (viewsFrom file x at)) ≡ 0) → (opened ≡ 0 → at ≡ x .records) → Body file x k opened s (passedBodyOf at low tally s′)
   stopped same silent end = record {
@@ -105,15 +105,15 @@ module _ (file : List ℕ) (x : Extent) (k opened : ℕ) (s : Seen) (at : ℕ) (
   }
 
   pub body-ends : (w : WalkedBody) → x .records ≤ at → w ≡ passedBodyOf at low tally s′ → Body file x k opened s w
-  body-ends w h e = rw e (stopped (rw (views-end file x room at h)) (λ q kind. rw (views-end file x room at h)) (λ o. omega (arith, g .within)))
+  body-ends w h e = rw e (stopped (rw (views-end file x extent-of at h)) (λ q kind. rw (views-end file x extent-of at h)) (λ o. omega (arith, g .within)))
 
   -- there is room for one more of a kind in the tally, and for one more item
   module _ (here : at < x .records) (wide : length file < 2 ^ 64) where
     pub count-fits : (kind : ℕ) → Fits w64 (getD tally kind 0 + 1)
-    count-fits kind = omega (arith, g .young kind, room .few)
+    count-fits kind = omega (arith, g .young kind, extent-of .few)
 
     pub items-fit : Fits w64 (s′ .items + 1)
-    items-fit = omega (arith, g .seen-then .few, room .few)
+    items-fit = omega (arith, g .seen-then .few, extent-of .few)
 
   -- the header or item at hand, with all that belongs to it
   module _ (c : WalkedGroup) (child : Child file x at opened s′ c) where
@@ -126,15 +126,15 @@ module _ (file : List ℕ) (x : Extent) (k opened : ℕ) (s : Seen) (at : ℕ) (
   -- ---- the record at hand passes: its entry and fault are what the code has
   module _ (e : Entry) (number : ℕ) (here : at < x .records) (is : e ≡ entryOf (recordAt file x at)) (of : number ≡ entryFault e opened) (fine : number ≡ 0) where
     d : Sound file x at opened e
-    d = sound file x at opened e number room here is of fine
+    d = sound file x at opened e number extent-of here is of fine
 
     pub body-stops : (w : WalkedBody) → e .level ≤ opened → w ≡ passedBodyOf at low tally s′ → Body file x k opened s w
     body-stops w le same =
         let rest = viewsFrom file x (at + 1) in
         let r = view (recordAt file x at) in
         let shallow : r .level ≤ opened = omega (arith, d .level-is) in
-        rw same (stopped (rw (views-more file x room at here) (ends-same opened (suc at) r rest (d .well) shallow))
-        (λ q kind. rw (views-more file x room at here) (ends-uncounted opened (suc at) r rest (d .well) shallow (rw (views-more file x room at here) at q) kind))
+        rw same (stopped (rw (views-more file x extent-of at here) (ends-same opened (suc at) r rest (d .well) shallow))
+        (λ q kind. rw (views-more file x extent-of at here) (ends-uncounted opened (suc at) r rest (d .well) shallow (rw (views-more file x extent-of at here) at q) kind))
         (λ o. omega (arith, level-some opened (suc at) r rest (d .well))))
 
     -- one more of its kind
@@ -143,7 +143,7 @@ module _ (file : List ℕ) (x : Extent) (k opened : ℕ) (s : Seen) (at : ℕ) (
         let f = child .further z in
         let in-it : e .kind < length tally = omega (arith, g .ten, d .kind-small) in
         rw first-is (record {
-          room = room;
+          extent-of = extent-of;
           start = omega (arith, g .start);
           within = child .within z;
           young = λ j. omega (arith, g .young j, one-more tally (e .kind) j in-it, at-most (eqb (e .kind) j));
@@ -157,7 +157,7 @@ module _ (file : List ℕ) (x : Extent) (k opened : ℕ) (s : Seen) (at : ℕ) (
     -- an item one level below the open one
     module _ (deep : opened < e .level) (i : Walked) (item : Item file x at (e .«data_records») (toData (e .held)) i) (no : e .kind ≡ 0 → ⊥) where
       own : Child file x at opened s′ (itemAsGroup i (withItem s′ at (x .before)))
-      own = item-child file x room at here opened e d deep no s′ (g .seen-then) i item
+      own = item-child file x extent-of at here opened e d deep no s′ (g .seen-then) i item
 
       pub item-stops : (w : WalkedBody) → (i .number ≡ 0 → ⊥) → w .number ≡ i .number → w .at ≡ i .at → Body file x k opened s w
       item-stops w ne p q = group-stops _ own w ne p q

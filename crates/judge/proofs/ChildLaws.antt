@@ -14,7 +14,7 @@ use Rattle.judge.specs.declared.walk.Seen.{Seen}
 use Rattle.judge.specs.declared.walk.Walked.{Walked}
 use Rattle.judge.specs.declared.walk.WalkedGroup.{WalkedGroup}
 use Rattle.judge.specs.declared.walk.WalkedBody.{WalkedBody}
-use Rattle.judge.specs.Walks.{Room, recordAt, viewsFrom, faultFrom, entries, withItem, withHeader, SeenUpTo, Joins, Sees, Item, HeaderAt, Child, Body, passedGroupOf, itemAsGroup}
+use Rattle.judge.specs.Walks.{ExtentOf, recordAt, viewsFrom, faultFrom, entries, withItem, withHeader, SeenUpTo, Joins, Sees, Item, HeaderAt, Child, Body, passedGroupOf, itemAsGroup}
 use Rattle.format.proofs.JudgeWalks.{good}
 use Rattle.records.specs.Entry.{toData, statesCounts}
 use Rattle.records.specs.declared.items.Entry.{Entry}
@@ -37,7 +37,7 @@ head-of neither e = cc
 pub see-header-upto : (s r : Seen) (k before level : ℕ) → SeenUpTo k s → r ≡ withHeader s k before level → SeenUpTo (k + 1) r
 see-header-upto s r k before level u e = rw e (record { few = omega (arith, u .few); nine = length-set (s .headers) level _ ∙ u .nine })
 
-module _ (file : List ℕ) (x : Extent) (room : Room file x) (k : ℕ) (here : k < x .records) where
+module _ (file : List ℕ) (x : Extent) (extent-of : ExtentOf file x) (k : ℕ) (here : k < x .records) where
   abbrev one : View
   one = view (recordAt file x k)
 
@@ -45,7 +45,7 @@ module _ (file : List ℕ) (x : Extent) (room : Room file x) (k : ℕ) (here : k
   rest = viewsFrom file x (k + 1)
 
   more : viewsFrom file x k ≡ one ∷ rest
-  more = views-more file x room k here
+  more = views-more file x extent-of k here
 
   -- an item, by its entry
   module _ (opened : ℕ) (e : Entry) (s : Sound file x k opened e) (deep : opened < e .level) (is : e .kind ≡ 0 → ⊥) (seen : Seen) (upto : SeenUpTo k seen) (w : Walked) (d : Item file x k (e .«data_records») (toData (e .held)) w) where
@@ -124,7 +124,7 @@ module _ (file : List ℕ) (x : Extent) (room : Room file x) (k : ℕ) (here : k
 
       module _ (r : WalkedGroup) (agreed : Bool) (of : agreed ≡ statesCounts (recordAt file x k) (w .tally)) where
         by-header : faultFrom opened (suc (w .next)) (viewsFrom file x (w .next)) ≡ none → countsAgree one (entries rest) ≡ agreed
-        by-header q = sym (of ∙ counts-agree-at (recordAt file x k) (s .header) (w .tally) (entries rest) (wide-at file x room k here) (λ kind h. sym (counted q kind)))
+        by-header q = sym (of ∙ counts-agree-at (recordAt file x k) (s .header) (w .tally) (entries rest) (wide-at file x extent-of k here) (λ kind h. sym (counted q kind)))
 
         pub group-agrees : agreed ≡ true → r ≡ passedGroupOf (w .next) (w .low) (w .seen) → Child file x k opened seen r
         group-agrees t e = rw e (passes-on (w .low) (joins-agreed opened (suc k) one rest (s .well) (s .deep) header-is _ _ _ inner (λ q. by-header q ∙ t)))

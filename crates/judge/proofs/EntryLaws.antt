@@ -20,7 +20,7 @@ use Rattle.records.proofs.Laws.{entry-kind, entry-level, entry-data-records, en
 use Rattle.records.specs.Entry.{toData, entryOf}
 use Rattle.judge.specs.declared.body_records.Extent.{Extent}
 use Rattle.judge.proofs.Steps.{wide-at}
-use Rattle.judge.specs.Walks.{Room, recordAt, lowestOf, highestOf, levelFits, entryFault, HeaderAt}
+use Rattle.judge.specs.Walks.{ExtentOf, recordAt, lowestOf, highestOf, levelFits, entryFault, HeaderAt}
 
 -- ---- the level
 module _ (kind level opened : ℕ) where
@@ -109,12 +109,12 @@ pub record Sound (file : List ℕ) (x : Extent) (k opened : ℕ) (e : Entry) : T
   pub records-are : e .«data_records» ≡ (view (recordAt file x k)) .dataRecords
   pub held-is : toData (e .held) ≡ (view (recordAt file x k)) .dataHeld
 
-module _ (file : List ℕ) (x : Extent) (k opened : ℕ) (e : Entry) (fault : ℕ) (room : Room file x) (here : k < x .records) (is : e ≡ entryOf (recordAt file x k)) (of : fault ≡ entryFault e opened) where
+module _ (file : List ℕ) (x : Extent) (k opened : ℕ) (e : Entry) (fault : ℕ) (extent-of : ExtentOf file x) (here : k < x .records) (is : e ≡ entryOf (recordAt file x k)) (of : fault ≡ entryFault e opened) where
   abbrev one : List ℕ
   one = recordAt file x k
 
   whole : length one ≡ 84
-  whole = wide-at file x room k here
+  whole = wide-at file x extent-of k here
 
   pub fault-is : fault ≡ faultAt opened 0 nothing (view one)
   fault-is = of ∙ rw is (entry-faults one whole opened)

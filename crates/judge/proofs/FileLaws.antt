@@ -25,7 +25,7 @@ use Rattle.part_and_index.specs.declared.Fault.{Fault}
 use Rattle.part_and_index.proofs.Laws.{SoundPart, sound-part, refused-part, sound-index, refused-index}
 use Rattle.judge.specs.declared.body_records.Extent.{Extent}
 use Rattle.judge.specs.declared.Sheet.{Sheet}
-use Rattle.judge.specs.Walks.{Room, viewsFrom, bodyOf, bodySheet}
+use Rattle.judge.specs.Walks.{ExtentOf, viewsFrom, bodyOf, bodySheet}
 use Rattle.judge.specs.Sheet.{refusedSheet, sheetFor, recordsSheet, openedIn}
 
 -- ---- behind stage one: the sheet part, then the body
@@ -44,9 +44,9 @@ module _ (stride : Stride) (file : List ℕ) (part : SheetPart) (found : part �
     abbrev x : Extent
     x = record { stride = stride; records = n; before = before }
 
-    pub file-room : Room file x
+    pub file-extent : ExtentOf file x
     unfolding strideOf
-    file-room = record { counted = counted; few = omega (arith, counted, go stride) }
+    file-extent = record { counted = counted; few = omega (arith, counted, go stride) }
       where
         go : (stride : Stride) → 84 * length (recordsOf stride file) ≤ length file
         go Plain = let e : length (recordsOf Plain file) ≡ length file / 84 = length-records Plain file in omega arith

@@ -12,7 +12,7 @@ use Rattle.records.proofs.Laws.{data-fault-at}
 use Rattle.format.specs.Judge.{walk}
 use Rattle.judge.specs.declared.body_records.Extent.{Extent}
 use Rattle.judge.specs.declared.walk.Walked.{Walked}
-use Rattle.judge.specs.Walks.{Room, recordAt, viewsFrom, Through, Item, passedOf}
+use Rattle.judge.specs.Walks.{ExtentOf, recordAt, viewsFrom, Through, Item, passedOf}
 use Rattle.judge.proofs.Steps.{wide-at, views-more, views-end, through-none, through-one, through-more, data-wrong, data-missing}
 
 -- of the data records of the item at record k, `left` are left from record `at` on
@@ -48,21 +48,21 @@ module _ (file : List ℕ) (x : Extent) (k due : ℕ) (held : Held) (at left : �
   item-done w h e = rw e (done (omega arith))
 
   module _ (some : 0 < left) where
-    pub item-missing : Room file x → (w : Walked) → x .records ≤ at → w .number ≡ 3 → w .at ≡ k + 1 → Item file x k due (toData held) w
-    item-missing room w h p q = fails-at w (λ z. omega arith) (λ opened. rw (views-end file x room at h, p, q, add-one k) (data-missing opened left (toData held) (suc k) (suc at) some))
+    pub item-missing : ExtentOf file x → (w : Walked) → x .records ≤ at → w .number ≡ 3 → w .at ≡ k + 1 → Item file x k due (toData held) w
+    item-missing extent-of w h p q = fails-at w (λ z. omega arith) (λ opened. rw (views-end file x extent-of at h, p, q, add-one k) (data-missing opened left (toData held) (suc k) (suc at) some))
 
-    module _ (room : Room file x) (here : at < x .records) (number : ℕ) (of : number ≡ dataFaultOf (recordAt file x at) held (left - 1)) where
+    module _ (extent-of : ExtentOf file x) (here : at < x .records) (number : ℕ) (of : number ≡ dataFaultOf (recordAt file x at) held (left - 1)) where
       asked : (view (recordAt file x at)) .faultAsData (toData held) (left - 1) ≡ number
-      asked = data-fault-at (recordAt file x at) (wide-at file x room at here) held (left - 1) ∙ sym of
+      asked = data-fault-at (recordAt file x at) (wide-at file x extent-of at here) held (left - 1) ∙ sym of
 
       pub item-wrong : (w : Walked) → (number ≡ 0 → ⊥) → w .number ≡ number → w .at ≡ at + 1 → Item file x k due (toData held) w
-      item-wrong w ne p q = fails-at w (λ z. ne (sym p ∙ z)) (λ opened. rw (views-more file x room at here, p, q, add-one at) (data-wrong (toData held) (suc k) (view (recordAt file x at)) (viewsFrom file x (suc at)) (suc at) left some opened number asked ne))
+      item-wrong w ne p q = fails-at w (λ z. ne (sym p ∙ z)) (λ opened. rw (views-more file x extent-of at here, p, q, add-one at) (data-wrong (toData held) (suc k) (view (recordAt file x at)) (viewsFrom file x (suc at)) (suc at) left some opened number asked ne))
 
       one-more : number ≡ 0 → Walking file x k due held (at + 1) (left - 1)
       one-more z = record {
         start = omega (arith, g .start);
         within = omega arith;
-        through = through-more (toData held) (suc k) due (suc (suc k)) left (suc at) (left - 1) (suc (at + 1)) _ (viewsFrom file x at) _ (g .through) (rw (views-more file x room at here, add-one at) (through-one (toData held) (suc k) (view (recordAt file x at)) (viewsFrom file x (suc at)) (suc at) left some (asked ∙ z)));
+        through = through-more (toData held) (suc k) due (suc (suc k)) left (suc at) (left - 1) (suc (at + 1)) _ (viewsFrom file x at) _ (g .through) (rw (views-more file x extent-of at here, add-one at) (through-one (toData held) (suc k) (view (recordAt file x at)) (viewsFrom file x (suc at)) (suc at) left some (asked ∙ z)));
       }
 
       pub item-more : (next : ℕ) → number ≡ 0 → next ≡ at + 1 → Walking file x k due held next (left - 1)

@@ -101,7 +101,7 @@ pub record Opened (used : ℕ) (buffer : List ℕ) (before : ℕ) (s : Sheet) : 
   pub unit-is : s .unit ≡ numberAt sheetB "unit" (getD (chunks (used / 84) buffer) 1 [])
   pub corners-are : s .corners ≡ corners (chunks (used / 84) buffer)
   pub due-is : s .due ≡ dueBehind 0 (bodyBefore (sheetIn used buffer) before)
-  pub opened-is : s .opened ≡ openBehind 0 0 (bodyBefore (sheetIn used buffer) before)
+  pub open-level-is : s .«open_level» ≡ openBehind 0 0 (bodyBefore (sheetIn used buffer) before)
   pub start-is : s .start ≡ startBefore (sheetIn used buffer) before
   pub header-is : (level : ℕ) → level ≤ 8 → getD (s .headers) level 0 ≡ headerBefore (sheetIn used buffer) before level
 
@@ -131,7 +131,7 @@ module _ (used : ℕ) (buffer : List ℕ) (before : ℕ) (s : Sheet) (is : s ≡
             unit-is = ap (λ (r : Sheet). r .unit) fields;
             corners-are = ap (λ (r : Sheet). r .corners) fields;
             due-is = ap (λ (r : Sheet). r .due) fields;
-            opened-is = ap (λ (r : Sheet). r .opened) fields;
+            open-level-is = ap (λ (r : Sheet). r .«open_level») fields;
             start-is = ap (λ (r : Sheet). r .start) fields;
             header-is = λ level h. ap (λ (r : Sheet). getD (r .headers) level 0) fields ∙ getD-values 9 0 (headerBefore (sheetIn used buffer) before) level (omega arith) ∙ ap (headerBefore (sheetIn used buffer) before) (zero-add level);
           }

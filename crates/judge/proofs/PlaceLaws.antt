@@ -24,7 +24,7 @@ use Rattle.part_and_index.specs.declared.SheetPart.{SheetPart}
 use Rattle.judge.specs.declared.body_records.Extent.{Extent}
 use Rattle.judge.specs.declared.walk.Seen.{Seen}
 use Rattle.judge.specs.declared.Sheet.{Sheet}
-use Rattle.judge.specs.Walks.{Room, recordAt, viewsFrom, bodyOf, dueOfEntry, openOfEntry, placeIn, sheetWith, Stands, standingSheet}
+use Rattle.judge.specs.Walks.{ExtentOf, recordAt, viewsFrom, bodyOf, dueOfEntry, openOfEntry, placeIn, sheetWith, Stands, standingSheet}
 use Rattle.judge.specs.Sheet.{bodyBefore}
 use Rattle.judge.proofs.Steps.{wide-at}
 use Rattle.judge.proofs.Ends.{from-one}
@@ -84,17 +84,17 @@ open-by (item k) level = rw (ne-eqb (suc k) 0 (λ e. omega arith)) (let e : leve
 open-by neither level = let e : level - 1 ≡ pred level = omega arith in e
 
 -- ---- the views of a file's records
-module _ (file : List ℕ) (x : Extent) (room : Room file x) (k : ℕ) where
+module _ (file : List ℕ) (x : Extent) (extent-of : ExtentOf file x) (k : ℕ) where
   pub length-views : length (viewsFrom file x k) ≡ x .records - k
   unfolding viewsFrom
-  length-views = length-map (drop k (recordsOf (x .stride) file)) view ∙ length-drop k (recordsOf (x .stride) file) ∙ rw (← room .counted)
+  length-views = length-map (drop k (recordsOf (x .stride) file)) view ∙ length-drop k (recordsOf (x .stride) file) ∙ rw (← extent-of .counted)
 
   views-at : (i : ℕ) → k + i < x .records → getD (viewsFrom file x k) i absent ≡ view (recordAt file x (k + i))
   unfolding viewsFrom
-  views-at i h = getD-views (drop k (recordsOf (x .stride) file)) i (rw (length-drop k (recordsOf (x .stride) file), ← room .counted) (omega arith)) ∙ ap view (getD-drop k (recordsOf (x .stride) file) i [])
+  views-at i h = getD-views (drop k (recordsOf (x .stride) file)) i (rw (length-drop k (recordsOf (x .stride) file), ← extent-of .counted) (omega arith)) ∙ ap view (getD-drop k (recordsOf (x .stride) file) i [])
 
 -- ---- an accepted sheet
-module _ (file : List ℕ) (x : Extent) (room : Room file x) (part : SheetPart) (inside : part .length ≤ x .records) (s : Seen) (st : Stands file x part s) where
+module _ (file : List ℕ) (x : Extent) (extent-of : ExtentOf file x) (part : SheetPart) (inside : part .length ≤ x .records) (s : Seen) (st : Stands file x part s) where
   abbrev body : List View
   body = viewsFrom file x (part .length)
 
@@ -102,7 +102,7 @@ module _ (file : List ℕ) (x : Extent) (room : Room file x) (part : SheetPart) 
   front = bodyBefore (bodyOf file x part) (x .before)
 
   same-sheet : (due opened : ℕ) → due ≡ dueBehind 0 front → opened ≡ openBehind 0 0 front → sheetWith part due opened s ≡ standingSheet file x part s
-  same-sheet due opened d o = λ i. record { fault = 0; at = 0; items = s .items; part = part .length; unit = part .unit; corners = part .corners; due = d i; opened = o i; start = st .start-is i; headers = st .headers-are i }
+  same-sheet due opened d o = λ i. record { fault = 0; at = 0; items = s .items; part = part .length; unit = part .unit; corners = part .corners; due = d i; «open_level» = o i; start = st .start-is i; headers = st .headers-are i }
 
   pub none-stands : (r : Sheet) → s .start ≤ part .length → r ≡ sheetWith part 0 0 s → r ≡ standingSheet file x part s
   none-stands r h e = e ∙ same-sheet 0 0 (sym (ap (dueBehind 0) nothing-there)) (sym (ap (openBehind 0 0) nothing-there))
@@ -122,14 +122,14 @@ module _ (file : List ℕ) (x : Extent) (room : Room file x) (part : SheetPart) 
     front-to = go (ltb (x .before) (x .records)) refl
       where
         go : (t : Bool) → ltb (x .before) (x .records) ≡ t → part .length + length front ≡ cond t (x .before) (x .records)
-        go true e = omega (arith, length-take-le (x .before - part .length) body (omega (arith, length-views file x room (part .length), ltb-true (x .before) (x .records) e)), front-length front w)
-        go false e = omega (arith, ap length (take-all (x .before - part .length) body (omega (arith, length-views file x room (part .length), ltb-false (x .before) (x .records) e))), length-views file x room (part .length))
+        go true e = omega (arith, length-take-le (x .before - part .length) body (omega (arith, length-views file x extent-of (part .length), ltb-true (x .before) (x .records) e)), front-length front w)
+        go false e = omega (arith, ap length (take-all (x .before - part .length) body (omega (arith, length-views file x extent-of (part .length), ltb-false (x .before) (x .records) e))), length-views file x extent-of (part .length))
 
     body-is : body ≡ w .front ++ w .it ∷ (w .back ++ drop (x .before - part .length) body)
     body-is = sym (take-append-drop (x .before - part .length) body) ∙ ap (λ (l : List View). l ++ drop (x .before - part .length) body) (w .whole) ∙ append-assoc (w .front) (w .it ∷ w .back) (drop (x .before - part .length) body)
 
     it-inside : part .length + length (w .front) < x .records
-    it-inside = omega (arith, length-views file x room (part .length), simp length-append at (ap length body-is))
+    it-inside = omega (arith, length-views file x extent-of (part .length), simp length-append at (ap length body-is))
 
     well : Good (openBehind 0 0 (w .front)) (w .it)
     well = r-good body ((accepted-ok (bodyOf file x part) (x .records) (s .items) (st .judged)) .walks .0) (w .front) (w .it) (w .back ++ drop (x .before - part .length) body) body-is (w .closed)
@@ -142,10 +142,10 @@ module _ (file : List ℕ) (x : Extent) (room : Room file x) (part : SheetPart) 
       own-is = is ∙ ap (λ (k : ℕ). entryOf (recordAt file x k)) (let q : s .start - 1 ≡ part .length + length (w .front) = omega (arith, start-at) in q)
 
       wide : length own ≡ 84
-      wide = wide-at file x room (part .length + length (w .front)) it-inside
+      wide = wide-at file x extent-of (part .length + length (w .front)) it-inside
 
       view-is : view own ≡ w .it
-      view-is = sym (views-at file x room (part .length) (length (w .front)) it-inside) ∙ ap (λ (l : List View). getD l (length (w .front)) absent) body-is ∙ getD-append-seam (w .front) (w .it) (w .back ++ drop (x .before - part .length) body) absent
+      view-is = sym (views-at file x extent-of (part .length) (length (w .front)) it-inside) ∙ ap (λ (l : List View). getD l (length (w .front)) absent) body-is ∙ getD-append-seam (w .front) (w .it) (w .back ++ drop (x .before - part .length) body) absent
 
       reads : (entryOf own) .fault ≡ 0
       reads = entry-fault own wide ∙ ap viewFault view-is ∙ good-reads (openBehind 0 0 (w .front)) (w .it) well
@@ -179,7 +179,7 @@ module _ (file : List ℕ) (x : Extent) (room : Room file x) (part : SheetPart) 
       level-some = omega (arith, level-is, well .low, from-one (w .it .kind))
 
       pub end-fits : (due : ℕ) → due ≡ dueOfEntry e → length file < 2 ^ 64 → s .start + due < 2 ^ 64
-      end-fits due of long = omega (arith, of, due-is, few, start-at, it-inside, room .few)
+      end-fits due of long = omega (arith, of, due-is, few, start-at, it-inside, extent-of .few)
 
       pub some-stands : (r : Sheet) (due beyond opened : ℕ) → due ≡ dueOfEntry e → beyond ≡ s .start + due - placeIn x → opened ≡ openOfEntry e → r ≡ sheetWith part beyond opened s → r ≡ standingSheet file x part s
       some-stands r due beyond opened of to op q = q ∙ same-sheet beyond opened (sym (due-behind front w ∙ beyond-is)) (op ∙ open-is ∙ sym (open-behind front w))

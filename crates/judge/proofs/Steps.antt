@@ -16,27 +16,27 @@ use Rattle.files.specs.declared.Stride.{Stride}
 use Rattle.files.specs.declared.Stride.the-variants.{Plain, Lines}
 use Rattle.files.proofs.Records.{length-records, record-wide}
 use Rattle.judge.specs.declared.body_records.Extent.{Extent}
-use Rattle.judge.specs.Walks.{Room, recordAt, viewsFrom, faultFrom, upTo, Through}
+use Rattle.judge.specs.Walks.{ExtentOf, recordAt, viewsFrom, faultFrom, upTo, Through}
 use Rattle.judge.proofs.SeenLaws.{start-data, header-data}
 
 -- the records from k on: the record k, and those behind it
-module _ (file : List ℕ) (x : Extent) (room : Room file x) (k : ℕ) where
+module _ (file : List ℕ) (x : Extent) (extent-of : ExtentOf file x) (k : ℕ) where
   pub views-more : k < x .records → viewsFrom file x k ≡ view (recordAt file x k) ∷ viewsFrom file x (k + 1)
   unfolding viewsFrom
-  views-more h = rw (add-one k) (ap (map view) (drop-cons (recordsOf (x .stride) file) k [] (omega (arith, room .counted))))
+  views-more h = rw (add-one k) (ap (map view) (drop-cons (recordsOf (x .stride) file) k [] (omega (arith, extent-of .counted))))
 
   pub views-end : x .records ≤ k → viewsFrom file x k ≡ []
   unfolding viewsFrom
-  views-end h = let past : length (recordsOf (x .stride) file) ≤ k = omega (arith, room .counted) in ap (map view) (drop-of-length-le (recordsOf (x .stride) file) past)
+  views-end h = let past : length (recordsOf (x .stride) file) ≤ k = omega (arith, extent-of .counted) in ap (map view) (drop-of-length-le (recordsOf (x .stride) file) past)
 
   pub wide-at : k < x .records → length (recordAt file x k) ≡ 84
-  wide-at h = record-wide (x .stride) file k (omega (arith, room .counted))
+  wide-at h = record-wide (x .stride) file k (omega (arith, extent-of .counted))
 
   -- where it starts, and the record behind it
   module _ (here : k < x .records) (each : ℕ) (of : each ≡ strideOf (x .stride)) where
     ends-inside : each * k + each ≤ length file
     unfolding strideOf
-    ends-inside = rw of (go (x .stride) (omega (arith, room .counted)))
+    ends-inside = rw of (go (x .stride) (omega (arith, extent-of .counted)))
       where
         go : (stride : Stride) → k < length (recordsOf stride file) → strideOf stride * k + strideOf stride ≤ length file
         go Plain h = let e : length (recordsOf Plain file) ≡ length file / 84 = length-records Plain file in let g : 84 * k + 84 ≤ length file = omega arith in g

@@ -31,7 +31,7 @@ headerBefore f before level = f .partLength + lastHeader level 0 1 0 (bodyBefore
 
 -- "A refusal returns number and record only": no values
 abbrev pub refusedSheet : (number at : ℕ) → Sheet
-refusedSheet number at = record { fault = number; at = at; items = 0; part = 0; unit = 0; corners = replicate 8 (pos 0); due = 0; opened = 0; start = 0; headers = values 9 0 (λ level. 0) }
+refusedSheet number at = record { fault = number; at = at; items = 0; part = 0; unit = 0; corners = replicate 8 (pos 0); due = 0; «open_level» = 0; start = 0; headers = values 9 0 (λ level. 0) }
 
 abbrev pub acceptedSheet : (items unit : ℕ) → (corners : List ℤ) → File → (before : ℕ) → Sheet
 acceptedSheet items unit corners f before = record {
@@ -42,7 +42,7 @@ acceptedSheet items unit corners f before = record {
   unit = unit;
   corners = corners;
   due = dueBehind 0 (bodyBefore f before);
-  opened = openBehind 0 0 (bodyBefore f before);
+  «open_level» = openBehind 0 0 (bodyBefore f before);
   start = startBefore f before;
   headers = values 9 0 (headerBefore f before);
 }

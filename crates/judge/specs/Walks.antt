@@ -24,7 +24,7 @@ use Rattle.judge.specs.Sheet.{values, startBefore, headerBefore, accepte
 
 -- ---- The records of a file, which count from 0 here; record k has number k + 1
 -- the file has as many records as the walk is told
-pub record Room (file : List ℕ) (x : Extent) : Type 0 where
+pub record ExtentOf (file : List ℕ) (x : Extent) : Type 0 where
   pub counted : x .records ≡ length (recordsOf (x .stride) file)
   pub few : 84 * x .records ≤ length file
 
@@ -188,7 +188,7 @@ unfoldable pub placeIn : Extent → ℕ
 placeIn x = cond (ltb (x .before) (x .records)) (x .before) (x .records)
 
 abbrev pub sheetWith : SheetPart → (due opened : ℕ) → Seen → Sheet
-sheetWith part due opened seen = record { fault = 0; at = 0; items = seen .items; part = part .length; unit = part .unit; corners = part .corners; due = due; opened = opened; start = seen .start; headers = seen .headers }
+sheetWith part due opened seen = record { fault = 0; at = 0; items = seen .items; part = part .length; unit = part .unit; corners = part .corners; due = due; «open_level» = opened; start = seen .start; headers = seen .headers }
 
 -- what the walk of a body that nothing is wrong with leaves to say
 pub record Stands (file : List ℕ) (x : Extent) (part : SheetPart) (s : Seen) : Type 0 where

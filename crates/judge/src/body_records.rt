@@ -5,7 +5,7 @@ use records::Held;
 ghost use mathlib.Core.Path.{_≡_};
 ghost use Prim.Native.Nat.{_+_, _<_, _≤_};
 ghost use Rattle.records.specs.Entry.{entryOf, dataFaultOf, statesCounts};
-ghost use Rattle.judge.specs.Walks.{Room, recordAt, lowestOf, highestOf, levelFits, entryFault};
+ghost use Rattle.judge.specs.Walks.{ExtentOf, recordAt, lowestOf, highestOf, levelFits, entryFault};
 
 // What a walk is told: how far record stands from record, how many records the file has, and how many of them stand before the place.
 pub(crate) struct Extent {
@@ -58,9 +58,9 @@ fn highest_level(kind: usize) -> usize
 }
 
 // From lowest to highest, and at most one above the open level.
-fn level_ok(kind: usize, level: usize, opened: usize) -> bool
-    requires { ⌜ opened ≤ 8 ⌝ }
-    ensures { λ r. ⌜ r ≡ levelFits kind level opened ⌝ }
+fn level_ok(kind: usize, level: usize, open_level: usize) -> bool
+    requires { ⌜ «open_level» ≤ 8 ⌝ }
+    ensures { λ r. ⌜ r ≡ levelFits kind level «open_level» ⌝ }
 {
     if level < lowest_level(kind) {
         return false;
@@ -68,18 +68,18 @@ fn level_ok(kind: usize, level: usize, opened: usize) -> bool
     if highest_level(kind) < level {
         return false;
     }
-    level <= opened + 1
+    level <= open_level + 1
 }
 
 // What is wrong with a record where a header or an item is due: 4, 5, 6, then 7, then 8.
-pub(crate) fn entry_fault(entry: Entry, opened: usize) -> u8
-    requires { ⌜ opened ≤ 8 ⌝ }
-    ensures { λ r. ⌜ r ≡ entryFault entry opened ⌝ }
+pub(crate) fn entry_fault(entry: Entry, open_level: usize) -> u8
+    requires { ⌜ «open_level» ≤ 8 ⌝ }
+    ensures { λ r. ⌜ r ≡ entryFault entry «open_level» ⌝ }
 {
     if entry.fault != 0 {
         return entry.fault;
     }
-    if !level_ok(entry.kind, entry.level, opened) {
+    if !level_ok(entry.kind, entry.level, open_level) {
         return 7;
     }
     entry.rule_fault
@@ -87,7 +87,7 @@ pub(crate) fn entry_fault(entry: Entry, opened: usize) -> u8
 
 // The record behind record k.
 pub(crate) fn next(file: &[u8], extent: Extent, k: usize) -> usize
-    requires { ⌜ (Room (now file) extent) × (k < extent .records) ⌝ }
+    requires { ⌜ (ExtentOf (now file) extent) × (k < extent .records) ⌝ }
     ensures { λ r. ⌜ r ≡ k + 1 ⌝ }
 {
     let stride = extent.stride;

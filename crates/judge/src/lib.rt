@@ -23,7 +23,7 @@ pub struct Sheet {
     pub unit: u64,
     pub corners: FourCorners,
     pub due: usize,
-    pub opened: usize,
+    pub open_level: usize,
     pub start: usize,
     pub headers: [usize; 9],
 }

@@ -12,7 +12,7 @@ ghost use mathlib.Core.Path.{_≡_};
 ghost use Prim.Native.Nat.{_-_, _≤_};
 ghost use Rattle.files.specs.Records.{recordsOf};
 ghost use Rattle.judge.specs.Sheet.{refusedSheet, recordsSheet};
-ghost use Rattle.judge.specs.Walks.{Room, dueOfEntry, openOfEntry, placeIn, sheetWith, Stands, standingSheet, WholeBody, wrongSheetOf, bodySheet};
+ghost use Rattle.judge.specs.Walks.{ExtentOf, dueOfEntry, openOfEntry, placeIn, sheetWith, Stands, standingSheet, WholeBody, wrongSheetOf, bodySheet};
 
 // Record 2 where the sheet's two counts differ from those found, else 0.
 fn wrong_sheet(part: SheetPart, items: usize, records: usize) -> usize
@@ -39,15 +39,15 @@ pub(crate) fn refused(fault: u8, at: usize) -> Sheet
         unit: 0,
         corners: [0; 8],
         due: 0,
-        opened: 0,
+        open_level: 0,
         start: 0,
         headers: [0; 9],
     }
 }
 
 // A sheet that is accepted.
-fn accepted(part: SheetPart, due: usize, opened: usize, seen: Seen) -> Sheet
-    ensures { λ r. ⌜ r ≡ sheetWith part due opened seen ⌝ }
+fn accepted(part: SheetPart, due: usize, open_level: usize, seen: Seen) -> Sheet
+    ensures { λ r. ⌜ r ≡ sheetWith part due «open_level» seen ⌝ }
 {
     let corners = part.corners;
     let headers = seen.headers;
@@ -59,7 +59,7 @@ fn accepted(part: SheetPart, due: usize, opened: usize, seen: Seen) -> Sheet
         unit: part.unit,
         corners,
         due,
-        opened,
+        open_level,
         start: seen.start,
         headers,
     }
@@ -109,7 +109,7 @@ fn due_beyond(end: usize, extent: Extent) -> usize
 
 // The sheet that is accepted, with what its last header or item before the place says of it.
 fn at_place(file: &[u8], extent: Extent, part: SheetPart, seen: Seen) -> Sheet
-    requires { ⌜ (Room (now file) extent) × (part .length ≤ extent .records) × (Stands (now file) extent part seen) ⌝ }
+    requires { ⌜ (ExtentOf (now file) extent) × (part .length ≤ extent .records) × (Stands (now file) extent part seen) ⌝ }
     ensures { λ r. ⌜ r ≡ standingSheet (now (file .entry)) extent part seen ⌝ }
 {
     if seen.start <= part.length {
@@ -122,7 +122,7 @@ fn at_place(file: &[u8], extent: Extent, part: SheetPart, seen: Seen) -> Sheet
 
 // Stage three of a body that passes stage two: the sheet's own counts, then those of its headers, lowest record first.
 fn stage_three(file: &[u8], extent: Extent, part: SheetPart, body: WalkedBody) -> Sheet
-    requires { ⌜ (Room (now file) extent) × (part .length ≤ extent .records) × (body .number ≡ 0) × (WholeBody (now file) extent part body) ⌝ }
+    requires { ⌜ (ExtentOf (now file) extent) × (part .length ≤ extent .records) × (body .number ≡ 0) × (WholeBody (now file) extent part body) ⌝ }
     ensures { λ r. ⌜ r ≡ bodySheet (now (file .entry)) extent part ⌝ }
 {
     let seen = body.seen;
@@ -136,7 +136,7 @@ fn stage_three(file: &[u8], extent: Extent, part: SheetPart, body: WalkedBody) -
 
 // The body of a sheet, behind its sheet part: stage two, then stage three.
 fn open_body(file: &[u8], extent: Extent, part: SheetPart) -> Sheet
-    requires { ⌜ (Room (now file) extent) × (part .length ≤ extent .records) ⌝ }
+    requires { ⌜ (ExtentOf (now file) extent) × (part .length ≤ extent .records) ⌝ }
     ensures { λ r. ⌜ r ≡ bodySheet (now (file .entry)) extent part ⌝ }
 {
     let first = body_records::begin(file, part.length);

@@ -7,7 +7,8 @@ ghost use mathlib.Core.Path.{_≡_};
 ghost use Prim.Native.Nat.{_<_, _≤_};
 ghost use Rattle.format.specs.Basics.{first};
 ghost use Rattle.records.specs.Entry.{toData};
-ghost use Rattle.judge.specs.Walks.{Room, lastBefore, seenNone, withHeader, SeenUpTo, passedOf, passedGroupOf, passedBodyOf, Item, HeaderAt, Child, Body};
+ghost use Rattle.judge.specs.Walks.{ExtentOf, lastBefore, seenNone, withHeader, SeenUpTo, passedOf, passedGroupOf, passedBodyOf};
+ghost use Rattle.judge.specs.Walks.{Item, HeaderAt, Child, Body};
 
 // What a walk has seen so far: how many items; and of what stands before the place the last header or item, and the last header of each level,
 // by their numbers in the file.
@@ -157,7 +158,7 @@ fn see_header(seen: Seen, k: usize, before: usize, level: usize) -> Seen
 
 // The data records of the item at record k, whose entry this is.
 fn walk_item(file: &[u8], extent: Extent, k: usize, entry: Entry) -> Walked
-    requires { ⌜ (Room (now file) extent) × (k < extent .records) ⌝ }
+    requires { ⌜ (ExtentOf (now file) extent) × (k < extent .records) ⌝ }
     ensures { λ r. ⌜ Item (now (file .entry)) extent k (entry .«data_records») (toData (entry .held)) r ⌝ }
 {
     let held = entry.held;
@@ -178,11 +179,11 @@ fn walk_item(file: &[u8], extent: Extent, k: usize, entry: Entry) -> Walked
 }
 
 // The header at record k, one level below the open one, and its body, which has one level less left.
-fn walk_group(file: &[u8], extent: Extent, k: usize, opened: usize, seen: Seen) -> WalkedGroup
-    requires { ⌜ (Room (now file) extent) × (k < extent .records) × (opened < 8) × (HeaderAt (now file) extent k opened) × (SeenUpTo k seen) ⌝ }
-    ensures { λ r. ⌜ Child (now (file .entry)) extent k opened seen r ⌝ }
+fn walk_group(file: &[u8], extent: Extent, k: usize, open_level: usize, seen: Seen) -> WalkedGroup
+    requires { ⌜ (ExtentOf (now file) extent) × (k < extent .records) × («open_level» < 8) × (HeaderAt (now file) extent k «open_level») × (SeenUpTo k seen) ⌝ }
+    ensures { λ r. ⌜ Child (now (file .entry)) extent k «open_level» seen r ⌝ }
 {
-    let level = opened + 1;
+    let level = open_level + 1;
     let with_header = see_header(seen, k, extent.before, level);
     let body = walk_body(file, extent, k + 1, level, with_header);
     if body.number != 0 {
@@ -200,11 +201,11 @@ pub(crate) fn walk_body(
     file: &[u8],
     extent: Extent,
     k: usize,
-    opened: usize,
+    open_level: usize,
     given: Seen,
 ) -> WalkedBody
-    requires { ⌜ (Room (now file) extent) × (k ≤ extent .records) × (opened ≤ 8) × (SeenUpTo k given) ⌝ }
-    ensures { λ r. ⌜ Body (now (file .entry)) extent k opened given r ⌝ }
+    requires { ⌜ (ExtentOf (now file) extent) × (k ≤ extent .records) × («open_level» ≤ 8) × (SeenUpTo k given) ⌝ }
+    ensures { λ r. ⌜ Body (now (file .entry)) extent k «open_level» given r ⌝ }
 {
     let mut at = k;
     let mut tally = [0usize; 10];
@@ -212,17 +213,17 @@ pub(crate) fn walk_body(
     let mut seen = given;
     while at < extent.records {
         let entry = body_records::entry_at(file, extent, at);
-        let fault = body_records::entry_fault(entry, opened);
+        let fault = body_records::entry_fault(entry, open_level);
         if fault != 0 {
             return failed_body(fault, at + 1, seen);
         }
-        if entry.level <= opened {
+        if entry.level <= open_level {
             return passed_body(at, low, tally, seen);
         }
         let kind = entry.kind;
         tally[kind] = tally[kind] + 1;
         if kind == 0 {
-            let group = walk_group(file, extent, at, opened, seen);
+            let group = walk_group(file, extent, at, open_level, seen);
             if group.number != 0 {
                 return failed_body(group.number, group.at, seen);
             }

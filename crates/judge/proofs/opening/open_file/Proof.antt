@@ -1,5 +1,5 @@
 -- `open_file` answers the sheet part, then the body. Assumes nothing.
-use Rattle.judge.proofs.FileLaws.{part-refused, file-room, file-start, file-body}
+use Rattle.judge.proofs.FileLaws.{part-refused, file-extent, file-start, file-body}
 use borrow.Author.Needs.{needs}
 use Rattle.judge.proofs.opening.open_file.Statement.{statement}
 use Rattle.judge.proofs.opening.open_file.Tie as tie
@@ -17,7 +17,7 @@ count-requires : tie.Need-count-requires
 count-requires c κs = search needs
 
 open-body-requires : tie.Need-open-body-requires
-open-body-requires c κs = (search file-room, search file-start)
+open-body-requires c κs = (search file-extent, search file-start)
 
 returns-2 : tie.Need-returns-2
 returns-2 c = search file-body
