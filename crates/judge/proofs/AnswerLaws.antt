@@ -123,7 +123,7 @@ module _ (file : List ℕ) (x : Extent) (extent-of : ExtentOf file x) (part : Sh
       unfolding wrongSheetOf
       body-fault =
           rw (no-fault, items-are, length-views file x extent-of (part .length), wrong-is)
-          (ap (λ (f : Fault). orElse f (wrongAt (w .low))) (wrong-sheet (eqb (part .elements) (w .seen .items) && eqb (part .records) (x .records - part .length)) ∙ ap wrongAt (sym of)) ∙ ap (orElse (wrongAt sheet)) (sym (or-none (w .low))) ∙ wrong-first sheet (w .low) none ∙ or-none (first sheet (w .low)) ∙ ap wrongAt (sym first-is))
+          (ap (λ (f : Fault). orElse f (wrongAt (w .low))) (wrong-sheet (eqb (part .«stated_elements») (w .seen .items) && eqb (part .«stated_records») (x .records - part .length)) ∙ ap wrongAt (sym of)) ∙ ap (orElse (wrongAt sheet)) (sym (or-none (w .low))) ∙ wrong-first sheet (w .low) none ∙ or-none (first sheet (w .low)) ∙ ap wrongAt (sym first-is))
 
       pub answers-count : (r : Sheet) → (low ≡ 0 → ⊥) → r ≡ refusedSheet 10 low → r ≡ bodySheet file x part
       unfolding judge

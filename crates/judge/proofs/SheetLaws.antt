@@ -8,18 +8,18 @@ use Rattle.judge.specs.Walks.{wrongSheetOf, placeIn}
 
 -- ---- the sheet's two counts
 module _ (part : SheetPart) (found records : ℕ) where
-  pub elements-differ : (part .elements ≡ found → ⊥) → 2 ≡ wrongSheetOf part found records
+  pub elements-differ : (part .«stated_elements» ≡ found → ⊥) → 2 ≡ wrongSheetOf part found records
   unfolding wrongSheetOf
-  elements-differ ne = rw (ne-eqb (part .elements) found ne)
+  elements-differ ne = rw (ne-eqb (part .«stated_elements») found ne)
 
-  module _ (same : part .elements ≡ found) where
-    pub records-differ : (part .records ≡ records → ⊥) → 2 ≡ wrongSheetOf part found records
+  module _ (same : part .«stated_elements» ≡ found) where
+    pub records-differ : (part .«stated_records» ≡ records → ⊥) → 2 ≡ wrongSheetOf part found records
     unfolding wrongSheetOf
-    records-differ ne = rw (eq-eqb (part .elements) found same, ne-eqb (part .records) records ne)
+    records-differ ne = rw (eq-eqb (part .«stated_elements») found same, ne-eqb (part .«stated_records») records ne)
 
-    pub both-agree : part .records ≡ records → 0 ≡ wrongSheetOf part found records
+    pub both-agree : part .«stated_records» ≡ records → 0 ≡ wrongSheetOf part found records
     unfolding wrongSheetOf
-    both-agree e = rw (eq-eqb (part .elements) found same, eq-eqb (part .records) records e)
+    both-agree e = rw (eq-eqb (part .«stated_elements») found same, eq-eqb (part .«stated_records») records e)
 
 -- ---- the place, or the end where that comes first
 module _ (x : Extent) where

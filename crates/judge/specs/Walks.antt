@@ -170,11 +170,11 @@ pub record Body (file : List ℕ) (x : Extent) (k opened : ℕ) (s : Seen) (w : 
 
 -- a sheet, by what its sheet part came to
 abbrev pub bodyOf : List ℕ → Extent → SheetPart → File
-bodyOf file x part = record { partLength = part .length; statedElements = part .elements; statedRecords = part .records; body = viewsFrom file x (part .length) }
+bodyOf file x part = record { partLength = part .length; statedElements = part .«stated_elements»; statedRecords = part .«stated_records»; body = viewsFrom file x (part .length) }
 
 -- the record of its two counts where they differ, else 0
 unfoldable pub wrongSheetOf : SheetPart → (found records : ℕ) → ℕ
-wrongSheetOf part found records = cond (eqb (part .elements) found && eqb (part .records) records) 0 2
+wrongSheetOf part found records = cond (eqb (part .«stated_elements») found && eqb (part .«stated_records») records) 0 2
 
 -- ---- What stands before the place, by the last header or item there: that it has so many data records, and what it opens
 unfoldable pub dueOfEntry : Entry → ℕ

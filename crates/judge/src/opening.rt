@@ -18,10 +18,10 @@ ghost use Rattle.judge.specs.Walks.{ExtentOf, dueOfEntry, openOfEntry, p
 fn wrong_sheet(part: SheetPart, items: usize, records: usize) -> usize
     ensures { λ r. ⌜ r ≡ wrongSheetOf part items records ⌝ }
 {
-    if part.elements != items {
+    if part.stated_elements != items {
         return 2;
     }
-    if part.records != records {
+    if part.stated_records != records {
         return 2;
     }
     0

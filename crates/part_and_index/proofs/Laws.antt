@@ -23,8 +23,8 @@ use Rattle.part_and_index.proofs.Parts.{Numbered, either-numbered, numb
 pub record SoundPart (rs : List (List ℕ)) (part : SheetPart) : Type 0 where
   pub no-fault : sheetFault rs ≡ none
   pub length-is : part .length ≡ partLength rs
-  pub elements-is : part .elements ≡ statedElements (getD rs 1 [])
-  pub records-is : part .records ≡ statedRecords (getD rs 1 [])
+  pub elements-is : part .«stated_elements» ≡ statedElements (getD rs 1 [])
+  pub records-is : part .«stated_records» ≡ statedRecords (getD rs 1 [])
   pub unit-is : part .unit ≡ numberAt sheetB "unit" (getD rs 1 [])
   pub corners-are : part .corners ≡ corners rs
   pub inside : part .length ≤ length rs
@@ -47,8 +47,8 @@ module _ (rs : List (List ℕ)) (part : SheetPart) (answer : part ≡ sheetPartO
       record {
         no-fault = e;
         length-is = long;
-        elements-is = ap (λ (p : SheetPart). p .elements) is;
-        records-is = ap (λ (p : SheetPart). p .records) is;
+        elements-is = ap (λ (p : SheetPart). p .«stated_elements») is;
+        records-is = ap (λ (p : SheetPart). p .«stated_records») is;
         unit-is = ap (λ (p : SheetPart). p .unit) is;
         corners-are = ap (λ (p : SheetPart). p .corners) is;
         inside = omega (arith, theLaws .inside rs ok);

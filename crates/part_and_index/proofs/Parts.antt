@@ -191,7 +191,7 @@ BehindB (IndexC cs) = ⊥
 BehindB Over = Unit {0}
 
 abbrev Same : Progress → Progress → Type 0
-Same p q = (q .elements ≡ p .elements) × (q .records ≡ p .records) × (q .unit ≡ p .unit)
+Same p q = (q .«stated_elements» ≡ p .«stated_elements») × (q .«stated_records» ≡ p .«stated_records») × (q .unit ≡ p .unit)
 
 behind-set : (sets fs : ℕ) → BehindB (dueIn (Sheet.dueFs 0 [] sets fs))
 behind-set zero zero = tt
@@ -224,8 +224,8 @@ kept-b (r ∷ rs) p w b = go (isOver (p .due)) (kept-b rs (stepped p r) (w .1) (
     go false rest = (rest .0 ∙ one .1 .0, rest .1 ∙ one .1 .1, rest .2 ∙ one .1 .2)
 
 record Stated (q : Progress) (second : List ℕ) : Type 0 where
-  elements-stated : q .elements ≡ statedElements second
-  records-stated : q .records ≡ statedRecords second
+  elements-stated : q .«stated_elements» ≡ statedElements second
+  records-stated : q .«stated_records» ≡ statedRecords second
   unit-stated : q .unit ≡ numberAt sheetB "unit" second
 
 module _ (p : Progress) (more : ℕ) (b : List ℕ) (rs : List (List ℕ)) (at-b : p .due ≡ SheetB more) (wide : length b ≡ 84) where
@@ -239,8 +239,8 @@ module _ (p : Progress) (more : ℕ) (b : List ℕ) (rs : List (List ℕ)) (at-b
   b-stated w =
       let kept : Same (stepped p b) (progressFrom (stepped p b) rs) = kept-b rs (stepped p b) w (rw b-taken tt) in
       record {
-        elements-stated = ap (λ (q : Progress). q .elements) goes-on ∙ kept .0 ∙ ap (λ (q : Progress). q .elements) b-taken;
-        records-stated = ap (λ (q : Progress). q .records) goes-on ∙ kept .1 ∙ ap (λ (q : Progress). q .records) b-taken;
+        elements-stated = ap (λ (q : Progress). q .«stated_elements») goes-on ∙ kept .0 ∙ ap (λ (q : Progress). q .«stated_elements») b-taken;
+        records-stated = ap (λ (q : Progress). q .«stated_records») goes-on ∙ kept .1 ∙ ap (λ (q : Progress). q .«stated_records») b-taken;
         unit-stated = ap (λ (q : Progress). q .unit) goes-on ∙ kept .2 ∙ ap (λ (q : Progress). q .unit) b-taken;
       }
 

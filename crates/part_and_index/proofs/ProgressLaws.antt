@@ -25,15 +25,15 @@ use Rattle.part_and_index.proofs.Meaning.{step-taken}
 
 -- ---- what records a, b and e say
 module _ (r : List ℕ) (p q : Progress) (f : ℕ) (next : Due) (is : q ≡ put p f next) where
-  pub a-said : length r ≡ 84 → f ≡ faultOfSheetA r → (level : ℕ) → level ≡ numberIn r 30 5 → record { fault = q .fault; due = q .due; level = level; unit = q .unit; wholes = q .wholes; elements = q .elements; records = q .records; corners = q .corners } ≡ saidA r (put p (faultOfSheetA r) next)
+  pub a-said : length r ≡ 84 → f ≡ faultOfSheetA r → (level : ℕ) → level ≡ numberIn r 30 5 → record { fault = q .fault; due = q .due; level = level; unit = q .unit; wholes = q .wholes; «stated_elements» = q .«stated_elements»; «stated_records» = q .«stated_records»; corners = q .corners } ≡ saidA r (put p (faultOfSheetA r) next)
   unfolding numberAt find sheetA
   a-said wide e level el = rw (is, el, number-there r 30 5 wide (omega arith) (omega arith), e)
 
-  pub b-said : length r ≡ 84 → f ≡ faultOfSheetB (p .level) r → (unit : ℕ) → unit ≡ numberIn r 44 3 → (wholes : List ℤ) → wholes ≡ wholesOf r → (elements : ℕ) → elements ≡ numberIn r 31 6 → (records : ℕ) → records ≡ numberIn r 37 7 → record { fault = q .fault; due = q .due; level = q .level; unit = unit; wholes = wholes; elements = elements; records = records; corners = q .corners } ≡ saidB r (put p (faultOfSheetB (p .level) r) next)
+  pub b-said : length r ≡ 84 → f ≡ faultOfSheetB (p .level) r → (unit : ℕ) → unit ≡ numberIn r 44 3 → (wholes : List ℤ) → wholes ≡ wholesOf r → (elements : ℕ) → elements ≡ numberIn r 31 6 → (records : ℕ) → records ≡ numberIn r 37 7 → record { fault = q .fault; due = q .due; level = q .level; unit = unit; wholes = wholes; «stated_elements» = elements; «stated_records» = records; corners = q .corners } ≡ saidB r (put p (faultOfSheetB (p .level) r) next)
   unfolding numberAt find sheetB statedElements statedRecords
   b-said wide e unit eu wholes ew elements ee records er = rw (is, eu, ew, ee, er, number-there r 44 3 wide (omega arith) (omega arith), number-there r 31 6 wide (omega arith) (omega arith), number-there r 37 7 wide (omega arith) (omega arith), e)
 
-  pub e-said : (fractions : List ℤ) → fractions ≡ fractionsOf r → f ≡ faultOfSheetE (p .unit) (p .wholes) fractions r → (corners : List ℤ) → corners ≡ cornersOf (p .unit) (p .wholes) fractions → record { fault = q .fault; due = q .due; level = q .level; unit = q .unit; wholes = q .wholes; elements = q .elements; records = q .records; corners = corners } ≡ overE r p next
+  pub e-said : (fractions : List ℤ) → fractions ≡ fractionsOf r → f ≡ faultOfSheetE (p .unit) (p .wholes) fractions r → (corners : List ℤ) → corners ≡ cornersOf (p .unit) (p .wholes) fractions → record { fault = q .fault; due = q .due; level = q .level; unit = q .unit; wholes = q .wholes; «stated_elements» = q .«stated_elements»; «stated_records» = q .«stated_records»; corners = corners } ≡ overE r p next
   e-said fractions ef e corners ec = rw (is, ec, e, ef)
 
 -- ---- `step`

@@ -88,7 +88,7 @@ sheets =
 
 -- -1234 metres and -56 millimetres are -1234056 millimetres, and so on in the order of record b
 abbrev sound : ℕ → SheetPart
-sound n = record { fault = 0; at = 0; length = n; elements = 1; records = 4; unit = 1; corners = minus 1234056 ∷ pos 5678050 ∷ minus 934000 ∷ pos 5978000 ∷ minus 934000 ∷ pos 5678050 ∷ minus 1234056 ∷ pos 5978000 ∷ [] }
+sound n = record { fault = 0; at = 0; length = n; «stated_elements» = 1; «stated_records» = 4; unit = 1; corners = minus 1234056 ∷ pos 5678050 ∷ minus 934000 ∷ pos 5978000 ∷ minus 934000 ∷ pos 5678050 ∷ minus 1234056 ∷ pos 5978000 ∷ [] }
 
 abbrev sheetAnswers : List SheetPart
 sheetAnswers =

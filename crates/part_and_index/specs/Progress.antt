@@ -55,11 +55,11 @@ faultOf p r = first (Sheet.wrongIn (phaseOf p) r) (Index.wrongIn (stageOf p) r)
 
 -- before the first record
 abbrev pub started : Due → Progress
-started d = record { fault = 0; due = d; level = 0; unit = 0; wholes = replicate 8 (pos 0); elements = 0; records = 0; corners = replicate 8 (pos 0) }
+started d = record { fault = 0; due = d; level = 0; unit = 0; wholes = replicate 8 (pos 0); «stated_elements» = 0; «stated_records» = 0; corners = replicate 8 (pos 0) }
 
 -- another fault, and another record due
 abbrev pub put : Progress → (fault : ℕ) → Due → Progress
-put p n d = record { fault = n; due = d; level = p .level; unit = p .unit; wholes = p .wholes; elements = p .elements; records = p .records; corners = p .corners }
+put p n d = record { fault = n; due = d; level = p .level; unit = p .unit; wholes = p .wholes; «stated_elements» = p .«stated_elements»; «stated_records» = p .«stated_records»; corners = p .corners }
 
 -- a corner in millimetres, as joining answers it; 0 where it refuses, which a record without fault never has (proofs/Parts: corners-from)
 abbrev pub joined : Answer ℤ → ℤ
@@ -76,13 +76,13 @@ cornersOf unit (w ∷ ws) (f ∷ fs) = cornerOf unit w f ∷ cornersOf unit ws f
 
 -- what records a, b and e say
 abbrev pub saidA : List ℕ → Progress → Progress
-saidA r p = record { fault = p .fault; due = p .due; level = numberAt sheetA "level" r; unit = p .unit; wholes = p .wholes; elements = p .elements; records = p .records; corners = p .corners }
+saidA r p = record { fault = p .fault; due = p .due; level = numberAt sheetA "level" r; unit = p .unit; wholes = p .wholes; «stated_elements» = p .«stated_elements»; «stated_records» = p .«stated_records»; corners = p .corners }
 
 abbrev pub saidB : List ℕ → Progress → Progress
-saidB r p = record { fault = p .fault; due = p .due; level = p .level; unit = numberAt sheetB "unit" r; wholes = Sheet.wholesOf r; elements = Sheet.statedElements r; records = Sheet.statedRecords r; corners = p .corners }
+saidB r p = record { fault = p .fault; due = p .due; level = p .level; unit = numberAt sheetB "unit" r; wholes = Sheet.wholesOf r; «stated_elements» = Sheet.statedElements r; «stated_records» = Sheet.statedRecords r; corners = p .corners }
 
 abbrev pub saidE : List ℕ → Progress → Progress
-saidE r p = record { fault = p .fault; due = p .due; level = p .level; unit = p .unit; wholes = p .wholes; elements = p .elements; records = p .records; corners = cornersOf (p .unit) (p .wholes) (Sheet.fractionsOf r) }
+saidE r p = record { fault = p .fault; due = p .due; level = p .level; unit = p .unit; wholes = p .wholes; «stated_elements» = p .«stated_elements»; «stated_records» = p .«stated_records»; corners = cornersOf (p .unit) (p .wholes) (Sheet.fractionsOf r) }
 
 abbrev pub said : Due → List ℕ → Progress → Progress
 said SheetA r p = saidA r p

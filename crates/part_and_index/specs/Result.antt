@@ -12,11 +12,11 @@ use Rattle.part_and_index.specs.declared.Fault as Declared
 
 -- "A refusal returns number and record only"
 abbrev pub refusedPart : (number at : ℕ) → SheetPart
-refusedPart number at = record { fault = number; at = at; length = 0; elements = 0; records = 0; unit = 0; corners = replicate 8 (pos 0) }
+refusedPart number at = record { fault = number; at = at; length = 0; «stated_elements» = 0; «stated_records» = 0; unit = 0; corners = replicate 8 (pos 0) }
 
 -- how many records the part has, the two counts and the unit that record 2 states, and the corners
 abbrev pub soundPart : (length : ℕ) → (second : List ℕ) → (corners : List ℤ) → SheetPart
-soundPart n second cs = record { fault = 0; at = 0; length = n; elements = statedElements second; records = statedRecords second; unit = numberAt sheetB "unit" second; corners = cs }
+soundPart n second cs = record { fault = 0; at = 0; length = n; «stated_elements» = statedElements second; «stated_records» = statedRecords second; unit = numberAt sheetB "unit" second; corners = cs }
 
 -- the first fault of the part, or else those
 abbrev pub partAnswer : Fault → (length : ℕ) → (second : List ℕ) → (corners : List ℤ) → SheetPart

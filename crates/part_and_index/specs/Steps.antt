@@ -39,7 +39,7 @@ overE r p next = saidE r (put p (faultOfSheetE (p .unit) (p .wholes) (Sheet.frac
 
 -- ---- the due records from the front, `passed` others being behind: what is answered where nothing is due, where a record has a fault and where one is missing
 abbrev pub passedPart : Progress → (passed : ℕ) → SheetPart
-passedPart p n = record { fault = 0; at = 0; length = n; elements = p .elements; records = p .records; unit = p .unit; corners = p .corners }
+passedPart p n = record { fault = 0; at = 0; length = n; «stated_elements» = p .«stated_elements»; «stated_records» = p .«stated_records»; unit = p .unit; corners = p .corners }
 
 abbrev pub walkedFrom : Progress → (passed : ℕ) → List (List ℕ) → SheetPart
 walkedFrom p n [] = cond (isOver (p .due)) (passedPart p n) (refusedPart 3 1)

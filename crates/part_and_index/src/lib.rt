@@ -24,8 +24,8 @@ pub struct SheetPart {
     pub fault: u8,
     pub at: usize,
     pub length: usize,
-    pub elements: usize,
-    pub records: usize,
+    pub stated_elements: usize,
+    pub stated_records: usize,
     pub unit: u64,
     pub corners: FourCorners,
 }
@@ -43,8 +43,8 @@ fn refused(fault: u8, at: usize) -> SheetPart
         fault,
         at,
         length: 0,
-        elements: 0,
-        records: 0,
+        stated_elements: 0,
+        stated_records: 0,
         unit: 0,
         corners: [0; 8],
     }
@@ -59,8 +59,8 @@ fn passed(progress: Progress, records: usize) -> SheetPart
         fault: 0,
         at: 0,
         length: records,
-        elements: progress.elements,
-        records: progress.records,
+        stated_elements: progress.stated_elements,
+        stated_records: progress.stated_records,
         unit: progress.unit,
         corners,
     }

@@ -18,8 +18,8 @@ pub struct Progress {
     pub level: usize,
     pub unit: u64,
     pub wholes: FourCorners,
-    pub elements: usize,
-    pub records: usize,
+    pub stated_elements: usize,
+    pub stated_records: usize,
     pub corners: FourCorners,
 }
 
@@ -33,8 +33,8 @@ pub(crate) fn start(first: Due) -> Progress
         level: 0,
         unit: 0,
         wholes: [0; 8],
-        elements: 0,
-        records: 0,
+        stated_elements: 0,
+        stated_records: 0,
         corners: [0; 8],
     }
 }
@@ -51,8 +51,8 @@ fn put(progress: Progress, fault: u8, due: Due) -> Progress
         level: progress.level,
         unit: progress.unit,
         wholes,
-        elements: progress.elements,
-        records: progress.records,
+        stated_elements: progress.stated_elements,
+        stated_records: progress.stated_records,
         corners,
     }
 }
@@ -81,12 +81,12 @@ fn step_b(progress: Progress, record: &[u8], next: Due) -> Progress
     );
     after.unit = unit as u64;
     after.wholes = wholes;
-    after.elements = columns::number_at(
+    after.stated_elements = columns::number_at(
         record,
         SheetB::ELEMENT_COUNT_START,
         SheetB::ELEMENT_COUNT_WIDTH,
     );
-    after.records = columns::number_at(
+    after.stated_records = columns::number_at(
         record,
         SheetB::RECORD_COUNT_START,
         SheetB::RECORD_COUNT_WIDTH,
