@@ -66,7 +66,7 @@ module _ (c : Change) (l : List ℕ) (f : Fitting c (length l)) (start width : �
   pub count-below : c .count < 10 ^ width
   count-below = rw w (f .count-fits)
 
-  pub all-written : (l₂ l₃ l₄ : List ℕ) → l₂ ≡ splice (84 * c .header + start) width (written width (pos (c .count))) l₁ → l₃ ≡ splice 115 6 (written 6 (pos (c .elements))) l₂ → l₄ ≡ splice 121 7 (written 7 (pos (c .records))) l₃ → l₄ ≡ withCounts c l
+  pub all-written : (l₂ l₃ l₄ : List ℕ) → l₂ ≡ splice (84 * c .header + start) width (written width (pos (c .count))) l₁ → l₃ ≡ splice 115 6 (written 6 (pos (c .«stated_elements»))) l₂ → l₄ ≡ splice 121 7 (written 7 (pos (c .«stated_records»))) l₃ → l₄ ≡ withCounts c l
   unfolding withCounts
   all-written l₂ l₃ l₄ second third fourth = fourth ∙ rw (third, second, first, s, w)
 

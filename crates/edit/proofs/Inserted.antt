@@ -55,7 +55,7 @@ module _ (l : List ℕ) (used place : ℕ) (a : AcceptedSheet used l) where
     abbrev between : List (List ℕ)
     between = take (partLength rs + q) rs ++ (blockOf block ++ drop (partLength rs + q) rs)
 
-    module _ (low : 2 ≤ item .level) (near : pred (item .level) ≤ openBehind 0 0 pre) (kind-most : countIndex (item .kind) ≤ 9) (header-is : c .header ≡ index) (kind-is : c .kind ≡ countIndex (item .kind)) (total-is : c .total ≡ numberAt header "total" (getD rs index []) + 1) (count-is : c .count ≡ countIn (getD rs index []) (countIndex (item .kind)) + 1) (elements-is : c .elements ≡ statedElements (getD rs 1 []) + 1) (records-is : c .records ≡ statedRecords (getD rs 1 []) + length (blockOf block)) (start-is : c .start ≡ 84 * (partLength rs + q)) where
+    module _ (low : 2 ≤ item .level) (near : pred (item .level) ≤ openBehind 0 0 pre) (kind-most : countIndex (item .kind) ≤ 9) (header-is : c .header ≡ index) (kind-is : c .kind ≡ countIndex (item .kind)) (total-is : c .total ≡ numberAt header "total" (getD rs index []) + 1) (count-is : c .count ≡ countIn (getD rs index []) (countIndex (item .kind)) + 1) (elements-is : c .«stated_elements» ≡ statedElements (getD rs 1 []) + 1) (records-is : c .«stated_records» ≡ statedRecords (getD rs 1 []) + length (blockOf block)) (start-is : c .start ≡ 84 * (partLength rs + q)) where
       place-inside : partLength rs + q ≤ length rs
       place-inside = omega (arith, k, length-body a, length-records a, sheet-inside a)
 
@@ -78,14 +78,14 @@ module _ (l : List ℕ) (used place : ℕ) (a : AcceptedSheet used l) where
       unfolding raise
       raised-there = rw (header-there, kind-is, count-is, total-is)
 
-      rewritten : withCounts c (flat between ++ drop (84 * length (blockOf block)) tail) ≡ flat (alterAt (writeCounts (c .elements) (c .records)) 1 (alterAt (raise (countIndex (item .kind))) (c .header) between)) ++ drop (84 * length (blockOf block)) tail
+      rewritten : withCounts c (flat between ++ drop (84 * length (blockOf block)) tail) ≡ flat (alterAt (writeCounts (c .«stated_elements») (c .«stated_records»)) 1 (alterAt (raise (countIndex (item .kind))) (c .header) between)) ++ drop (84 * length (blockOf block)) tail
       rewritten = as-records-changed c between (drop (84 * length (blockOf block)) tail) wide-between (rw kind-is kind-most) (omega (arith, header-is, index-inside, place-inside, length-between)) (omega (arith, sheet-two a, sheet-inside a, length-between)) (raise (countIndex (item .kind))) raised-there
 
-      records-are : (inserted (listOf (record { bytes = l; used = used })) place (blockOf block)) .records ≡ alterAt (writeCounts (c .elements) (c .records)) 1 (alterAt (raise (countIndex (item .kind))) (c .header) between)
+      records-are : (inserted (listOf (record { bytes = l; used = used })) place (blockOf block)) .records ≡ alterAt (writeCounts (c .«stated_elements») (c .«stated_records»)) 1 (alterAt (raise (countIndex (item .kind))) (c .header) between)
       records-are = as-records rs (blockOf block) (partLength rs) q 0 (pred (aboveIn (item .level) pre)) (writeCounts (statedElements (getD rs 1 []) + 1) (statedRecords (getD rs 1 []) + length (blockOf block))) (raise (countIndex (item .kind))) (sheet-two a) place-inside index-inside ∙ rw (header-is, elements-is, records-is)
 
       length-inserted : length ((inserted (listOf (record { bytes = l; used = used })) place (blockOf block)) .records) ≡ length rs + length (blockOf block)
-      length-inserted = ap length records-are ∙ length-alterAt (writeCounts (c .elements) (c .records)) 1 (alterAt (raise (countIndex (item .kind))) (c .header) between) ∙ length-alterAt (raise (countIndex (item .kind))) (c .header) between ∙ length-between
+      length-inserted = ap length records-are ∙ length-alterAt (writeCounts (c .«stated_elements») (c .«stated_records»)) 1 (alterAt (raise (countIndex (item .kind))) (c .header) between) ∙ length-alterAt (raise (countIndex (item .kind))) (c .header) between ∙ length-between
 
       pub insert-stored : 84 * length (blockOf block) ≡ length block → call (insert place block) (record { bytes = l; used = used }) ≡ storedStep (withCounts c (putIn l used (c .start) block)) (used + length block)
       unfolding plain

@@ -204,7 +204,7 @@ module _ (l : List ℕ) (used place : ℕ) (block : List ℕ) (sheet : Sheet) (k
         records-is : used / 84 - sheet .part + length block / 84 ≡ statedRecords (getD (chunks (used / 84) l) 1 []) + length (blockOf block)
         records-is = omega (arith, records-are (n .opened-at .accepted), n .opened-at .part-is, n .opened-at .part-inside, length-block block (n .twelve))
 
-        pub stored : InsertionPlanned l used place block (Store (record { header = above .header; kind = kind; total = above .total + 1; count = above .count + 1; elements = sheet .items + 1; records = used / 84 - sheet .part + length block / 84; start = 84 * (place - 1); length = length block }))
+        pub stored : InsertionPlanned l used place block (Store (record { header = above .header; kind = kind; total = above .total + 1; count = above .count + 1; «stated_elements» = sheet .items + 1; «stated_records» = used / 84 - sheet .part + length block / 84; start = 84 * (place - 1); length = length block }))
         unfolding InsertionPlanned
         stored = record {
           can = record {

@@ -150,7 +150,7 @@ module _ (l : List ℕ) (used place : ℕ) (sheet : Sheet) (item : Entry) (m : R
     out-is : 84 * (item .«data_records» + 1) ≡ 84 * suc (lost .dataRecords)
     out-is = omega (arith, m .data-is)
 
-    pub stored : (total count elements : ℕ) → total ≡ above .total - 1 → count ≡ above .count - 1 → elements ≡ sheet .items - 1 → RemovalPlanned l used place (Store (record { header = above .header; kind = item .kind; total = total; count = count; elements = elements; records = used / 84 - sheet .part - (item .«data_records» + 1); start = 84 * (place - 1); length = 84 * (item .«data_records» + 1) }))
+    pub stored : (total count elements : ℕ) → total ≡ above .total - 1 → count ≡ above .count - 1 → elements ≡ sheet .items - 1 → RemovalPlanned l used place (Store (record { header = above .header; kind = item .kind; total = total; count = count; «stated_elements» = elements; «stated_records» = used / 84 - sheet .part - (item .«data_records» + 1); start = 84 * (place - 1); length = 84 * (item .«data_records» + 1) }))
     unfolding RemovalPlanned
     stored total count elements total-is count-is elements-is = record {
       can = record {

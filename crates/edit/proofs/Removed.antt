@@ -51,7 +51,7 @@ module _ (l : List ℕ) (used place : ℕ) (a : AcceptedSheet used l) (c : Chang
   abbrev left : List (List ℕ)
   left = take (partLength rs + q) rs ++ ([] ++ drop gone (drop (partLength rs + q) rs))
 
-  module _ (fault : remove11 file place ≡ 0) (enough : q + gone ≤ length (file .body)) (low : 2 ≤ item .level) (near : pred (item .level) ≤ openBehind 0 0 pre) (kind-most : countIndex (item .kind) ≤ 9) (header-is : c .header ≡ index) (kind-is : c .kind ≡ countIndex (item .kind)) (total-is : c .total ≡ numberAt header "total" (getD rs index []) - 1) (count-is : c .count ≡ countIn (getD rs index []) (countIndex (item .kind)) - 1) (elements-is : c .elements ≡ statedElements (getD rs 1 []) - 1) (records-is : c .records ≡ statedRecords (getD rs 1 []) - gone) (start-is : c .start ≡ 84 * (partLength rs + q)) (length-is : c .length ≡ 84 * gone) where
+  module _ (fault : remove11 file place ≡ 0) (enough : q + gone ≤ length (file .body)) (low : 2 ≤ item .level) (near : pred (item .level) ≤ openBehind 0 0 pre) (kind-most : countIndex (item .kind) ≤ 9) (header-is : c .header ≡ index) (kind-is : c .kind ≡ countIndex (item .kind)) (total-is : c .total ≡ numberAt header "total" (getD rs index []) - 1) (count-is : c .count ≡ countIn (getD rs index []) (countIndex (item .kind)) - 1) (elements-is : c .«stated_elements» ≡ statedElements (getD rs 1 []) - 1) (records-is : c .«stated_records» ≡ statedRecords (getD rs 1 []) - gone) (start-is : c .start ≡ 84 * (partLength rs + q)) (length-is : c .length ≡ 84 * gone) where
     place-inside : partLength rs + q + gone ≤ length rs
     place-inside = omega (arith, enough, length-body a, length-records a, sheet-inside a)
 
@@ -74,14 +74,14 @@ module _ (l : List ℕ) (used place : ℕ) (a : AcceptedSheet used l) (c : Chang
     unfolding lower
     lowered-there = rw (header-there, kind-is, count-is, total-is)
 
-    rewritten : withCounts c (flat left ++ (replicate (84 * gone) 32 ++ tail)) ≡ flat (alterAt (writeCounts (c .elements) (c .records)) 1 (alterAt (lower (countIndex (item .kind))) (c .header) left)) ++ (replicate (84 * gone) 32 ++ tail)
+    rewritten : withCounts c (flat left ++ (replicate (84 * gone) 32 ++ tail)) ≡ flat (alterAt (writeCounts (c .«stated_elements») (c .«stated_records»)) 1 (alterAt (lower (countIndex (item .kind))) (c .header) left)) ++ (replicate (84 * gone) 32 ++ tail)
     rewritten = as-records-changed c left (replicate (84 * gone) 32 ++ tail) wide-left (rw kind-is kind-most) (omega (arith, header-is, index-inside, place-inside, length-left)) (omega (arith, sheet-two a, index-inside, place-inside, length-left)) (lower (countIndex (item .kind))) lowered-there
 
-    records-are : (removed (listOf (record { bytes = l; used = used })) place) .records ≡ alterAt (writeCounts (c .elements) (c .records)) 1 (alterAt (lower (countIndex (item .kind))) (c .header) left)
+    records-are : (removed (listOf (record { bytes = l; used = used })) place) .records ≡ alterAt (writeCounts (c .«stated_elements») (c .«stated_records»)) 1 (alterAt (lower (countIndex (item .kind))) (c .header) left)
     records-are = as-records rs [] (partLength rs) q gone (pred (aboveIn (item .level) pre)) (writeCounts (statedElements (getD rs 1 []) - 1) (statedRecords (getD rs 1 []) - gone)) (lower (countIndex (item .kind))) (sheet-two a) (omega (arith, place-inside)) index-inside ∙ rw (header-is, elements-is, records-is)
 
     length-removed : length ((removed (listOf (record { bytes = l; used = used })) place) .records) ≡ length rs - gone
-    length-removed = ap length records-are ∙ length-alterAt (writeCounts (c .elements) (c .records)) 1 (alterAt (lower (countIndex (item .kind))) (c .header) left) ∙ length-alterAt (lower (countIndex (item .kind))) (c .header) left ∙ length-left
+    length-removed = ap length records-are ∙ length-alterAt (writeCounts (c .«stated_elements») (c .«stated_records»)) 1 (alterAt (lower (countIndex (item .kind))) (c .header) left) ∙ length-alterAt (lower (countIndex (item .kind))) (c .header) left ∙ length-left
 
     pub remove-stored : call (remove place) (record { bytes = l; used = used }) ≡ storedStep (withCounts c (takenOut l used (c .start) (c .length))) (used - c .length)
     unfolding plain

@@ -79,7 +79,7 @@ module _ (c : Change) (rs : List (List ℕ)) (tail : List ℕ) (wide : Wide rs) 
   rs₂ = alterAt (in-column (countStart (c .kind)) (countWidth (c .kind)) (c .count)) (c .header) rs₁
 
   abbrev rs₃ : List (List ℕ)
-  rs₃ = alterAt (in-column 31 6 (c .elements)) 1 rs₂
+  rs₃ = alterAt (in-column 31 6 (c .«stated_elements»)) 1 rs₂
 
   wide₁ : Wide rs₁
   wide₁ = wide-alter _ (column-wide 18 5 (c .total) (omega arith)) (c .header) rs wide
@@ -88,7 +88,7 @@ module _ (c : Change) (rs : List (List ℕ)) (tail : List ℕ) (wide : Wide rs) 
   wide₂ = wide-alter _ (column-wide (countStart (c .kind)) (countWidth (c .kind)) (c .count) room) (c .header) rs₁ wide₁
 
   wide₃ : Wide rs₃
-  wide₃ = wide-alter _ (column-wide 31 6 (c .elements) (omega arith)) 1 rs₂ wide₂
+  wide₃ = wide-alter _ (column-wide 31 6 (c .«stated_elements») (omega arith)) 1 rs₂ wide₂
 
   length₁ : length rs₁ ≡ length rs
   length₁ = length-alterAt (in-column 18 5 (c .total)) (c .header) rs
@@ -97,17 +97,17 @@ module _ (c : Change) (rs : List (List ℕ)) (tail : List ℕ) (wide : Wide rs) 
   length₂ = length-alterAt (in-column (countStart (c .kind)) (countWidth (c .kind)) (c .count)) (c .header) rs₁ ∙ length₁
 
   length₃ : length rs₃ ≡ length rs
-  length₃ = length-alterAt (in-column 31 6 (c .elements)) 1 rs₂ ∙ length₂
+  length₃ = length-alterAt (in-column 31 6 (c .«stated_elements»)) 1 rs₂ ∙ length₂
 
-  as-columns : withCounts c (flat rs ++ tail) ≡ flat (alterAt (in-column 37 7 (c .records)) 1 rs₃) ++ tail
+  as-columns : withCounts c (flat rs ++ tail) ≡ flat (alterAt (in-column 37 7 (c .«stated_records»)) 1 rs₃) ++ tail
   unfolding withCounts
   as-columns =
-      ap (λ (x : List ℕ). put 1 37 7 (c .records) (put 1 31 6 (c .elements) (put (c .header) (countStart (c .kind)) (countWidth (c .kind)) (c .count) x))) (record-splice rs tail _ (c .header) 18 5 wide header-in (omega arith))
-      ∙ ap (λ (x : List ℕ). put 1 37 7 (c .records) (put 1 31 6 (c .elements) x)) (record-splice rs₁ tail _ (c .header) (countStart (c .kind)) (countWidth (c .kind)) wide₁ (omega (arith, length₁)) room)
-      ∙ ap (λ (x : List ℕ). put 1 37 7 (c .records) x) (record-splice rs₂ tail _ 1 31 6 wide₂ (omega (arith, length₂)) (omega arith))
+      ap (λ (x : List ℕ). put 1 37 7 (c .«stated_records») (put 1 31 6 (c .«stated_elements») (put (c .header) (countStart (c .kind)) (countWidth (c .kind)) (c .count) x))) (record-splice rs tail _ (c .header) 18 5 wide header-in (omega arith))
+      ∙ ap (λ (x : List ℕ). put 1 37 7 (c .«stated_records») (put 1 31 6 (c .«stated_elements») x)) (record-splice rs₁ tail _ (c .header) (countStart (c .kind)) (countWidth (c .kind)) wide₁ (omega (arith, length₁)) room)
+      ∙ ap (λ (x : List ℕ). put 1 37 7 (c .«stated_records») x) (record-splice rs₂ tail _ 1 31 6 wide₂ (omega (arith, length₂)) (omega arith))
       ∙ record-splice rs₃ tail _ 1 37 7 wide₃ (omega (arith, length₃)) (omega arith)
 
-  counts-are : (r : List ℕ) → in-column 37 7 (c .records) (in-column 31 6 (c .elements) r) ≡ writeCounts (c .elements) (c .records) r
+  counts-are : (r : List ℕ) → in-column 37 7 (c .«stated_records») (in-column 31 6 (c .«stated_elements») r) ≡ writeCounts (c .«stated_elements») (c .«stated_records») r
   unfolding writeCounts rewrite find sheetB
   counts-are r = refl
 
@@ -116,11 +116,11 @@ module _ (c : Change) (rs : List (List ℕ)) (tail : List ℕ) (wide : Wide rs) 
   header-is r = refl
 
   -- by the change of the header that format names
-  pub as-records-changed : (change : List ℕ → List ℕ) → change (getD rs (c .header) []) ≡ rewrite header (countName (c .kind)) (c .count) (rewrite header "total" (c .total) (getD rs (c .header) [])) → withCounts c (flat rs ++ tail) ≡ flat (alterAt (writeCounts (c .elements) (c .records)) 1 (alterAt change (c .header) rs)) ++ tail
-  as-records-changed change e = as-columns ∙ ap (λ (x : List (List ℕ)). flat x ++ tail) (sheet ∙ ap (alterAt (writeCounts (c .elements) (c .records)) 1) above)
+  pub as-records-changed : (change : List ℕ → List ℕ) → change (getD rs (c .header) []) ≡ rewrite header (countName (c .kind)) (c .count) (rewrite header "total" (c .total) (getD rs (c .header) [])) → withCounts c (flat rs ++ tail) ≡ flat (alterAt (writeCounts (c .«stated_elements») (c .«stated_records»)) 1 (alterAt change (c .header) rs)) ++ tail
+  as-records-changed change e = as-columns ∙ ap (λ (x : List (List ℕ)). flat x ++ tail) (sheet ∙ ap (alterAt (writeCounts (c .«stated_elements») (c .«stated_records»)) 1) above)
     where
-      sheet : alterAt (in-column 37 7 (c .records)) 1 (alterAt (in-column 31 6 (c .elements)) 1 rs₂) ≡ alterAt (writeCounts (c .elements) (c .records)) 1 rs₂
-      sheet = alter-twice (in-column 37 7 (c .records)) (in-column 31 6 (c .elements)) 1 rs₂ ∙ alter-same (λ r. in-column 37 7 (c .records) (in-column 31 6 (c .elements) r)) (writeCounts (c .elements) (c .records)) 1 rs₂ (counts-are (getD rs₂ 1 []))
+      sheet : alterAt (in-column 37 7 (c .«stated_records»)) 1 (alterAt (in-column 31 6 (c .«stated_elements»)) 1 rs₂) ≡ alterAt (writeCounts (c .«stated_elements») (c .«stated_records»)) 1 rs₂
+      sheet = alter-twice (in-column 37 7 (c .«stated_records»)) (in-column 31 6 (c .«stated_elements»)) 1 rs₂ ∙ alter-same (λ r. in-column 37 7 (c .«stated_records») (in-column 31 6 (c .«stated_elements») r)) (writeCounts (c .«stated_elements») (c .«stated_records»)) 1 rs₂ (counts-are (getD rs₂ 1 []))
 
       above : alterAt (in-column (countStart (c .kind)) (countWidth (c .kind)) (c .count)) (c .header) (alterAt (in-column 18 5 (c .total)) (c .header) rs) ≡ alterAt change (c .header) rs
       above = alter-twice _ _ (c .header) rs ∙ alter-same (λ r. in-column (countStart (c .kind)) (countWidth (c .kind)) (c .count) (in-column 18 5 (c .total) r)) change (c .header) rs (header-is (getD rs (c .header) []) ∙ sym e)

@@ -14,8 +14,8 @@ put index start width number bytes = splice (84 * index + start) width (written 
 -- "rewrites four columns in written form (total and own kind in the header above, both sheet counts)"
 unfoldable pub withCounts : Change → List ℕ → List ℕ
 withCounts c bytes =
-    put 1 37 7 (c .records) (
-    put 1 31 6 (c .elements) (
+    put 1 37 7 (c .«stated_records») (
+    put 1 31 6 (c .«stated_elements») (
     put (c .header) (countStart (c .kind)) (countWidth (c .kind)) (c .count) (
     put (c .header) 18 5 (c .total) bytes)))
 
@@ -26,5 +26,5 @@ pub record Fitting (c : Change) (room : ℕ) : Type 0 where
   pub kind-most : c .kind ≤ 9
   pub total-fits : c .total < 10 ^ 5
   pub count-fits : c .count < 10 ^ countWidth (c .kind)
-  pub elements-fit : c .elements < 10 ^ 6
-  pub records-fit : c .records < 10 ^ 7
+  pub elements-fit : c .«stated_elements» < 10 ^ 6
+  pub records-fit : c .«stated_records» < 10 ^ 7

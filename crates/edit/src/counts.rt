@@ -17,8 +17,8 @@ pub(crate) struct Change {
     pub kind: usize,
     pub total: usize,
     pub count: usize,
-    pub elements: usize,
-    pub records: usize,
+    pub stated_elements: usize,
+    pub stated_records: usize,
     pub start: usize,
     pub length: usize,
 }
@@ -58,12 +58,12 @@ pub(crate) fn write_counts(buffer: &mut [u8], change: Change)
         buffer,
         files::RECORD + SheetB::ELEMENT_COUNT_START,
         SheetB::ELEMENT_COUNT_WIDTH,
-        change.elements,
+        change.stated_elements,
     );
     write_number(
         buffer,
         files::RECORD + SheetB::RECORD_COUNT_START,
         SheetB::RECORD_COUNT_WIDTH,
-        change.records,
+        change.stated_records,
     );
 }

@@ -89,8 +89,8 @@ fn counted_in(
         kind,
         total: above.total + 1,
         count: above.count + 1,
-        elements: sheet.items + 1,
-        records: used / files::RECORD - sheet.part + records,
+        stated_elements: sheet.items + 1,
+        stated_records: used / files::RECORD - sheet.part + records,
         start: files::RECORD * (place - 1),
         length,
     })
@@ -108,8 +108,8 @@ fn counted_out(buffer: &[u8], used: usize, sheet: Sheet, place: usize, item: Ent
         kind: item.kind,
         total: less(above.total, 1),
         count: less(above.count, 1),
-        elements: less(sheet.items, 1),
-        records: used / files::RECORD - sheet.part - records,
+        stated_elements: less(sheet.items, 1),
+        stated_records: used / files::RECORD - sheet.part - records,
         start: files::RECORD * (place - 1),
         length: files::RECORD * records,
     })
