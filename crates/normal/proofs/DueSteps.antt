@@ -52,11 +52,11 @@ entry-behind r e d h k = k ∙ rw h
 -- ---- `due_after`
 
 module _ (due : FileDue) (r : List ℕ) where
-  pub after-sheet : (part next : Due) (d : FileDue) → due ≡ Sheet part → next ≡ Part.dueAfter part r → d ≡ behindPart next → d ≡ dueAfter due r
+  pub after-sheet : (part next : Due) (d : FileDue) → due ≡ Sheet part → next ≡ Part.nextDue part r → d ≡ behindPart next → d ≡ dueAfter due r
   unfolding dueAfter
   after-sheet part next d h e k = k ∙ rw (h, e)
 
-  pub after-index : (part next : Due) → due ≡ Index part → next ≡ Part.dueAfter part r → Index next ≡ dueAfter due r
+  pub after-index : (part next : Due) → due ≡ Index part → next ≡ Part.nextDue part r → Index next ≡ dueAfter due r
   unfolding dueAfter
   after-index part next h e = rw (h, e)
 

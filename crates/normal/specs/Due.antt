@@ -32,8 +32,8 @@ behindEntry r = dueData ((entryOf r) .held) ((entryOf r) .«data_records»)
 
 -- ---- behind a record, whatever was due there
 unfoldable pub dueAfter : FileDue → List ℕ → FileDue
-dueAfter (Sheet due) r = behindPart (Part.dueAfter due r)
-dueAfter (Index due) r = Index (Part.dueAfter due r)
+dueAfter (Sheet due) r = behindPart (Part.nextDue due r)
+dueAfter (Index due) r = Index (Part.nextDue due r)
 dueAfter Entry r = behindEntry r
 dueAfter (Data held behind) r = dueData held behind
 

@@ -49,8 +49,8 @@ pub(crate) fn due_after(due: FileDue, record: &[u8]) -> FileDue
     ensures { λ r. ⌜ r ≡ dueAfter due (now («record» .entry)) ⌝ }
 {
     match due {
-        FileDue::Sheet(part) => behind_part(part_and_index::due_after(part, record)),
-        FileDue::Index(part) => FileDue::Index(part_and_index::due_after(part, record)),
+        FileDue::Sheet(part) => behind_part(part_and_index::next_due(part, record)),
+        FileDue::Index(part) => FileDue::Index(part_and_index::next_due(part, record)),
         FileDue::Entry => behind_entry(record),
         FileDue::Data(held, behind) => due_data(held, behind),
     }

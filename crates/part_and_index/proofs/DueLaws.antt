@@ -12,7 +12,7 @@ use Rattle.format.specs.Index as Index
 use Rattle.columns.specs.InRecord.{numberIn}
 use Rattle.part_and_index.specs.declared.due.Due.{Due}
 use Rattle.part_and_index.specs.declared.due.Due.the-variants.{SheetA, SheetB, SheetC, SheetD, SheetE, SheetF, IndexA, IndexB, IndexC, Over}
-use Rattle.part_and_index.specs.Due.{dueIn, dueAt, dueBehind, dueAfter}
+use Rattle.part_and_index.specs.Due.{dueIn, dueAt, nextOfWhole, nextDue}
 use Rattle.part_and_index.proofs.FaultLaws.{number-there}
 
 -- ---- so many more of a sort
@@ -47,51 +47,51 @@ pub a-b : (bs cs : ℕ) → (bs ≡ 0 → ⊥) → IndexB (bs - 1) cs ≡ dueAt 
 a-b zero cs h = absurd (h refl)
 a-b (suc n) cs h = ap (λ (k : ℕ). IndexB k cs) (one-less n)
 
--- ---- `due_behind`
+-- ---- `next_of_whole`
 module _ (due : Due) (r : List ℕ) (wide : length r ≡ 84) where
-  pub behind-a : (sets : ℕ) → due ≡ SheetA → sets ≡ numberIn r 65 2 → SheetB sets ≡ dueBehind due r
+  pub behind-a : (sets : ℕ) → due ≡ SheetA → sets ≡ numberIn r 65 2 → SheetB sets ≡ nextOfWhole due r
   unfolding numberAt find sheetA
   behind-a sets h e = rw (h, e, number-there r 65 2 wide (omega arith) (omega arith))
 
-  pub behind-d : (fs sets : ℕ) → due ≡ SheetD sets → fs ≡ numberIn r 9 1 → SheetE fs sets ≡ dueBehind due r
+  pub behind-d : (fs sets : ℕ) → due ≡ SheetD sets → fs ≡ numberIn r 9 1 → SheetE fs sets ≡ nextOfWhole due r
   unfolding numberAt find sheetD
   behind-d fs sets h e = rw (h, e, number-there r 9 1 wide (omega arith) (omega arith))
 
-  pub behind-index-a : (bs cs : ℕ) (d : Due) → due ≡ IndexA → bs ≡ numberIn r 37 2 → cs ≡ numberIn r 39 4 → d ≡ dueAt (Index.dueBs bs cs) → d ≡ dueBehind due r
+  pub behind-index-a : (bs cs : ℕ) (d : Due) → due ≡ IndexA → bs ≡ numberIn r 37 2 → cs ≡ numberIn r 39 4 → d ≡ dueAt (Index.dueBs bs cs) → d ≡ nextOfWhole due r
   unfolding numberAt find indexA
   behind-index-a bs cs d h e f k = k ∙ rw (h, e, f, number-there r 37 2 wide (omega arith) (omega arith), number-there r 39 4 wide (omega arith) (omega arith))
 
 module _ (due : Due) (r : List ℕ) where
-  pub behind-b : (sets : ℕ) → due ≡ SheetB sets → SheetC sets ≡ dueBehind due r
+  pub behind-b : (sets : ℕ) → due ≡ SheetB sets → SheetC sets ≡ nextOfWhole due r
   behind-b sets h = rw h
 
-  pub behind-c : (sets : ℕ) → due ≡ SheetC sets → SheetD sets ≡ dueBehind due r
+  pub behind-c : (sets : ℕ) → due ≡ SheetC sets → SheetD sets ≡ nextOfWhole due r
   behind-c sets h = rw h
 
-  pub behind-over : due ≡ Over → Over ≡ dueBehind due r
+  pub behind-over : due ≡ Over → Over ≡ nextOfWhole due r
   behind-over h = rw h
 
   module _ (d : Due) where
-    pub behind-e : (fs sets : ℕ) → due ≡ SheetE fs sets → d ≡ dueIn (Sheet.dueFs 0 [] sets fs) → d ≡ dueBehind due r
+    pub behind-e : (fs sets : ℕ) → due ≡ SheetE fs sets → d ≡ dueIn (Sheet.dueFs 0 [] sets fs) → d ≡ nextOfWhole due r
     behind-e fs sets h k = k ∙ rw h
 
-    pub behind-f : (fs sets : ℕ) → due ≡ SheetF fs sets → d ≡ dueIn (Sheet.dueFs 0 [] sets fs) → d ≡ dueBehind due r
+    pub behind-f : (fs sets : ℕ) → due ≡ SheetF fs sets → d ≡ dueIn (Sheet.dueFs 0 [] sets fs) → d ≡ nextOfWhole due r
     behind-f fs sets h k = k ∙ rw h
 
-    pub behind-index-b : (bs cs : ℕ) → due ≡ IndexB bs cs → d ≡ dueAt (Index.dueBs bs cs) → d ≡ dueBehind due r
+    pub behind-index-b : (bs cs : ℕ) → due ≡ IndexB bs cs → d ≡ dueAt (Index.dueBs bs cs) → d ≡ nextOfWhole due r
     behind-index-b bs cs h k = k ∙ rw h
 
-    pub behind-index-c : (cs : ℕ) → due ≡ IndexC cs → d ≡ dueAt (Index.dueCs cs) → d ≡ dueBehind due r
+    pub behind-index-c : (cs : ℕ) → due ≡ IndexC cs → d ≡ dueAt (Index.dueCs cs) → d ≡ nextOfWhole due r
     behind-index-c cs h k = k ∙ rw h
 
--- ---- `due_after`
+-- ---- `next_due`
 module _ (due : Due) (r : List ℕ) where
-  pub after-record : (d : Due) → length r ≡ 84 → d ≡ dueBehind due r → d ≡ dueAfter due r
-  unfolding dueAfter
+  pub after-record : (d : Due) → length r ≡ 84 → d ≡ nextOfWhole due r → d ≡ nextDue due r
+  unfolding nextDue
   after-record d h e = e ∙ rw (eq-eqb (length r) 84 h)
 
-  pub no-record : (length r ≡ 84 → ⊥) → due ≡ dueAfter due r
-  unfolding dueAfter
+  pub no-record : (length r ≡ 84 → ⊥) → due ≡ nextDue due r
+  unfolding nextDue
   no-record h = rw (ne-eqb (length r) 84 h)
 
 -- ---- THE ORDER is format's: behind a record that is due in a phase, or in a stage, what is due in the one behind it
@@ -103,7 +103,7 @@ f-due : (unit : ℕ) (wholes : List ℤ) (more fs : ℕ) → dueIn (Sheet.dueFs 
 f-due unit wholes more zero = set-due unit wholes more
 f-due unit wholes more (suc fs) = refl
 
-pub due-phase : (p : Sheet.Phase) (r : List ℕ) → dueBehind (dueIn p) r ≡ dueIn (Sheet.after p r)
+pub due-phase : (p : Sheet.Phase) (r : List ℕ) → nextOfWhole (dueIn p) r ≡ dueIn (Sheet.after p r)
 due-phase Sheet.due-a r = refl
 due-phase (Sheet.due-b level more) r = refl
 due-phase (Sheet.due-c unit wholes more) r = refl
@@ -112,16 +112,16 @@ due-phase (Sheet.due-e unit wholes more fs) r = f-due unit wholes more fs
 due-phase (Sheet.due-f unit wholes more fs) r = f-due unit wholes more fs
 due-phase Sheet.body r = refl
 
-pub due-stage : (p : Index.Stage) (r : List ℕ) → dueBehind (dueAt p) r ≡ dueAt (Index.after p r)
+pub due-stage : (p : Index.Stage) (r : List ℕ) → nextOfWhole (dueAt p) r ≡ dueAt (Index.after p r)
 due-stage Index.due-a r = refl
 due-stage (Index.due-b bs cs) r = refl
 due-stage (Index.due-c cs) r = refl
 due-stage Index.over r = refl
 
--- so of `dueAfter`, where the record is whole
+-- so of `nextDue`, where the record is whole
 module _ (r : List ℕ) (wide : length r ≡ 84) where
-  pub phase-after : (p : Sheet.Phase) → dueAfter (dueIn p) r ≡ dueIn (Sheet.after p r)
+  pub phase-after : (p : Sheet.Phase) → nextDue (dueIn p) r ≡ dueIn (Sheet.after p r)
   phase-after p = sym (after-record (dueIn p) r _ wide refl) ∙ due-phase p r
 
-  pub stage-after : (p : Index.Stage) → dueAfter (dueAt p) r ≡ dueAt (Index.after p r)
+  pub stage-after : (p : Index.Stage) → nextDue (dueAt p) r ≡ dueAt (Index.after p r)
   stage-after p = sym (after-record (dueAt p) r _ wide refl) ∙ due-stage p r

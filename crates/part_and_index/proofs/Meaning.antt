@@ -21,7 +21,7 @@ use Rattle.part_and_index.specs.declared.due.Due.{Due}
 use Rattle.part_and_index.specs.declared.due.Due.the-variants.{SheetA, SheetB, SheetC, SheetD, SheetE, SheetF, IndexA, IndexB, IndexC, Over}
 use Rattle.part_and_index.specs.declared.progress.Progress.{Progress}
 use Rattle.part_and_index.specs.declared.SheetPart.{SheetPart}
-use Rattle.part_and_index.specs.Due.{dueIn, dueAt, dueBehind, isOver}
+use Rattle.part_and_index.specs.Due.{dueIn, dueAt, nextOfWhole, isOver}
 use Rattle.part_and_index.specs.Result.{refusedPart}
 use Rattle.part_and_index.specs.Progress.{phaseBy, phaseOf, stageBy, stageOf, faultOf, put, said, stepped}
 use Rattle.part_and_index.specs.Steps.{passedPart, walkedFrom}
@@ -53,7 +53,7 @@ OfIndex Over = Unit {0}
 
 -- ---- a whole record: what the step puts together
 module _ (p : Progress) (r : List ℕ) (wide : length r ≡ 84) where
-  pub step-taken : stepped p r ≡ said (p .due) r (put p (faultOf p r) (dueBehind (p .due) r))
+  pub step-taken : stepped p r ≡ said (p .due) r (put p (faultOf p r) (nextOfWhole (p .due) r))
   unfolding stepped
   step-taken = rw (eq-eqb (length r) 84 wide)
 
@@ -86,7 +86,7 @@ module _ (p : Progress) (r : List ℕ) (wide : length r ≡ 84) where
   pub fault-stepped : (stepped p r) .fault ≡ faultOf p r
   fault-stepped = ap (λ (q : Progress). q .fault) (step-taken p r wide) ∙ said-fault r _ (p .due)
 
-  pub due-stepped : (stepped p r) .due ≡ dueBehind (p .due) r
+  pub due-stepped : (stepped p r) .due ≡ nextOfWhole (p .due) r
   due-stepped = ap (λ (q : Progress). q .due) (step-taken p r wide) ∙ said-due r _ (p .due)
 
 -- ---- THE SHEET PART: a step is format's
@@ -124,7 +124,7 @@ f-of zero zero = tt
 f-of (suc sets) zero = tt
 f-of sets (suc fs) = tt
 
-phase-said : (d : Due) (p : Progress) (n : ℕ) (r : List ℕ) → OfSheet d → phaseOf (said d r (put p n (dueBehind d r))) ≡ Sheet.after (phaseBy d (p .level) (p .unit) (p .wholes)) r
+phase-said : (d : Due) (p : Progress) (n : ℕ) (r : List ℕ) → OfSheet d → phaseOf (said d r (put p n (nextOfWhole d r))) ≡ Sheet.after (phaseBy d (p .level) (p .unit) (p .wholes)) r
 unfolding phaseOf
 phase-said SheetA p n r o = refl
 phase-said (SheetB sets) p n r o = refl
@@ -137,7 +137,7 @@ phase-said (IndexB bs cs) p n r o = absurd o
 phase-said (IndexC cs) p n r o = absurd o
 phase-said Over p n r o = refl
 
-sheet-due : (d : Due) (r : List ℕ) → OfSheet d → OfSheet (dueBehind d r)
+sheet-due : (d : Due) (r : List ℕ) → OfSheet d → OfSheet (nextOfWhole d r)
 sheet-due SheetA r o = tt
 sheet-due (SheetB sets) r o = tt
 sheet-due (SheetC sets) r o = tt
@@ -199,7 +199,7 @@ b-stage : (bs cs : ℕ) → stageBy (dueAt (Index.dueBs bs cs)) ≡ Index.dueBs 
 b-stage zero cs = c-stage cs
 b-stage (suc bs) cs = refl
 
-stage-behind : (d : Due) (r : List ℕ) → OfIndex d → stageBy (dueBehind d r) ≡ Index.after (stageBy d) r
+stage-behind : (d : Due) (r : List ℕ) → OfIndex d → stageBy (nextOfWhole d r) ≡ Index.after (stageBy d) r
 stage-behind SheetA r o = absurd o
 stage-behind (SheetB sets) r o = absurd o
 stage-behind (SheetC sets) r o = absurd o
@@ -219,7 +219,7 @@ b-of : (bs cs : ℕ) → OfIndex (dueAt (Index.dueBs bs cs))
 b-of zero cs = c-of cs
 b-of (suc bs) cs = tt
 
-index-due : (d : Due) (r : List ℕ) → OfIndex d → OfIndex (dueBehind d r)
+index-due : (d : Due) (r : List ℕ) → OfIndex d → OfIndex (nextOfWhole d r)
 index-due SheetA r o = absurd o
 index-due (SheetB sets) r o = absurd o
 index-due (SheetC sets) r o = absurd o

@@ -27,7 +27,7 @@ use Rattle.part_and_index.specs.declared.due.Due.{Due}
 use Rattle.part_and_index.specs.declared.due.Due.the-variants.{SheetA, SheetB, SheetC, SheetD, SheetE, SheetF, IndexA, IndexB, IndexC, Over}
 use Rattle.part_and_index.specs.declared.progress.Progress.{Progress}
 use Rattle.part_and_index.specs.declared.SheetPart.{SheetPart}
-use Rattle.part_and_index.specs.Due.{dueIn, dueBehind, isOver}
+use Rattle.part_and_index.specs.Due.{dueIn, nextOfWhole, isOver}
 use Rattle.part_and_index.specs.Result.{soundPart, partAnswer, sheetPartOf, faultAnswer, indexFaultOf}
 use Rattle.part_and_index.specs.Progress.{phaseBy, phaseOf, stageOf, faultOf, started, put, cornerOf, cornersOf, said, stepped}
 use Rattle.part_and_index.specs.Steps.{passedPart, walkedFrom}
@@ -139,7 +139,7 @@ ready-set l c e (suc sets) zero = tt
 ready-set l c e sets (suc fs) = e
 
 module _ (p : Progress) (n : ℕ) (r : List ℕ) (l : List ℤ) (wide : length r ≡ 84) where
-  ready-said : (d : Due) → OfSheet d → Fit (phaseBy d (p .level) (p .unit) (p .wholes)) → Sheet.wrongIn (phaseBy d (p .level) (p .unit) (p .wholes)) r ≡ 0 → Ready d l (p .corners) → Ready ((said d r (put p n (dueBehind d r))) .due) (Sheet.cornersAt (phaseBy d (p .level) (p .unit) (p .wholes)) r l) ((said d r (put p n (dueBehind d r))) .corners)
+  ready-said : (d : Due) → OfSheet d → Fit (phaseBy d (p .level) (p .unit) (p .wholes)) → Sheet.wrongIn (phaseBy d (p .level) (p .unit) (p .wholes)) r ≡ 0 → Ready d l (p .corners) → Ready ((said d r (put p n (nextOfWhole d r))) .due) (Sheet.cornersAt (phaseBy d (p .level) (p .unit) (p .wholes)) r l) ((said d r (put p n (nextOfWhole d r))) .corners)
   ready-said SheetA o f z h = tt
   ready-said (SheetB sets) o f z h = tt
   ready-said (SheetC sets) o f z h = tt
@@ -199,7 +199,7 @@ behind-set (suc sets) zero = tt
 behind-set sets (suc fs) = tt
 
 module _ (p : Progress) (n : ℕ) (r : List ℕ) where
-  said-behind : (d : Due) → BehindB d → BehindB ((said d r (put p n (dueBehind d r))) .due) × Same p (said d r (put p n (dueBehind d r)))
+  said-behind : (d : Due) → BehindB d → BehindB ((said d r (put p n (nextOfWhole d r))) .due) × Same p (said d r (put p n (nextOfWhole d r)))
   said-behind SheetA b = absurd b
   said-behind (SheetB sets) b = absurd b
   said-behind (SheetC sets) b = (tt, (refl, refl, refl))
@@ -229,7 +229,7 @@ record Stated (q : Progress) (second : List ℕ) : Type 0 where
   unit-stated : q .unit ≡ numberAt sheetB "unit" second
 
 module _ (p : Progress) (more : ℕ) (b : List ℕ) (rs : List (List ℕ)) (at-b : p .due ≡ SheetB more) (wide : length b ≡ 84) where
-  b-taken : stepped p b ≡ said (SheetB more) b (put p (faultOf p b) (dueBehind (SheetB more) b))
+  b-taken : stepped p b ≡ said (SheetB more) b (put p (faultOf p b) (nextOfWhole (SheetB more) b))
   b-taken = step-taken p b wide ∙ rw at-b
 
   goes-on : progressFrom p (b ∷ rs) ≡ progressFrom (stepped p b) rs

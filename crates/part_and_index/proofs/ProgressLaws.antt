@@ -17,7 +17,7 @@ use Rattle.layout_faults.specs.Faults.{faultIn}
 use Rattle.part_and_index.specs.declared.due.Due.{Due}
 use Rattle.part_and_index.specs.declared.due.Due.the-variants.{SheetA, SheetB, SheetC, SheetD, SheetE, SheetF, IndexA, IndexB, IndexC, Over}
 use Rattle.part_and_index.specs.declared.progress.Progress.{Progress}
-use Rattle.part_and_index.specs.Due.{dueBehind}
+use Rattle.part_and_index.specs.Due.{nextOfWhole}
 use Rattle.part_and_index.specs.Progress.{phaseBy, phaseOf, stageBy, stageOf, faultOf, put, cornersOf, saidA, saidB, said, stepped}
 use Rattle.part_and_index.specs.Steps.{faultOfSheetA, faultOfSheetB, faultOfSheetD, faultOfSheetE, faultOfIndexA, overE}
 use Rattle.part_and_index.proofs.FaultLaws.{number-there, columns-first, c-unjudged, index-b-unjudged}
@@ -42,7 +42,7 @@ module _ (p : Progress) (r : List ℕ) (q : Progress) where
   unfolding stepped
   no-whole h e = e ∙ rw (ne-eqb (length r) 84 h)
 
-  module _ (wide : length r ≡ 84) (next : Due) (next-is : next ≡ dueBehind (p .due) r) where
+  module _ (wide : length r ≡ 84) (next : Due) (next-is : next ≡ nextOfWhole (p .due) r) where
     step-is : (d : Due) → p .due ≡ d → (f : ℕ) → f ≡ first (Sheet.wrongIn (phaseBy d (p .level) (p .unit) (p .wholes)) r) (Index.wrongIn (stageBy d) r) → q ≡ said d r (put p f next) → q ≡ stepped p r
     unfolding faultOf phaseOf stageOf
     step-is d e f ef h = h ∙ rw (next-is, ef, ← e) (sym (step-taken p r wide))

@@ -27,21 +27,21 @@ dueAt (Index.due-c cs) = IndexC cs
 dueAt Index.over = Over
 
 -- behind a whole record: what is due there does not ask for the level, the unit and the wholes, which are 0 and none here (proofs/DueLaws: due-phase)
-abbrev pub dueBehind : Due → List ℕ → Due
-dueBehind SheetA r = dueIn (Sheet.after Sheet.due-a r)
-dueBehind (SheetB sets) r = dueIn (Sheet.after (Sheet.due-b 0 sets) r)
-dueBehind (SheetC sets) r = dueIn (Sheet.after (Sheet.due-c 0 [] sets) r)
-dueBehind (SheetD sets) r = dueIn (Sheet.after (Sheet.due-d 0 [] sets) r)
-dueBehind (SheetE fs sets) r = dueIn (Sheet.after (Sheet.due-e 0 [] sets fs) r)
-dueBehind (SheetF fs sets) r = dueIn (Sheet.after (Sheet.due-f 0 [] sets fs) r)
-dueBehind IndexA r = dueAt (Index.after Index.due-a r)
-dueBehind (IndexB bs cs) r = dueAt (Index.after (Index.due-b bs cs) r)
-dueBehind (IndexC cs) r = dueAt (Index.after (Index.due-c cs) r)
-dueBehind Over r = Over
+abbrev pub nextOfWhole : Due → List ℕ → Due
+nextOfWhole SheetA r = dueIn (Sheet.after Sheet.due-a r)
+nextOfWhole (SheetB sets) r = dueIn (Sheet.after (Sheet.due-b 0 sets) r)
+nextOfWhole (SheetC sets) r = dueIn (Sheet.after (Sheet.due-c 0 [] sets) r)
+nextOfWhole (SheetD sets) r = dueIn (Sheet.after (Sheet.due-d 0 [] sets) r)
+nextOfWhole (SheetE fs sets) r = dueIn (Sheet.after (Sheet.due-e 0 [] sets fs) r)
+nextOfWhole (SheetF fs sets) r = dueIn (Sheet.after (Sheet.due-f 0 [] sets fs) r)
+nextOfWhole IndexA r = dueAt (Index.after Index.due-a r)
+nextOfWhole (IndexB bs cs) r = dueAt (Index.after (Index.due-b bs cs) r)
+nextOfWhole (IndexC cs) r = dueAt (Index.after (Index.due-c cs) r)
+nextOfWhole Over r = Over
 
 -- "records of 84 bytes": behind bytes that are no whole record what was due is due still
-unfoldable pub dueAfter : Due → List ℕ → Due
-dueAfter due r = cond (eqb (length r) 84) (dueBehind due r) due
+unfoldable pub nextDue : Due → List ℕ → Due
+nextDue due r = cond (eqb (length r) 84) (nextOfWhole due r) due
 
 -- nothing is due
 abbrev pub isOver : Due → Bool

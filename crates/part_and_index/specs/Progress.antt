@@ -13,7 +13,7 @@ use Rattle.format.specs.Index as Index
 use Rattle.part_and_index.specs.declared.due.Due.{Due}
 use Rattle.part_and_index.specs.declared.due.Due.the-variants.{SheetA, SheetB, SheetC, SheetD, SheetE, SheetF, IndexA, IndexB, IndexC, Over}
 use Rattle.part_and_index.specs.declared.progress.Progress.{Progress}
-use Rattle.part_and_index.specs.Due.{dueBehind}
+use Rattle.part_and_index.specs.Due.{nextOfWhole}
 
 -- ---- where a progress stands
 -- the phase of a sheet part, which is over where no record of one is due
@@ -98,4 +98,4 @@ said Over r p = p
 
 -- "records of 84 bytes": bytes that are no whole record are 1, and all else stays
 unfoldable pub stepped : Progress → List ℕ → Progress
-stepped p r = cond (eqb (length r) 84) (said (p .due) r (put p (faultOf p r) (dueBehind (p .due) r))) (put p 1 (p .due))
+stepped p r = cond (eqb (length r) 84) (said (p .due) r (put p (faultOf p r) (nextOfWhole (p .due) r))) (put p 1 (p .due))

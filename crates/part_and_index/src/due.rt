@@ -5,7 +5,7 @@ ghost use mathlib.Core.List.{[]};
 ghost use lib.ListN.{length};
 ghost use Rattle.format.specs.Sheet as Sheet;
 ghost use Rattle.format.specs.Index as Index;
-ghost use Rattle.part_and_index.specs.Due.{dueIn, dueAt, dueBehind, dueAfter};
+ghost use Rattle.part_and_index.specs.Due.{dueIn, dueAt, nextOfWhole, nextDue};
 use layouts::IndexA;
 use layouts::SheetA;
 use layouts::SheetD;
@@ -69,9 +69,9 @@ fn due_b(b_records: usize, c_records: usize) -> Due
 }
 
 // What is due behind a whole record.
-pub(crate) fn due_behind(due: Due, record: &[u8]) -> Due
+pub(crate) fn next_of_whole(due: Due, record: &[u8]) -> Due
     requires { ⌜ length (now «record») ≡ 84 ⌝ }
-    ensures { λ r. ⌜ r ≡ dueBehind due (now («record» .entry)) ⌝ }
+    ensures { λ r. ⌜ r ≡ nextOfWhole due (now («record» .entry)) ⌝ }
 {
     match due {
         Due::SheetA => Due::SheetB(columns::number_at(
@@ -98,11 +98,11 @@ pub(crate) fn due_behind(due: Due, record: &[u8]) -> Due
 }
 
 // What is due behind a record. Bytes that are no whole record leave due what was due.
-pub fn due_after(due: Due, record: &[u8]) -> Due
-    ensures { λ r. ⌜ r ≡ dueAfter due (now («record» .entry)) ⌝ }
+pub fn next_due(due: Due, record: &[u8]) -> Due
+    ensures { λ r. ⌜ r ≡ nextDue due (now («record» .entry)) ⌝ }
 {
     if record.len() == files::RECORD {
-        due_behind(due, record)
+        next_of_whole(due, record)
     } else {
         due
     }

@@ -6,7 +6,7 @@ ghost use Rattle.part_and_index.specs.Result.{refusedPart, sheetPartOf, 
 ghost use Rattle.part_and_index.specs.Progress.{started};
 ghost use Rattle.part_and_index.specs.Steps.{passedPart, walkedFrom};
 pub use due::Due;
-pub use due::due_after;
+pub use due::next_due;
 use files::Stride;
 pub use progress::Progress;
 pub use progress::step;

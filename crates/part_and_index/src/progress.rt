@@ -120,7 +120,7 @@ pub fn step(progress: Progress, record: &[u8]) -> Progress
     if record.len() != files::RECORD {
         return put(progress, 1, due);
     }
-    let next = due::due_behind(due, record);
+    let next = due::next_of_whole(due, record);
     match due {
         Due::SheetA => step_a(progress, record, next),
         Due::SheetB(_) => step_b(progress, record, next),

@@ -7,8 +7,8 @@ use Rattle.normal.proofs.due.due_after.Tie as tie
 enum-known-due : tie.Need-enum-known-due
 enum-known-due c = search needs
 
-due-after-requires : tie.Need-due-after-requires
-due-after-requires c κs = search needs
+next-due-requires : tie.Need-next-due-requires
+next-due-requires c κs = search needs
 
 behind-part-requires : tie.Need-behind-part-requires
 behind-part-requires c κs = search needs
@@ -16,8 +16,8 @@ behind-part-requires c κs = search needs
 enum-known-due-2 : tie.Need-enum-known-due-2
 enum-known-due-2 c = search needs
 
-due-after-requires-2 : tie.Need-due-after-requires-2
-due-after-requires-2 c κs = search needs
+next-due-requires-2 : tie.Need-next-due-requires-2
+next-due-requires-2 c κs = search needs
 
 enum-told : tie.Need-enum-told
 enum-told c = search needs
@@ -48,10 +48,10 @@ due-after-spec =
     tie.close
     (tie.spec
     enum-known-due
-    due-after-requires
+    next-due-requires
     behind-part-requires
     enum-known-due-2
-    due-after-requires-2
+    next-due-requires-2
     enum-told
     behind-entry-requires
     enum-known-due-3

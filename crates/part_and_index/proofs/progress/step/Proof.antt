@@ -10,8 +10,8 @@ put-requires c κs = search needs
 returns : tie.Need-returns
 returns c = search no-whole
 
-due-behind-requires : tie.Need-due-behind-requires
-due-behind-requires c κs = search needs
+next-of-whole-requires : tie.Need-next-of-whole-requires
+next-of-whole-requires c κs = search needs
 
 enum-told : tie.Need-enum-told
 enum-told c = search needs
@@ -121,7 +121,7 @@ step-spec =
     (tie.spec
     put-requires
     returns
-    due-behind-requires
+    next-of-whole-requires
     enum-told
     step-a-requires
     enum-told-2

@@ -1,8 +1,8 @@
--- `due::due_behind` meets its contract, by what was due. Assumes nothing.
+-- `due::next_of_whole` meets its contract, by what was due. Assumes nothing.
 use borrow.Author.Needs.{needs}
 use Rattle.part_and_index.proofs.DueLaws.{behind-a, behind-b, behind-c, behind-d, behind-e, behind-f, behind-index-a, behind-index-b, behind-index-c, behind-over}
-use Rattle.part_and_index.proofs.due.due_behind.Statement.{statement}
-use Rattle.part_and_index.proofs.due.due_behind.Tie as tie
+use Rattle.part_and_index.proofs.due.next_of_whole.Statement.{statement}
+use Rattle.part_and_index.proofs.due.next_of_whole.Tie as tie
 
 enum-told : tie.Need-enum-told
 enum-told c = search needs
@@ -91,8 +91,8 @@ returns-9 c = search behind-index-c
 returns-10 : tie.Need-returns-10
 returns-10 c = search behind-over
 
-pub due-behind-spec : {M : Type 1} → statement M
-due-behind-spec =
+pub next-of-whole-spec : {M : Type 1} → statement M
+next-of-whole-spec =
     tie.close
     (tie.spec
     enum-told
