@@ -13,7 +13,7 @@ use mir.Syntax.{w64}
 use mir.Val.{SFits, toZ, ofZ}
 use mir.ValLaws.{toZ-ofZ}
 use Rattle.format.specs.Column.{written}
-use Rattle.format.specs.Layout.{column, splice, numberAt, header}
+use Rattle.format.specs.Layout.{column, splice, find, numberAt, header, sheetB}
 use Rattle.format.specs.Record.{countIn}
 use Rattle.format.proofs.Columns.{length-column, number-below, length-splice, length-written}
 use Rattle.format.proofs.ColumnFits.{fits-plus}
@@ -67,7 +67,7 @@ module _ (c : Change) (l : List ℕ) (f : Fitting c (length l)) (start width : �
   count-below = rw w (f .count-fits)
 
   pub all-written : (l₂ l₃ l₄ : List ℕ) → l₂ ≡ splice (84 * c .header + start) width (written width (pos (c .count))) l₁ → l₃ ≡ splice 115 6 (written 6 (pos (c .«stated_elements»))) l₂ → l₄ ≡ splice 121 7 (written 7 (pos (c .«stated_records»))) l₃ → l₄ ≡ withCounts c l
-  unfolding withCounts
+  unfolding withCounts countStart countWidth find header sheetB
   all-written l₂ l₃ l₄ second third fourth = fourth ∙ rw (third, second, first, s, w)
 
 -- ---- one more still fits: a count is no larger than the total, and that of grids and nets has one digit

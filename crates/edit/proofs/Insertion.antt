@@ -9,7 +9,7 @@ use lib.Dec.{leb, eqb}
 use lib.ListN.{length, take, drop, getD, length-drop, length-map}
 use lib.Seq.{drop-length}
 use Rattle.format.specs.Basics.{unless, chunks, flat}
-use Rattle.format.specs.Layout.{numberAt, header}
+use Rattle.format.specs.Layout.{find, numberAt, header, sheetB}
 use Rattle.format.specs.Record.{countIndex, View, view, countIn}
 use Rattle.format.specs.Sheet.{partLength, statedRecords}
 use Rattle.format.specs.Judge.{File, sheetIn}
@@ -205,7 +205,7 @@ module _ (l : List ℕ) (used place : ℕ) (block : List ℕ) (sheet : Sheet) (k
         records-is = omega (arith, records-are (n .opened-at .accepted), n .opened-at .part-is, n .opened-at .part-inside, length-block block (n .twelve))
 
         pub stored : InsertionPlanned l used place block (Store (record { header = above .header; kind = kind; total = above .total + 1; count = above .count + 1; «stated_elements» = sheet .items + 1; «stated_records» = used / 84 - sheet .part + length block / 84; start = 84 * (place - 1); length = length block }))
-        unfolding InsertionPlanned
+        unfolding InsertionPlanned find header sheetB
         stored = record {
           can = record {
             inside = omega (arith, n .place-high);

@@ -8,7 +8,7 @@ use borrow.Author.Tests.{eq-eqb, ne-eqb, not-true, not-false}
 use lib.Dec.{eqb}
 use lib.ListN.{length, take, getD, length-drop}
 use Rattle.format.specs.Basics.{chunks}
-use Rattle.format.specs.Layout.{numberAt, header}
+use Rattle.format.specs.Layout.{find, numberAt, header, sheetB}
 use Rattle.format.specs.Record.{isHead, countIndex, View, countIn}
 use Rattle.format.specs.Sheet.{partLength}
 use Rattle.format.specs.Judge.{File, sheetIn}
@@ -151,7 +151,7 @@ module _ (l : List ℕ) (used place : ℕ) (sheet : Sheet) (item : Entry) (m : R
     out-is = omega (arith, m .data-is)
 
     pub stored : (total count elements : ℕ) → total ≡ above .total - 1 → count ≡ above .count - 1 → elements ≡ sheet .items - 1 → RemovalPlanned l used place (Store (record { header = above .header; kind = item .kind; total = total; count = count; «stated_elements» = elements; «stated_records» = used / 84 - sheet .part - (item .«data_records» + 1); start = 84 * (place - 1); length = 84 * (item .«data_records» + 1) }))
-    unfolding RemovalPlanned
+    unfolding RemovalPlanned find header sheetB
     stored total count elements total-is count-is elements-is = record {
       can = record {
         inside = omega (arith, m .data-inside, m .behind);

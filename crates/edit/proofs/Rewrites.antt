@@ -8,7 +8,7 @@ use lib.ListN.{length, take, drop, getD, replicate, List·getD-append}
 use lib.Seq.{getD-take, take-append-le, drop-append-le, take-append-add, drop-append-add, take-take, take-at, drop-drop, length-take-le}
 use Rattle.format.specs.Basics.{flat}
 use Rattle.format.specs.Column.{written}
-use Rattle.format.specs.Layout.{splice, find, header, sheetB}
+use Rattle.format.specs.Layout.{Col, splice, find, header, sheetB}
 use Rattle.format.specs.Record.{countName, rewrite}
 use Rattle.format.specs.Sheet.{writeCounts}
 use Rattle.format.specs.Edit.{alterAt}
@@ -63,67 +63,92 @@ getD-front m i rs rest h k = List·getD-append (take m rs) rest [] i (omega (ari
 
 -- ---- THE FOUR COLUMNS: of the buffer, and of the two records
 module _ (c : Change) (rs : List (List ℕ)) (tail : List ℕ) (wide : Wide rs) (kind-most : c .kind ≤ 9) (header-in : c .header < length rs) (two : 2 ≤ length rs) where
-  abbrev in-column : (start width number : ℕ) → List ℕ → List ℕ
-  in-column start width number = splice start width (written width (pos number))
+  abbrev in-column : Col → (number : ℕ) → List ℕ → List ℕ
+  in-column col number = splice (col .start) (col .width) (written (col .width) (pos number))
 
-  column-wide : (start width number : ℕ) → start + width ≤ 84 → (x : List ℕ) → length x ≡ 84 → length (splice start width (written width (pos number)) x) ≡ 84
-  column-wide start width number h x e = length-splice start width (written width (pos number)) x (length-written width (pos number)) (omega arith) ∙ e
+  column-wide : (col : Col) (number : ℕ) → col .start + col .width ≤ 84 → (x : List ℕ) → length x ≡ 84 → length (splice (col .start) (col .width) (written (col .width) (pos number)) x) ≡ 84
+  column-wide col number h x e = length-splice (col .start) (col .width) (written (col .width) (pos number)) x (length-written (col .width) (pos number)) (omega arith) ∙ e
 
-  room : countStart (c .kind) + countWidth (c .kind) ≤ 84
-  room = (count-place (c .kind) kind-most) .0
+  abbrev total-column : Col
+  total-column = find "total" header
+
+  abbrev kind-column : Col
+  kind-column = find (countName (c .kind)) header
+
+  abbrev elements-column : Col
+  elements-column = find "element count" sheetB
+
+  abbrev records-column : Col
+  records-column = find "record count" sheetB
+
+  total-room : total-column .start + total-column .width ≤ 84
+  unfolding find header
+  total-room = omega arith
+
+  kind-room : kind-column .start + kind-column .width ≤ 84
+  unfolding countStart countWidth
+  kind-room = (count-place (c .kind) kind-most) .0
+
+  elements-room : elements-column .start + elements-column .width ≤ 84
+  unfolding find sheetB
+  elements-room = omega arith
+
+  records-room : records-column .start + records-column .width ≤ 84
+  unfolding find sheetB
+  records-room = omega arith
 
   abbrev rs₁ : List (List ℕ)
-  rs₁ = alterAt (in-column 18 5 (c .total)) (c .header) rs
+  rs₁ = alterAt (in-column total-column (c .total)) (c .header) rs
 
   abbrev rs₂ : List (List ℕ)
-  rs₂ = alterAt (in-column (countStart (c .kind)) (countWidth (c .kind)) (c .count)) (c .header) rs₁
+  rs₂ = alterAt (in-column kind-column (c .count)) (c .header) rs₁
 
   abbrev rs₃ : List (List ℕ)
-  rs₃ = alterAt (in-column 31 6 (c .«stated_elements»)) 1 rs₂
+  rs₃ = alterAt (in-column elements-column (c .«stated_elements»)) 1 rs₂
 
   wide₁ : Wide rs₁
-  wide₁ = wide-alter _ (column-wide 18 5 (c .total) (omega arith)) (c .header) rs wide
+  wide₁ = wide-alter _ (column-wide total-column (c .total) total-room) (c .header) rs wide
 
   wide₂ : Wide rs₂
-  wide₂ = wide-alter _ (column-wide (countStart (c .kind)) (countWidth (c .kind)) (c .count) room) (c .header) rs₁ wide₁
+  wide₂ = wide-alter _ (column-wide kind-column (c .count) kind-room) (c .header) rs₁ wide₁
 
   wide₃ : Wide rs₃
-  wide₃ = wide-alter _ (column-wide 31 6 (c .«stated_elements») (omega arith)) 1 rs₂ wide₂
+  wide₃ = wide-alter _ (column-wide elements-column (c .«stated_elements») elements-room) 1 rs₂ wide₂
 
   length₁ : length rs₁ ≡ length rs
-  length₁ = length-alterAt (in-column 18 5 (c .total)) (c .header) rs
+  length₁ = length-alterAt (in-column total-column (c .total)) (c .header) rs
 
   length₂ : length rs₂ ≡ length rs
-  length₂ = length-alterAt (in-column (countStart (c .kind)) (countWidth (c .kind)) (c .count)) (c .header) rs₁ ∙ length₁
+  length₂ = length-alterAt (in-column kind-column (c .count)) (c .header) rs₁ ∙ length₁
 
   length₃ : length rs₃ ≡ length rs
-  length₃ = length-alterAt (in-column 31 6 (c .«stated_elements»)) 1 rs₂ ∙ length₂
+  length₃ = length-alterAt (in-column elements-column (c .«stated_elements»)) 1 rs₂ ∙ length₂
 
-  as-columns : withCounts c (flat rs ++ tail) ≡ flat (alterAt (in-column 37 7 (c .«stated_records»)) 1 rs₃) ++ tail
+  as-columns : withCounts c (flat rs ++ tail) ≡ flat (alterAt (in-column records-column (c .«stated_records»)) 1 rs₃) ++ tail
   unfolding withCounts
   as-columns =
-      ap (λ (x : List ℕ). put 1 37 7 (c .«stated_records») (put 1 31 6 (c .«stated_elements») (put (c .header) (countStart (c .kind)) (countWidth (c .kind)) (c .count) x))) (record-splice rs tail _ (c .header) 18 5 wide header-in (omega arith))
-      ∙ ap (λ (x : List ℕ). put 1 37 7 (c .«stated_records») (put 1 31 6 (c .«stated_elements») x)) (record-splice rs₁ tail _ (c .header) (countStart (c .kind)) (countWidth (c .kind)) wide₁ (omega (arith, length₁)) room)
-      ∙ ap (λ (x : List ℕ). put 1 37 7 (c .«stated_records») x) (record-splice rs₂ tail _ 1 31 6 wide₂ (omega (arith, length₂)) (omega arith))
-      ∙ record-splice rs₃ tail _ 1 37 7 wide₃ (omega (arith, length₃)) (omega arith)
+      ap (λ (x : List ℕ). put 1 records-column (c .«stated_records») (put 1 elements-column (c .«stated_elements») (put (c .header) kind-column (c .count) x))) (record-splice rs tail _ (c .header) (total-column .start) (total-column .width) wide header-in total-room)
+      ∙ ap (λ (x : List ℕ). put 1 records-column (c .«stated_records») (put 1 elements-column (c .«stated_elements») x)) (record-splice rs₁ tail _ (c .header) (kind-column .start) (kind-column .width) wide₁ (omega (arith, length₁)) kind-room)
+      ∙ ap (λ (x : List ℕ). put 1 records-column (c .«stated_records») x) (record-splice rs₂ tail _ 1 (elements-column .start) (elements-column .width) wide₂ (omega (arith, length₂)) elements-room)
+      ∙ record-splice rs₃ tail _ 1 (records-column .start) (records-column .width) wide₃ (omega (arith, length₃)) records-room
 
-  counts-are : (r : List ℕ) → in-column 37 7 (c .«stated_records») (in-column 31 6 (c .«stated_elements») r) ≡ writeCounts (c .«stated_elements») (c .«stated_records») r
-  unfolding writeCounts rewrite find sheetB
+  counts-are : (r : List ℕ) → in-column records-column (c .«stated_records») (in-column elements-column (c .«stated_elements») r) ≡ writeCounts (c .«stated_elements») (c .«stated_records») r
+  unfolding writeCounts rewrite
   counts-are r = refl
 
-  header-is : (r : List ℕ) → in-column (countStart (c .kind)) (countWidth (c .kind)) (c .count) (in-column 18 5 (c .total) r) ≡ rewrite header (countName (c .kind)) (c .count) (rewrite header "total" (c .total) r)
-  unfolding countStart countWidth rewrite find header
+  header-is : (r : List ℕ) → in-column kind-column (c .count) (in-column total-column (c .total) r) ≡ rewrite header (countName (c .kind)) (c .count) (rewrite header "total" (c .total) r)
+  unfolding rewrite
   header-is r = refl
 
   -- by the change of the header that format names
   pub as-records-changed : (change : List ℕ → List ℕ) → change (getD rs (c .header) []) ≡ rewrite header (countName (c .kind)) (c .count) (rewrite header "total" (c .total) (getD rs (c .header) [])) → withCounts c (flat rs ++ tail) ≡ flat (alterAt (writeCounts (c .«stated_elements») (c .«stated_records»)) 1 (alterAt change (c .header) rs)) ++ tail
   as-records-changed change e = as-columns ∙ ap (λ (x : List (List ℕ)). flat x ++ tail) (sheet ∙ ap (alterAt (writeCounts (c .«stated_elements») (c .«stated_records»)) 1) above)
     where
-      sheet : alterAt (in-column 37 7 (c .«stated_records»)) 1 (alterAt (in-column 31 6 (c .«stated_elements»)) 1 rs₂) ≡ alterAt (writeCounts (c .«stated_elements») (c .«stated_records»)) 1 rs₂
-      sheet = alter-twice (in-column 37 7 (c .«stated_records»)) (in-column 31 6 (c .«stated_elements»)) 1 rs₂ ∙ alter-same (λ r. in-column 37 7 (c .«stated_records») (in-column 31 6 (c .«stated_elements») r)) (writeCounts (c .«stated_elements») (c .«stated_records»)) 1 rs₂ (counts-are (getD rs₂ 1 []))
+      sheet : alterAt (in-column records-column (c .«stated_records»)) 1 (alterAt (in-column elements-column (c .«stated_elements»)) 1 rs₂) ≡ alterAt (writeCounts (c .«stated_elements») (c .«stated_records»)) 1 rs₂
+      sheet = alter-twice (in-column records-column (c .«stated_records»)) (in-column elements-column (c .«stated_elements»)) 1 rs₂ ∙ alter-same (λ r. in-column records-column (c .«stated_records») (in-column elements-column (c .«stated_elements») r)) (writeCounts (c .«stated_elements») (c .«stated_records»)) 1 rs₂ (counts-are (getD rs₂ 1 []))
 
-      above : alterAt (in-column (countStart (c .kind)) (countWidth (c .kind)) (c .count)) (c .header) (alterAt (in-column 18 5 (c .total)) (c .header) rs) ≡ alterAt change (c .header) rs
-      above = alter-twice _ _ (c .header) rs ∙ alter-same (λ r. in-column (countStart (c .kind)) (countWidth (c .kind)) (c .count) (in-column 18 5 (c .total) r)) change (c .header) rs (header-is (getD rs (c .header) []) ∙ sym e)
+      above : alterAt (in-column kind-column (c .count)) (c .header) (alterAt (in-column total-column (c .total)) (c .header) rs) ≡ alterAt change (c .header) rs
+      above = alter-twice _ _ (c .header) rs ∙ alter-same (λ r. in-column kind-column (c .count) (in-column total-column (c .total) r)) change (c .header) rs (header-is (getD rs (c .header) []) ∙ sym e)
 
 pub nil-wide : Wide []
 unfolding Wide

@@ -2,6 +2,7 @@
 use Prim.Native.Nat.{_≤_}
 use Rattle.edit.proofs.Columns.{start-small, count-room, count-some, count-most, count-below, all-written}
 use native.Mathlib.Omega.{arith}
+use Rattle.format.specs.Layout.{find, header, sheetB}
 use borrow.Author.Needs.{needs}
 use Rattle.edit.proofs.counts.write_counts.Statement.{statement}
 use Rattle.edit.proofs.counts.write_counts.Tie as tie
@@ -22,6 +23,7 @@ add-write-number : tie.Need-add-write-number
 add-write-number c = search needs
 
 write-number-requires : tie.Need-write-number-requires
+unfolding find header
 write-number-requires c κs = search needs
 
 write-number-requires-2 : tie.Need-write-number-requires-2
@@ -31,12 +33,14 @@ add-write-number-2 : tie.Need-add-write-number-2
 add-write-number-2 c = search needs
 
 write-number-requires-3 : tie.Need-write-number-requires-3
+unfolding find sheetB
 write-number-requires-3 c κs = search needs
 
 add-write-number-3 : tie.Need-add-write-number-3
 add-write-number-3 c = search needs
 
 write-number-requires-4 : tie.Need-write-number-requires-4
+unfolding find sheetB
 write-number-requires-4 c κs = search needs
 
 same-length : tie.Need-same-length
