@@ -247,14 +247,16 @@ fn edited(answer: Edited) -> ZvLength
 // A block inserted into a sheet before a record, or at its end; and the item at a record removed. The answer's length is the new used length.
 #[no_mangle]
 pub extern "C" fn zv_insert(buffer: &mut [u8], used: usize, place: usize, block: &[u8]) -> ZvLength
-    ensures { λ r. ⌜ record { result = r; bytes = now (buffer .exit) } ≡ editedOf (call (insert place (now (block .entry))) (record { bytes = now (buffer .entry); used = used })) ⌝ }
+    ensures { λ r. ⌜ record { result = r; bytes = now (buffer .exit) }
+        ≡ editedOf (call (insert place (now (block .entry))) (record { bytes = now (buffer .entry); used = used })) ⌝ }
 {
     edited(edit::insert(buffer, used, place, block))
 }
 
 #[no_mangle]
 pub extern "C" fn zv_remove(buffer: &mut [u8], used: usize, place: usize) -> ZvLength
-    ensures { λ r. ⌜ record { result = r; bytes = now (buffer .exit) } ≡ editedOf (call (remove place) (record { bytes = now (buffer .entry); used = used })) ⌝ }
+    ensures { λ r. ⌜ record { result = r; bytes = now (buffer .exit) }
+        ≡ editedOf (call (remove place) (record { bytes = now (buffer .entry); used = used })) ⌝ }
 {
     edited(edit::remove(buffer, used, place))
 }

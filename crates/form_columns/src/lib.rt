@@ -25,7 +25,8 @@ struct Ends {
 // that sixteen of them are added at a time.
 fn ends_sure(bytes: &[u8], at: usize, end: usize) -> Ends
     requires { ⌜ (at + 49 ≤ length (now bytes)) × (end + 49 ≤ length (now bytes)) ⌝ }
-    ensures { λ r. ⌜ (r .front ≡ true → eachFormed 7 (drop at (now (bytes .entry))) ≡ true) × (r .back ≡ true → eachFormed 7 (drop end (now (bytes .entry))) ≡ true) ⌝ }
+    ensures { λ r. ⌜ (r .front ≡ true → eachFormed 7 (drop at (now (bytes .entry))) ≡ true)
+        × (r .back ≡ true → eachFormed 7 (drop end (now (bytes .entry))) ≡ true) ⌝ }
 {
     let places = PLACES;
     let mut front = doubt_at(b'M', b' ', bytes[at]);

@@ -10,8 +10,9 @@ use layouts::IndexA;
 use layouts::SheetA;
 use layouts::SheetD;
 
-// The record that is due. In a sheet part: how many sets of d, e and f records come after this one, of b and c after the first; of e and f, first how many f records of its own set come
-// after it. In an index: of b, how many b records come after it and how many c records then; of c, how many c records. Nothing is due where either is over.
+// The record that is due. In a sheet part: how many sets of d, e and f records come after this one, of b and c after the first; of e and f, first how
+// many f records of its own set come after it. In an index: of b, how many b records come after it and how many c records then; of c, how many c
+// records. Nothing is due where either is over.
 pub enum Due {
     SheetA,
     SheetB(usize),

@@ -57,7 +57,8 @@ fn put_digits(out: &mut [u8], at: usize, n: u64)
 // Puts a text and the digits of a number behind it at a place of a buffer, and answers the place behind them.
 fn put_pair(out: &mut [u8], at: usize, text: &[u8], n: u64) -> usize
     requires { ⌜ at + length (now text) + length (digits n) ≤ length (now out) ⌝ }
-    ensures { λ r. ⌜ (r ≡ at + length (now (text .entry)) + length (digits n)) × (now (out .exit) ≡ placed (now (out .entry)) at (now (text .entry) ++ digits n)) ⌝ }
+    ensures { λ r. ⌜ (r ≡ at + length (now (text .entry)) + length (digits n))
+        × (now (out .exit) ≡ placed (now (out .entry)) at (now (text .entry) ++ digits n)) ⌝ }
 {
     put_text(out, at, text);
     let behind = at + text.len();
@@ -87,7 +88,8 @@ fn put_number_line(
     third: &[u8],
 ) -> Written
     requires { ⌜ length (now first) + length (now second) + length (now third) ≤ 40 ⌝ }
-    ensures { λ r. ⌜ record { answer = writtenAnswer r; bytes = now (out .exit) } ≡ lineTo (numberLine (now (first .entry)) a (now (second .entry)) b (now (third .entry))) (now (out .entry)) ⌝ }
+    ensures { λ r. ⌜ record { answer = writtenAnswer r; bytes = now (out .exit) }
+        ≡ lineTo (numberLine (now (first .entry)) a (now (second .entry)) b (now (third .entry))) (now (out .entry)) ⌝ }
 {
     let length = first.len() + count_digits(a) + second.len() + count_digits(b) + third.len();
     if out.len() < length {
