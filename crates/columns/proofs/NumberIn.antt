@@ -22,7 +22,7 @@ use Rattle.format.specs.Layout.{column}
 use Rattle.format.proofs.Basics.{and-true}
 use Rattle.format.proofs.Columns.{number-below, length-column}
 use Rattle.columns.specs.InRecord.{columnAt, numberIn}
-use Rattle.columns.proofs.Numbers.{back, tested}
+use Rattle.format.proofs.Signed.{back, tested}
 
 -- ---- `integer_at`
 

@@ -10,8 +10,7 @@ use lib.Signed.{mag, ltZ, nonNeg, natAbs-le}
 use mir.Syntax.{w64}
 use mir.Val.{Fits, SFits, toZ}
 use mir.ValLaws.{toZ-pos}
-pub use Rattle.format.proofs.Signed.{back, tested}
-use Rattle.format.proofs.Signed.{stored}
+use Rattle.format.proofs.Signed.{stored, back, tested}
 
 -- ---- minus a number below 2 ^ 63
 

@@ -3,7 +3,7 @@
 use mathlib.Core.Path.{_≡_, refl, sym, _∙_}
 use mathlib.Core.Bool.{Bool, true, false, cond}
 use mathlib.Core.List.{List, [], _∷_}
-use Prim.Native.Nat.{ℕ, zero, suc, _+_, _*_}
+use Prim.Native.Nat.{ℕ, _+_, _*_}
 use native.Mathlib.Omega.{arith}
 use borrow.Author.Tests.{eq-eqb, ne-eqb, le-leb}
 use lib.IntN.{ℤ}
@@ -12,12 +12,12 @@ use mir.Syntax.{w64}
 use mir.Val.{SFits, toZ, ofZ}
 use types.Run.{OneOf, miss}
 use denote.Enum.Declared.{tagOf}
-use Rattle.format.specs.Basics.{first, unless}
+use Rattle.format.specs.Basics.{unless}
 use Rattle.format.specs.Column.{integer}
 use Rattle.format.specs.Layout.{find, numberAt, integerAt, allFormed, allInside, columnFault, dataNote, dataAttribute}
 use Rattle.format.specs.Record.{nothing, notes, dataColumns, directionOk, dataFault}
 use Rattle.columns.specs.InRecord.{columnAt, numberIn}
-use Rattle.columns.proofs.Numbers.{back}
+use Rattle.format.proofs.Signed.{back}
 use Rattle.form_columns.specs.Columns.{eachFormed, columnsFormed}
 use Rattle.form_columns.proofs.Records.{alone, columnFault-3D, columnFault-2D, columnFault-net, columnFault-grid}
 use Rattle.layout_faults.specs.Faults.{faultIn}

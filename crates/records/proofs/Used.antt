@@ -11,7 +11,7 @@ use mir.Syntax.{w64}
 use mir.Val.{Fits, SFits, toZ, ofZ}
 use Rattle.format.specs.Basics.{roundUp}
 use Rattle.format.specs.Record.{usedIn}
-use Rattle.columns.proofs.Numbers.{back}
+use Rattle.format.proofs.Signed.{back}
 use Rattle.form_columns.proofs.Records.{used-at-most}
 use Rattle.records.specs.declared.Held.{Held}
 use Rattle.records.specs.declared.Held.the-variants.{Nothing, Points3D, Points2D, Triangles, Heights, Notes, Attributes}
