@@ -2,33 +2,36 @@
 use mathlib.Core.Path.{_≡_, refl, ap, sym, _∙_}
 use mathlib.Core.Bool.{Bool, true, false, cond, _&&_, false≢true}
 use mathlib.Core.List.{List, [], _∷_, _++_, map}
-use Prim.Native.Nat.{ℕ, zero, suc, _+_, _-_, _*_, _/_, _%_, _≤_, _<_}
+use Prim.Native.Nat.{ℕ, zero, suc, _*_, _/_, _%_, _≤_, _<_}
 use native.Mathlib.Omega.{arith}
-use borrow.Author.Tests.{eqb-true, leb-true, le-leb, lt-leb}
-use lib.Dec.{eqb, leb, ltb}
+use borrow.Author.Tests.{eqb-true, le-leb, lt-leb}
+use lib.Dec.{eqb, leb}
 use lib.ListN.{length, take, drop}
-use Rattle.format.specs.Basics.{Answer, given, refused, Outcome, first, unless, fault, chunks, flat, stageOneOk}
+use Rattle.format.specs.Basics.{Outcome, first, unless, fault, chunks, flat, stageOneOk}
 use Rattle.format.specs.Text.{bytes, begins}
-use Rattle.format.specs.Layout.{header, element}
-use Rattle.format.specs.Record.{RecordType, H, E1, E2, E3, E4, E5, E6, E7, E8, G, T, other, typeOf, typeColumns, countIndex, Data, nothing, dataColumns, view, viewAs, headerView, elementView, gridView, netView, otherView}
+use Rattle.format.specs.Layout.{element}
+use Rattle.format.specs.Record.{RecordType, H, E1, E2, E3, E4, E5, E6, E7, E8, G, T, other, typeOf, typeColumns, countIndex, Data, dataColumns, view, viewAs, headerView, elementView, gridView, netView, otherView}
 use Rattle.format.specs.Part.{partFrom}
 use Rattle.format.specs.Sheet as Sheet
 use Rattle.format.specs.Index as Index
 use Rattle.format.specs.Judge as Judge
-use Rattle.format.specs.Normal.{normalRecord, normalBody, normalPart, normalStage, normalSheetRecords, normalIndexRecords, normalTo, normalSheet, normalIndex}
+use Rattle.format.specs.Normal.{normalRecord, normalBody, normalPart, normalStage, normalSheetRecords, normalIndexRecords, normalSheet, normalIndex}
 use Rattle.format.specs.Answers.{writtenAnswer, judgedAnswer}
 use Rattle.format.specs.declared.Written.the-variants as Written
 use Rattle.format.specs.declared.Judged.{Judged}
 use Rattle.format.specs.declared.Judged.the-variants as Judged
-use Rattle.format.proofs.Basics.{and-true, first-zero}
+use Rattle.format.proofs.Basics.{first-zero}
 use Rattle.format.proofs.Lists.{Wide, wide-chunks, wide-drop}
 use Rattle.format.proofs.JudgeWalks.{Passes}
 use Rattle.format.proofs.JudgeStages.{stage-one, stage-given}
-use Rattle.format.proofs.AcceptedSheet.{accepted-by, whole-records, inside, accepted-list}
+use Rattle.format.proofs.AcceptedSheet.{whole-records, inside, accepted-list}
 use Rattle.records.specs.declared.Held.{Held}
 use Rattle.records.specs.declared.Held.the-variants as Held
 use Rattle.records.specs.Entry.{toData, entryOf}
 use Rattle.records.proofs.Laws.{entry-counted, entry-data-records, entry-held, fault-at}
+use Rattle.judge.specs.declared.Sheet.{Sheet as OpenedSheet}
+use Rattle.judge.specs.Sheet.{openedIn}
+use Rattle.judge.proofs.Opened.{sheet-refused-is, opened-sheet}
 use Rattle.part_and_index.specs.declared.due.Due.the-variants.{SheetA, IndexA}
 use Rattle.part_and_index.specs.Due as Part
 use Rattle.part_and_index.specs.Due.{dueIn, dueAt}
@@ -166,9 +169,6 @@ body-form (r ∷ rs) opened (suc due) held wide p =
 
 -- ---- an accepted file
 
-accepted-room : (used : ℕ) (buffer : List ℕ) (a : Answer Judge.Counts) (counts : Judge.Counts) → Judge.afterStageOne (stageOneOk used buffer) a ≡ given counts → (used ≤ length buffer) × (used % 84 ≡ 0)
-accepted-room used buffer a counts e = let w = stage-one used buffer (stage-given (stageOneOk used buffer) a counts e .0) in (w .inside, w .even)
-
 sheet-form : (used : ℕ) (buffer : List ℕ) → Judge.AcceptedSheet used buffer → rewritten (Due.Sheet SheetA) (chunks (used / 84) buffer) ≡ normalSheetRecords (chunks (used / 84) buffer)
 unfolding normalSheetRecords Sheet.partLength behindPart dueData
 sheet-form used buffer a =
@@ -193,52 +193,40 @@ module _ (used : ℕ) (records : List (List ℕ)) (second : List ℕ) where
   unfolding writtenTo writtenAnswer
   file-written l′ h z e = let n : 84 * (used / 84) ≡ used = omega arith in rw (le-leb used (length second) h, e, n)
 
--- ---- `normal_sheet`, `normal_index`
+-- ---- `normal_sheet`
 
--- what judging answered
-module _ (used : ℕ) (j : Judged) (answer : Answer Judge.Counts) (told : judgedAnswer j ≡ answer) where
-  refused-form : (records : List (List ℕ)) (second : List ℕ) (n r : ℕ) → j ≡ Judged.Refused n r → record { answer = writtenAnswer (Written.Refused n r); bytes = second } ≡ normalTo answer used records second
-  unfolding judgedAnswer writtenAnswer
-  refused-form records second n r e = rw (← told, e)
+module _ (used : ℕ) (buffer : List ℕ) (s : OpenedSheet) (is : s ≡ openedIn used buffer 0) where
+  pub sheet-refused : (second : List ℕ) → (s .fault ≡ 0 → ⊥) → record { answer = writtenAnswer (Written.Refused (s .fault) (s .at)); bytes = second } ≡ normalSheet used buffer second
+  unfolding normalSheet writtenAnswer
+  sheet-refused second some = rw (sheet-refused-is used buffer 0 s is some)
+
+  module _ (none : s .fault ≡ 0) where
+    a : Judge.AcceptedSheet used buffer
+    a = (opened-sheet used buffer 0 s is none) .accepted
+
+    pub sheet-room : (used ≤ length buffer) × (used % 84 ≡ 0)
+    sheet-room = (inside a, whole-records a .even)
+
+    pub sheet-written : (second : List ℕ) (r : Outcome ℕ) → r ≡ writtenTo used (rewritten (Due.Sheet SheetA) (chunks (used / 84) buffer)) second → r ≡ normalSheet used buffer second
+    unfolding normalSheet writtenTo
+    sheet-written second r h = h ∙ rw (sheet-form used buffer a, a .judged)
+
+-- ---- `normal_index`
+
+module _ (used : ℕ) (buffer : List ℕ) (j : Judged) (told : judgedAnswer j ≡ Judge.judgeIndex used buffer) where
+  pub index-refused : (second : List ℕ) (n r : ℕ) → j ≡ Judged.Refused n r → record { answer = writtenAnswer (Written.Refused n r); bytes = second } ≡ normalIndex used buffer second
+  unfolding normalIndex judgedAnswer writtenAnswer
+  index-refused second n r e = rw (← told, e)
 
   module _ (n m : ℕ) (e : j ≡ Judged.Accepted n m) where
-    given-counts : answer ≡ given (record { records = n; items = m })
+    judged : Judge.judgeIndex used buffer ≡ Judge.accepted n m
     unfolding judgedAnswer
-    given-counts = sym told ∙ rw e
+    judged = sym told ∙ rw e
 
-    accepted-form : (records : List (List ℕ)) (second : List ℕ) → writtenTo used records second ≡ normalTo answer used records second
-    unfolding writtenTo
-    accepted-form records second = rw given-counts
+    pub index-room : (used ≤ length buffer) × (used % 84 ≡ 0)
+    unfolding Judge.judgeIndex
+    index-room = let w = stage-one used buffer (stage-given (stageOneOk used buffer) (Judge.judgeIndexRecords (chunks (used / 84) buffer)) _ judged .0) in (w .inside, w .even)
 
-module _ (used : ℕ) (buffer : List ℕ) (j : Judged) where
-  module _ (told : judgedAnswer j ≡ Judge.judgeSheet used buffer) where
-    pub sheet-refused : (second : List ℕ) (n r : ℕ) → j ≡ Judged.Refused n r → record { answer = writtenAnswer (Written.Refused n r); bytes = second } ≡ normalSheet used buffer second
-    unfolding normalSheet
-    sheet-refused second n r e = refused-form used j (Judge.judgeSheet used buffer) told (normalSheetRecords (chunks (used / 84) buffer)) second n r e
-
-    module _ (n m : ℕ) (e : j ≡ Judged.Accepted n m) where
-      a : Judge.AcceptedSheet used buffer
-      a = accepted-by (given-counts used j (Judge.judgeSheet used buffer) told n m e)
-
-      pub sheet-room : (used ≤ length buffer) × (used % 84 ≡ 0)
-      sheet-room = (inside a, whole-records a .even)
-
-      pub sheet-written : (second : List ℕ) (r : Outcome ℕ) → r ≡ writtenTo used (rewritten (Due.Sheet SheetA) (chunks (used / 84) buffer)) second → r ≡ normalSheet used buffer second
-      unfolding normalSheet
-      sheet-written second r h =
-          h ∙ rw (sheet-form used buffer a) (accepted-form used j (Judge.judgeSheet used buffer) told n m e (normalSheetRecords (chunks (used / 84) buffer)) second)
-
-  module _ (told : judgedAnswer j ≡ Judge.judgeIndex used buffer) where
-    pub index-refused : (second : List ℕ) (n r : ℕ) → j ≡ Judged.Refused n r → record { answer = writtenAnswer (Written.Refused n r); bytes = second } ≡ normalIndex used buffer second
-    unfolding normalIndex
-    index-refused second n r e = refused-form used j (Judge.judgeIndex used buffer) told (normalIndexRecords (chunks (used / 84) buffer)) second n r e
-
-    module _ (n m : ℕ) (e : j ≡ Judged.Accepted n m) where
-      pub index-room : (used ≤ length buffer) × (used % 84 ≡ 0)
-      unfolding Judge.judgeIndex
-      index-room = accepted-room used buffer (Judge.judgeIndexRecords (chunks (used / 84) buffer)) _ (given-counts used j (Judge.judgeIndex used buffer) told n m e)
-
-      pub index-written : (second : List ℕ) (r : Outcome ℕ) → r ≡ writtenTo used (rewritten (Due.Index IndexA) (chunks (used / 84) buffer)) second → r ≡ normalIndex used buffer second
-      unfolding normalIndex
-      index-written second r h =
-          h ∙ rw (index-form (chunks (used / 84) buffer) (wide-chunks (used / 84) buffer (omega (arith, index-room .0)))) (accepted-form used j (Judge.judgeIndex used buffer) told n m e (normalIndexRecords (chunks (used / 84) buffer)) second)
+    pub index-written : (second : List ℕ) (r : Outcome ℕ) → r ≡ writtenTo used (rewritten (Due.Index IndexA) (chunks (used / 84) buffer)) second → r ≡ normalIndex used buffer second
+    unfolding normalIndex writtenTo
+    index-written second r h = h ∙ rw (index-form (chunks (used / 84) buffer) (wide-chunks (used / 84) buffer (omega (arith, index-room .0))), judged)

@@ -125,11 +125,11 @@ fn write_file(buffer: &[u8], used: usize, first: FileDue, second: &mut [u8]) -> 
 pub fn normal_sheet(buffer: &[u8], used: usize, second: &mut [u8]) -> Written
     ensures { λ r. ⌜ record { answer = writtenAnswer r; bytes = now (second .exit) } ≡ normalSheet used (now (buffer .entry)) (now (second .entry)) ⌝ }
 {
-    let judged = judge::judge_sheet(buffer, used);
-    match judged {
-        Judged::Refused(number, at) => Written::Refused(number, at),
-        Judged::Accepted(_, _) => write_file(buffer, used, FileDue::Sheet(Due::SheetA), second),
+    let sheet = judge::open_sheet(buffer, used, 0);
+    if sheet.fault != 0 {
+        return Written::Refused(sheet.fault, sheet.at);
     }
+    write_file(buffer, used, FileDue::Sheet(Due::SheetA), second)
 }
 
 // The normal form of the index file in the first `used` bytes of the buffer.

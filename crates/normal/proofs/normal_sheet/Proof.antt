@@ -4,20 +4,14 @@ use borrow.Author.Needs.{needs}
 use Rattle.normal.proofs.normal_sheet.Statement.{statement}
 use Rattle.normal.proofs.normal_sheet.Tie as tie
 
-judge-sheet-requires : tie.Need-judge-sheet-requires
-judge-sheet-requires c κs = search needs
-
-enum-known-judged : tie.Need-enum-known-judged
-enum-known-judged c = search needs
-
-enum-told : tie.Need-enum-told
-enum-told c = search needs
-
-write-file-requires : tie.Need-write-file-requires
-write-file-requires c κs = sheet-room _ _ _ (c .before .before .before .judge-sheet .ensures) _ _ (c .before .enum-told .given .1)
+open-sheet-requires : tie.Need-open-sheet-requires
+open-sheet-requires c κs = search needs
 
 returns : tie.Need-returns
 returns c = search sheet-refused
+
+write-file-requires : tie.Need-write-file-requires
+write-file-requires c κs = sheet-room _ _ _ (c .before .before .before .open-sheet .ensures) (c .before .if1 .left)
 
 same-length : tie.Need-same-length
 same-length c = search needs
@@ -28,11 +22,4 @@ returns-2 c = search sheet-written
 pub normal-sheet-spec : {M : Type 1} → statement M
 normal-sheet-spec =
     tie.close
-    (tie.spec
-    judge-sheet-requires
-    enum-known-judged
-    enum-told
-    write-file-requires
-    returns
-    same-length
-    returns-2)
+    (tie.spec open-sheet-requires returns write-file-requires same-length returns-2)
