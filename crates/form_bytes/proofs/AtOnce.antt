@@ -1,4 +1,4 @@
--- Of a column no byte is in doubt at its places exactly where it can be told at once: a column without fault, in which no 0 stands right after a
+-- Of a column no byte is in doubt by its letters exactly where it can be told at once: a column without fault, in which no 0 stands right after a
 -- minus, has no byte in doubt; and nowhere but where anything may stand is a 0 right after a minus without doubt. Assumes nothing.
 use mathlib.Core.Path.{_≡_, refl, sym, _∙_}
 use mathlib.Core.Bool.{Bool, true, false, cond, not, _&&_, _||_, or-true, and-false, false≢true}
@@ -17,9 +17,9 @@ use Rattle.format.specs.Layout.{Rule, anySign, atLeast, range, within, oneOf, i
 use Rattle.format.proofs.Basics.{and-true, true-and, or-false}
 use Rattle.format.proofs.Columns.{Byte, v-space, v-minus, v-digit, v-other, byte, number-digits}
 use Rattle.form_bytes.specs.Doubt.{leastAt, mostAt, surelyRight, doubt}
-use Rattle.form_bytes.specs.Places.{behind, placesIn, ruled, placesFor, doubtsIn}
-use Rattle.form_bytes.specs.Told.{looser, zeroAfterMinus, plain, toldAtOnce, hasPlaces, Told}
-use Rattle.form_bytes.proofs.Neighbours.{firstPlace, betweenPlace, Seen, t-digit, t-space, t-minus, told}
+use Rattle.form_bytes.specs.Letters.{behind, lettersIn, ruled, lettersFor, doubtsIn}
+use Rattle.form_bytes.specs.Told.{looser, zeroAfterMinus, plain, toldAtOnce, hasLetters, Told}
+use Rattle.form_bytes.proofs.Neighbours.{firstLetter, betweenLetter, Seen, t-digit, t-space, t-minus, told}
 use Rattle.form_bytes.proofs.Doubts.{right-at, anything}
 use Rattle.form_bytes.proofs.Rules.{one-digit, digit-at-least, digit-at-most, least-up-to, most-up-to, NoFault, no-fault, length-for}
 
@@ -67,7 +67,7 @@ sure-between : (k p b : ℕ) → leb (leastAt k) b ≡ true → leb b (mostAt k)
 unfolding doubt surelyRight
 sure-between k p b h g z = simp (h, g, z, or-true)
 
--- places that take every digit
+-- letters that take every digit
 abbrev Digits : ℕ → Type 0
 Digits k = (leastAt k ≡ 48) × (mostAt k ≡ 57)
 
@@ -81,18 +81,18 @@ last-digits : Digits 100
 unfolding leastAt mostAt
 last-digits = (refl, refl)
 
-between-digits : (s : Bool) → Digits (betweenPlace s)
+between-digits : (s : Bool) → Digits (betweenLetter s)
 unfolding leastAt mostAt
 between-digits true = (refl, refl)
 between-digits false = (refl, refl)
 
-first-digits : (s : Bool) → Digits (firstPlace s)
+first-digits : (s : Bool) → Digits (firstLetter s)
 unfolding leastAt mostAt
 first-digits true = (refl, refl)
 first-digits false = (refl, refl)
 
 -- a space and a minus after a space, and at a column's first byte
-space-between : (s : Bool) → doubt (betweenPlace s) 32 32 ≡ 0
+space-between : (s : Bool) → doubt (betweenLetter s) 32 32 ≡ 0
 unfolding doubt surelyRight leastAt mostAt
 space-between true = refl
 space-between false = refl
@@ -101,7 +101,7 @@ minus-between : doubt 109 32 45 ≡ 0
 unfolding doubt surelyRight leastAt mostAt
 minus-between = refl
 
-space-first : (s : Bool) (p : ℕ) → doubt (firstPlace s) p 32 ≡ 0
+space-first : (s : Bool) (p : ℕ) → doubt (firstLetter s) p 32 ≡ 0
 unfolding doubt surelyRight leastAt mostAt
 space-first true p = simp (or-true, and-false)
 space-first false p = simp (or-true, and-false)
@@ -110,11 +110,11 @@ minus-first : (p : ℕ) → doubt 77 p 45 ≡ 0
 unfolding doubt surelyRight leastAt mostAt
 minus-first p = simp (or-true, and-false)
 
--- ---- a column of any width, its last place z
+-- ---- a column of any width, its last letter z
 
 module _ (s : Bool) (z : ℕ) (last : Digits z) where
   -- digits behind p
-  digits-none : (n p : ℕ) (l : List ℕ) → length l ≡ suc n → allDigits l ≡ true → zeroAfterMinus p l ≡ false → doubtsIn (behind (betweenPlace s) z n) p l ≡ 0
+  digits-none : (n p : ℕ) (l : List ℕ) → length l ≡ suc n → allDigits l ≡ true → zeroAfterMinus p l ≡ false → doubtsIn (behind (betweenLetter s) z n) p l ≡ 0
   unfolding behind doubtsIn allDigits zeroAfterMinus
   digits-none n p [] g d m = absurd (omega arith)
   digits-none zero p (b ∷ bs) g d m =
@@ -124,14 +124,14 @@ module _ (s : Bool) (z : ℕ) (last : Digits z) where
   digits-none (suc n) p (b ∷ bs) g d m =
       let a = and-true (isDigit b) (allDigits bs) d in
       let q = or-false (eqb p 45 && eqb b 48) (zeroAfterMinus b bs) m in
-      omega (arith, sure-digit (betweenPlace s) p b (between-digits s) (a .0) (q .0), digits-none n b bs (omega arith) (a .1) (q .1))
+      omega (arith, sure-digit (betweenLetter s) p b (between-digits s) (a .0) (q .0), digits-none n b bs (omega arith) (a .1) (q .1))
 
   -- a minus stands only where one may
-  signed-place : (s : Bool) → (s ≡ false → ⊥) → doubt (betweenPlace s) 32 45 ≡ 0
-  signed-place true h = minus-between
-  signed-place false h = absurd (h refl)
+  signed-letter : (s : Bool) → (s ≡ false → ⊥) → doubt (betweenLetter s) 32 45 ≡ 0
+  signed-letter true h = minus-between
+  signed-letter false h = absurd (h refl)
 
-  signed-first : (s : Bool) (p : ℕ) → (s ≡ false → ⊥) → doubt (firstPlace s) p 45 ≡ 0
+  signed-first : (s : Bool) (p : ℕ) → (s ≡ false → ⊥) → doubt (firstLetter s) p 45 ≡ 0
   signed-first true p h = minus-first p
   signed-first false p h = absurd (h refl)
 
@@ -164,37 +164,37 @@ module _ (s : Bool) (z : ℕ) (last : Digits z) where
   unfolding zeroAfterMinus
   none-after p b bs m = or-false (eqb p 45 && eqb b 48) (zeroAfterMinus b bs) m
 
-  behind-none : (n : ℕ) (l : List ℕ) → length l ≡ suc n → Column l → zeroAfterMinus 32 l ≡ false → doubtsIn (behind (betweenPlace s) z n) 32 l ≡ 0
+  behind-none : (n : ℕ) (l : List ℕ) → length l ≡ suc n → Column l → zeroAfterMinus 32 l ≡ false → doubtsIn (behind (betweenLetter s) z n) 32 l ≡ 0
   unfolding behind doubtsIn
   behind-none n [] g c m = absurd (omega arith)
   behind-none zero (b ∷ d ∷ bs) g c m = absurd (omega arith)
   behind-none zero (b ∷ []) g c m = digits-none 0 32 (b ∷ []) g (one-byte b c) m
   behind-none (suc n) (b ∷ bs) g c m = go (byte b) (λ e. behind-none n bs (omega arith) (after-space b bs e c) (rw e at (none-after 32 b bs m .1)))
     where
-      go : Byte b → (b ≡ 32 → doubtsIn (behind (betweenPlace s) z n) 32 bs ≡ 0) → doubtsIn (behind (betweenPlace s) z (suc n)) 32 (b ∷ bs) ≡ 0
+      go : Byte b → (b ≡ 32 → doubtsIn (behind (betweenLetter s) z n) 32 bs ≡ 0) → doubtsIn (behind (betweenLetter s) z (suc n)) 32 (b ∷ bs) ≡ 0
       go (v-space e) ih = rw e (omega (arith, space-between s, ih e))
       go (v-minus e) ih =
           let a = after-minus b bs e c in
-          rw e (omega (arith, signed-place s (a .1), digits-none n 45 bs (omega arith) (a .0) (rw e at (none-after 32 b bs m .1))))
+          rw e (omega (arith, signed-letter s (a .1), digits-none n 45 bs (omega arith) (a .0) (rw e at (none-after 32 b bs m .1))))
       go (v-digit p q r) ih = digits-none (suc n) 32 (b ∷ bs) g (digits-of b bs p q (c .0)) m
       go (v-other p q r) ih = digits-none (suc n) 32 (b ∷ bs) g (digits-of b bs p q (c .0)) m
 
   -- from its first byte on
-  column-none : (w p : ℕ) (l : List ℕ) → 1 ≤ w → length l ≡ w → Column l → zeroAfterMinus p l ≡ false → doubtsIn (placesIn (firstPlace s) (betweenPlace s) z w) p l ≡ 0
-  unfolding placesIn behind doubtsIn allDigits
+  column-none : (w p : ℕ) (l : List ℕ) → 1 ≤ w → length l ≡ w → Column l → zeroAfterMinus p l ≡ false → doubtsIn (lettersIn (firstLetter s) (betweenLetter s) z w) p l ≡ 0
+  unfolding lettersIn behind doubtsIn allDigits
   column-none zero p l h g c m = absurd (omega arith)
   column-none (suc w) p [] h g c m = absurd (omega arith)
   column-none (suc zero) p (b ∷ d ∷ bs) h g c m = absurd (omega arith)
   column-none (suc zero) p (b ∷ []) h g c m = digits-none 0 p (b ∷ []) g (one-byte b c) m
   column-none (suc (suc n)) p (b ∷ bs) h g c m = go (byte b)
     where
-      digits : eqb b 32 ≡ false → eqb b 45 ≡ false → doubt (firstPlace s) p b + doubtsIn (behind (betweenPlace s) z n) b bs ≡ 0
+      digits : eqb b 32 ≡ false → eqb b 45 ≡ false → doubt (firstLetter s) p b + doubtsIn (behind (betweenLetter s) z n) b bs ≡ 0
       digits x y =
           let d = and-true (isDigit b) (allDigits bs) (digits-of b bs x y (c .0)) in
           let q = none-after p b bs m in
-          omega (arith, sure-digit (firstPlace s) p b (first-digits s) (d .0) (q .0), digits-none n b bs (omega arith) (d .1) (q .1))
+          omega (arith, sure-digit (firstLetter s) p b (first-digits s) (d .0) (q .0), digits-none n b bs (omega arith) (d .1) (q .1))
 
-      go : Byte b → doubt (firstPlace s) p b + doubtsIn (behind (betweenPlace s) z n) b bs ≡ 0
+      go : Byte b → doubt (firstLetter s) p b + doubtsIn (behind (betweenLetter s) z n) b bs ≡ 0
       go (v-space e) = rw e (omega (arith, space-first s p, behind-none n bs (omega arith) (after-space b bs e c) (rw e at (none-after p b bs m .1))))
       go (v-minus e) =
           let a = after-minus b bs e c in
@@ -215,8 +215,8 @@ all-spaces (suc n) (b ∷ bs) g e =
     let h = all-spaces n bs (omega arith) (a .1) in
     rw (eqb-true b 32 (a .0)) (omega (arith, space-between true, h))
 
-spaces-none : (w p : ℕ) (l : List ℕ) → 2 ≤ w → length l ≡ w → spaces l ≡ true → doubtsIn (placesIn 77 109 115 w) p l ≡ 0
-unfolding placesIn doubtsIn
+spaces-none : (w p : ℕ) (l : List ℕ) → 2 ≤ w → length l ≡ w → spaces l ≡ true → doubtsIn (lettersIn 77 109 115 w) p l ≡ 0
+unfolding lettersIn doubtsIn
 spaces-none zero p l h g e = absurd (omega arith)
 spaces-none (suc zero) p l h g e = absurd (omega arith)
 spaces-none (suc (suc n)) p [] h g e = absurd (omega arith)
@@ -305,7 +305,7 @@ anything-in zero p l = refl
 anything-in (suc w) p [] = refl
 anything-in (suc w) p (b ∷ bs) = omega (arith, anything p b, anything-in w b bs)
 
-range-none : (n m w p : ℕ) (l : List ℕ) → length l ≡ w → hasPlaces (integral (range n m)) w ≡ true → formed (columnOf l) ≡ true → inside (range n m) (integer (columnOf l)) ≡ true → zeroAfterMinus p l ≡ false → doubtsIn (ruled (range n m) w) p l ≡ 0
+range-none : (n m w p : ℕ) (l : List ℕ) → length l ≡ w → hasLetters (integral (range n m)) w ≡ true → formed (columnOf l) ≡ true → inside (range n m) (integer (columnOf l)) ≡ true → zeroAfterMinus p l ≡ false → doubtsIn (ruled (range n m) w) p l ≡ 0
 unfolding ruled doubtsIn
 range-none n m w p [] g h f i z = absurd (omega (arith, eqb-true w 1 (and-true (eqb w 1) ((eqb n 0 && leb m 9) || (eqb n 1 && eqb m 9)) h .0)))
 range-none n m w p (b ∷ c ∷ bs) g h f i z = absurd (omega (arith, eqb-true w 1 (and-true (eqb w 1) ((eqb n 0 && leb m 9) || (eqb n 1 && eqb m 9)) h .0)))
@@ -321,7 +321,7 @@ range-none n m w p (b ∷ []) g h f i z =
     go false true et eu e = omega (arith, nine-none n m p b f i y (eqb-true n 1 (and-true (eqb n 1) (eqb m 9) eu .0)))
     go false false et eu e = absurd (false≢true e)
 
-within-none : (n w p : ℕ) (l : List ℕ) → length l ≡ w → hasPlaces (integral (within n)) w ≡ true → formed (columnOf l) ≡ true → inside (within n) (integer (columnOf l)) ≡ true → zeroAfterMinus p l ≡ false → doubtsIn (ruled (within n) w) p l ≡ 0
+within-none : (n w p : ℕ) (l : List ℕ) → length l ≡ w → hasLetters (integral (within n)) w ≡ true → formed (columnOf l) ≡ true → inside (within n) (integer (columnOf l)) ≡ true → zeroAfterMinus p l ≡ false → doubtsIn (ruled (within n) w) p l ≡ 0
 unfolding ruled doubtsIn
 within-none n w p l g h f i z =
     let a = and-true (eqb w 2) (eqb n 9) h in
@@ -333,8 +333,8 @@ within-none n w p l g h f i z =
     go (b ∷ q ∷ c ∷ bs) g f i z = absurd (omega arith)
     go (b ∷ q ∷ []) g f i z = two-none p b q f i z
 
-exact : (k : What) (w p : ℕ) (l : List ℕ) → 1 ≤ w → length l ≡ w → hasPlaces k w ≡ true → NoFault k l → plain k p l ≡ true → doubtsIn (placesFor k w) p l ≡ 0
-unfolding placesFor ruled
+exact : (k : What) (w p : ℕ) (l : List ℕ) → 1 ≤ w → length l ≡ w → hasLetters k w ≡ true → NoFault k l → plain k p l ≡ true → doubtsIn (lettersFor k w) p l ≡ 0
+unfolding lettersFor ruled
 exact text w p l h g t c z = anything-in w p l
 exact blank w p l h g t c z = anything-in w p l
 exact (integral anySign) w p l h g t c z = column-none true 100 last-digits w p l h g (c .is-formed, λ e. absurd (false≢true (sym e))) (not-true (zeroAfterMinus p l) z)
@@ -344,20 +344,20 @@ exact (integral (within n)) w p l h g t c z = within-none n w p l g t (c .is-for
 exact (integral (oneOf ns)) w p l h g t c z = column-none false 100 last-digits w p l h g (c .is-formed, λ e. c .is-inside) (not-true (zeroAfterMinus p l) z)
 exact integralOrSpaces w p l h g t c z = go (spaces l) refl (c .is-formed)
   where
-    go : (b : Bool) → spaces l ≡ b → b || formed (columnOf l) ≡ true → doubtsIn (placesIn 77 109 115 w) p l ≡ 0
+    go : (b : Bool) → spaces l ≡ b → b || formed (columnOf l) ≡ true → doubtsIn (lettersIn 77 109 115 w) p l ≡ 0
     go true e f = spaces-none w p l (leb-true 2 w t) g e
     go false e f = column-none true 115 (between-digits false) w p l h g (f, λ e. absurd (false≢true (sym e))) (not-true (zeroAfterMinus p l) z)
 
--- only the bytes at the places count
+-- only the bytes that have letters count
 in-front : (ks : List ℕ) (p : ℕ) (l : List ℕ) → doubtsIn ks p l ≡ doubtsIn ks p (take (length ks) l)
 unfolding doubtsIn
 in-front [] p l = refl
 in-front (k ∷ ks) p [] = refl
 in-front (k ∷ ks) p (b ∷ bs) = rw (in-front ks b bs)
 
-no-doubt : (k : What) (w p : ℕ) (l : List ℕ) → 1 ≤ w → w ≤ length l → hasPlaces k w ≡ true → NoFault k (take w l) → plain k p (take w l) ≡ true → doubtsIn (placesFor k w) p l ≡ 0
+no-doubt : (k : What) (w p : ℕ) (l : List ℕ) → 1 ≤ w → w ≤ length l → hasLetters k w ≡ true → NoFault k (take w l) → plain k p (take w l) ≡ true → doubtsIn (lettersFor k w) p l ≡ 0
 no-doubt k w p l h g t c z =
-    in-front (placesFor k w) p l ∙ rw (length-for k w) (exact k w p (take w l) h (length-take-le w l g) t c z)
+    in-front (lettersFor k w) p l ∙ rw (length-for k w) (exact k w p (take w l) h (length-take-le w l g) t c z)
 
 -- ---- no 0 right after a minus
 
@@ -369,7 +369,7 @@ not-zero k p b n e = go (told k p b n (right-at k p b e))
     go (t-space q x f) = rw q (simp and-false)
     go (t-minus q x f) = rw q (simp and-false)
 
--- places none of which takes anything
+-- letters none of which takes anything
 abbrev noneFree : List ℕ → Bool
 noneFree [] = true
 noneFree (k ∷ ks) = not (eqb k 46) && noneFree ks
@@ -379,11 +379,11 @@ unfolding behind
 free-behind a z zero e f = simp f
 free-behind a z (suc n) e f = simp (e, free-behind a z n e f)
 
-free-places : (i a z w : ℕ) → eqb i 46 ≡ false → eqb a 46 ≡ false → eqb z 46 ≡ false → noneFree (placesIn i a z w) ≡ true
-unfolding placesIn
-free-places i a z zero d e f = refl
-free-places i a z (suc zero) d e f = simp f
-free-places i a z (suc (suc n)) d e f = simp (d, free-behind a z n e f)
+free-letters : (i a z w : ℕ) → eqb i 46 ≡ false → eqb a 46 ≡ false → eqb z 46 ≡ false → noneFree (lettersIn i a z w) ≡ true
+unfolding lettersIn
+free-letters i a z zero d e f = refl
+free-letters i a z (suc zero) d e f = simp f
+free-letters i a z (suc (suc n)) d e f = simp (d, free-behind a z n e f)
 
 free-never : (w : ℕ) → noneFree (replicate w 33) ≡ true
 free-never zero = refl
@@ -391,8 +391,8 @@ free-never (suc w) = free-never w
 
 free-rule : (rule : Rule) (w : ℕ) → noneFree (ruled rule w) ≡ true
 unfolding ruled
-free-rule anySign w = free-places 77 109 100 w refl refl refl
-free-rule (atLeast n) w = free-places 83 115 100 w refl refl refl
+free-rule anySign w = free-letters 77 109 100 w refl refl refl
+free-rule (atLeast n) w = free-letters 83 115 100 w refl refl refl
 free-rule (range n m) w = go (eqb w 1 && (eqb n 0 && leb m 9)) (eqb w 1 && (eqb n 1 && eqb m 9))
   where
     go : (t u : Bool) → noneFree (cond t ((48 + m) ∷ []) (cond u (114 ∷ []) (replicate w 33))) ≡ true
@@ -404,7 +404,7 @@ free-rule (within n) w = go (eqb w 2 && eqb n 9)
     go : (t : Bool) → noneFree (cond t (90 ∷ 100 ∷ []) (replicate w 33)) ≡ true
     go true = refl
     go false = free-never w
-free-rule (oneOf ns) w = free-places 83 115 100 w refl refl refl
+free-rule (oneOf ns) w = free-letters 83 115 100 w refl refl refl
 
 none-there : (ks : List ℕ) (p : ℕ) (l : List ℕ) → noneFree ks ≡ true → length ks ≤ length l → doubtsIn ks p l ≡ 0 → zeroAfterMinus p (take (length ks) l) ≡ false
 unfolding doubtsIn zeroAfterMinus
@@ -419,36 +419,36 @@ plain-at ks w p l g n h e =
     let z = none-there ks p l n (omega arith) e in
     rw (rw g at z)
 
-is-plain : (k : What) (w p : ℕ) (l : List ℕ) → w ≤ length l → doubtsIn (placesFor k w) p l ≡ 0 → plain k p (take w l) ≡ true
-unfolding placesFor
+is-plain : (k : What) (w p : ℕ) (l : List ℕ) → w ≤ length l → doubtsIn (lettersFor k w) p l ≡ 0 → plain k p (take w l) ≡ true
+unfolding lettersFor
 is-plain text w p l h e = refl
 is-plain blank w p l h e = refl
 is-plain (integral rule) w p l h e = plain-at (ruled rule w) w p l (length-for (integral rule) w) (free-rule rule w) h e
-is-plain integralOrSpaces w p l h e = plain-at (placesIn 77 109 115 w) w p l (length-for integralOrSpaces w) (free-places 77 109 115 w refl refl refl) h e
+is-plain integralOrSpaces w p l h e = plain-at (lettersIn 77 109 115 w) w p l (length-for integralOrSpaces w) (free-letters 77 109 115 w refl refl refl) h e
 
 -- ---- exactly
 
-pub at-once : (k : What) (w p : ℕ) (l : List ℕ) → hasPlaces k w ≡ true → 1 ≤ w → w ≤ length l → eqb (doubtsIn (placesFor k w) p l) 0 ≡ toldAtOnce k p (take w l)
-at-once k w p l t g h = go (eqb (doubtsIn (placesFor k w) p l) 0) (toldAtOnce k p (take w l)) refl refl
+pub at-once : (k : What) (w p : ℕ) (l : List ℕ) → hasLetters k w ≡ true → 1 ≤ w → w ≤ length l → eqb (doubtsIn (lettersFor k w) p l) 0 ≡ toldAtOnce k p (take w l)
+at-once k w p l t g h = go (eqb (doubtsIn (lettersFor k w) p l) 0) (toldAtOnce k p (take w l)) refl refl
   where
-    there : toldAtOnce k p (take w l) ≡ true → doubtsIn (placesFor k w) p l ≡ 0
+    there : toldAtOnce k p (take w l) ≡ true → doubtsIn (lettersFor k w) p l ≡ 0
     there e =
         let a = and-true (isFormed k (take w l)) (isInside (looser k) (take w l) && plain k p (take w l)) e in
         let b = and-true (isInside (looser k) (take w l)) (plain k p (take w l)) (a .1) in
         no-doubt k w p l g h t (record { is-formed = a .0; is-inside = b .0 }) (b .1)
 
-    back : doubtsIn (placesFor k w) p l ≡ 0 → toldAtOnce k p (take w l) ≡ true
+    back : doubtsIn (lettersFor k w) p l ≡ 0 → toldAtOnce k p (take w l) ≡ true
     back e =
         let n = no-fault k w p l g h e in
         true-and (isFormed k (take w l)) (isInside (looser k) (take w l) && plain k p (take w l)) (n .is-formed)
         (true-and (isInside (looser k) (take w l)) (plain k p (take w l)) (n .is-inside) (is-plain k w p l h e))
 
-    go : (x y : Bool) → eqb (doubtsIn (placesFor k w) p l) 0 ≡ x → toldAtOnce k p (take w l) ≡ y → x ≡ y
-    go true y e f = sym (back (eqb-true (doubtsIn (placesFor k w) p l) 0 e)) ∙ f
-    go false true e f = absurd (eqb-false (doubtsIn (placesFor k w) p l) 0 e (there f))
+    go : (x y : Bool) → eqb (doubtsIn (lettersFor k w) p l) 0 ≡ x → toldAtOnce k p (take w l) ≡ y → x ≡ y
+    go true y e f = sym (back (eqb-true (doubtsIn (lettersFor k w) p l) 0 e)) ∙ f
+    go false true e f = absurd (eqb-false (doubtsIn (lettersFor k w) p l) 0 e (there f))
     go false false e f = refl
 
 -- ---- what the contract says of one byte
 
-pub answered : (place before byte r : ℕ) → r ≡ doubt place before byte → Told place before byte r
-answered place before byte r e = record { is = e; columns = at-once }
+pub answered : (letter before byte r : ℕ) → r ≡ doubt letter before byte → Told letter before byte r
+answered letter before byte r e = record { is = e; columns = at-once }

@@ -1,4 +1,4 @@
--- Many bytes: the doubts of places put one after another are the sum of theirs, and where a column's bytes have none, it is well formed.
+-- Many bytes: the doubts of letters put one after another are the sum of theirs, and where a column's bytes have none, it is well formed.
 -- Assumes nothing.
 use mathlib.Core.Path.{_≡_, refl, ap, sym}
 use mathlib.Core.Bool.{Bool, true, false, cond}
@@ -10,8 +10,8 @@ use native.Mathlib.Omega.{arith}
 use lib.ListN.{length, take, drop, getD}
 use lib.Seq.{drop-cons}
 use Rattle.form_bytes.specs.Doubt.{surelyRight, doubt}
-use Rattle.form_bytes.specs.Places.{behind, placesIn, doubtsIn}
-use Rattle.form_bytes.proofs.Neighbours.{Right, firstPlace, betweenPlace, last-right, only-right, between-right, first-right, Loose, loose-last, loose-only, loose-between, loose-first}
+use Rattle.form_bytes.specs.Letters.{behind, lettersIn, doubtsIn}
+use Rattle.form_bytes.proofs.Neighbours.{Right, firstLetter, betweenLetter, last-right, only-right, between-right, first-right, Loose, loose-last, loose-only, loose-between, loose-first}
 
 -- ---- one byte
 
@@ -43,7 +43,7 @@ pub one-more : (ks l : List ℕ) (i j p : ℕ) → i < length ks → j < length 
 unfolding doubtsIn
 one-more ks l i j p h k = rw (add-one i, add-one j, drop-cons ks i 0 h, drop-cons l j 0 k)
 
--- places, and others behind them
+-- letters, and others behind them
 pub doubts-append : (ks ls : List ℕ) (p : ℕ) (l : List ℕ) → length ks ≤ length l → doubtsIn (ks ++ ls) p l ≡ doubtsIn ks p l + doubtsIn ls (getD (p ∷ l) (length ks) 0) (drop (length ks) l)
 unfolding doubtsIn
 doubts-append [] ls p l h = sym (zero-add (doubtsIn ls p l))
@@ -55,28 +55,28 @@ unfolding behind
 length-behind between last zero = refl
 length-behind between last (suc n) = ap suc (length-behind between last n)
 
-pub length-places : (first between last width : ℕ) → length (placesIn first between last width) ≡ width
-unfolding placesIn
-length-places first between last zero = refl
-length-places first between last (suc zero) = refl
-length-places first between last (suc (suc n)) = ap suc (length-behind between last n)
+pub length-letters : (first between last width : ℕ) → length (lettersIn first between last width) ≡ width
+unfolding lettersIn
+length-letters first between last zero = refl
+length-letters first between last (suc zero) = refl
+length-letters first between last (suc (suc n)) = ap suc (length-behind between last n)
 
 -- ---- a column of which no byte is in doubt
 
-behind-right : (s : Bool) (n p : ℕ) (l : List ℕ) → n < length l → doubtsIn (behind (betweenPlace s) 100 n) p l ≡ 0 → Right s p (take (suc n) l)
+behind-right : (s : Bool) (n p : ℕ) (l : List ℕ) → n < length l → doubtsIn (behind (betweenLetter s) 100 n) p l ≡ 0 → Right s p (take (suc n) l)
 unfolding behind doubtsIn
 behind-right s n p [] h e = absurd (omega arith)
 behind-right s zero p (b ∷ bs) h e = last-right s p b (right-at 100 p b (omega arith))
 behind-right s (suc n) p (b ∷ bs) h e =
-    between-right s p b (take (suc n) bs) (behind-right s n b bs (omega arith) (omega arith)) (right-at (betweenPlace s) p b (omega arith))
+    between-right s p b (take (suc n) bs) (behind-right s n b bs (omega arith) (omega arith)) (right-at (betweenLetter s) p b (omega arith))
 
-pub column-right : (s : Bool) (w p : ℕ) (l : List ℕ) → 0 < w → w ≤ length l → doubtsIn (placesIn (firstPlace s) (betweenPlace s) 100 w) p l ≡ 0 → Right s 32 (take w l)
-unfolding placesIn doubtsIn
+pub column-right : (s : Bool) (w p : ℕ) (l : List ℕ) → 0 < w → w ≤ length l → doubtsIn (lettersIn (firstLetter s) (betweenLetter s) 100 w) p l ≡ 0 → Right s 32 (take w l)
+unfolding lettersIn doubtsIn
 column-right s zero p l g h e = absurd (omega arith)
 column-right s (suc w) p [] g h e = absurd (omega arith)
 column-right s (suc zero) p (b ∷ bs) g h e = only-right s p b (right-at 100 p b (omega arith))
 column-right s (suc (suc n)) p (b ∷ bs) g h e =
-    first-right s p b (take (suc n) bs) (behind-right s n b bs (omega arith) (omega arith)) (right-at (firstPlace s) p b (omega arith))
+    first-right s p b (take (suc n) bs) (behind-right s n b bs (omega arith) (omega arith)) (right-at (firstLetter s) p b (omega arith))
 
 behind-loose : (n p : ℕ) (l : List ℕ) → n < length l → doubtsIn (behind 109 115 n) p l ≡ 0 → Loose p (take (suc n) l)
 unfolding behind doubtsIn
@@ -85,8 +85,8 @@ behind-loose zero p (b ∷ bs) h e = loose-last p b (right-at 115 p b (omega ari
 behind-loose (suc n) p (b ∷ bs) h e =
     loose-between p b (take (suc n) bs) (behind-loose n b bs (omega arith) (omega arith)) (right-at 109 p b (omega arith))
 
-pub column-loose : (w p : ℕ) (l : List ℕ) → 0 < w → w ≤ length l → doubtsIn (placesIn 77 109 115 w) p l ≡ 0 → Loose 32 (take w l)
-unfolding placesIn doubtsIn
+pub column-loose : (w p : ℕ) (l : List ℕ) → 0 < w → w ≤ length l → doubtsIn (lettersIn 77 109 115 w) p l ≡ 0 → Loose 32 (take w l)
+unfolding lettersIn doubtsIn
 column-loose zero p l g h e = absurd (omega arith)
 column-loose (suc w) p [] g h e = absurd (omega arith)
 column-loose (suc zero) p (b ∷ bs) g h e = loose-only p b (right-at 115 p b (omega arith))

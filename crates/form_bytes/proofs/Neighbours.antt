@@ -82,7 +82,7 @@ natural-after e (minus t f g r) = absurd (false≢true t)
 
 -- ---- the code's test of a byte
 
--- what a byte is that is surely right at a place where not anything may stand
+-- what a byte is that is surely right by a letter that does not take anything
 pub data Seen (k p b : ℕ) : Type 0 where
   t-digit : leb (leastAt k) b ≡ true → leb b (mostAt k) ≡ true → eqb p 45 && eqb b 48 ≡ false → Seen k p b
   t-space : b ≡ 32 → isSpaced k ≡ true → eqb p 32 || isFirst k ≡ true → Seen k p b
@@ -115,14 +115,14 @@ told k p b n h = go (and-true _ _ (rw n at h))
         ⊎-elim (λ x. at-digit x (not-true (eqb p 45 && eqb b 48) (t .1))) at-gap
         (or-cases (leb (leastAt k) b && leb b (mostAt k)) (((eqb b 32 && isSpaced k) || (eqb b 45 && isSigned k)) && (eqb p 32 || isFirst k)) (t .0))
 
--- places of a column that may have a minus, and of one that may not
-abbrev pub firstPlace : Bool → ℕ
-firstPlace true = 77
-firstPlace false = 83
+-- letters of a column that may have a minus, and of one that may not
+abbrev pub firstLetter : Bool → ℕ
+firstLetter true = 77
+firstLetter false = 83
 
-abbrev pub betweenPlace : Bool → ℕ
-betweenPlace true = 109
-betweenPlace false = 115
+abbrev pub betweenLetter : Bool → ℕ
+betweenLetter true = 109
+betweenLetter false = 115
 
 digit-at-last : (p b : ℕ) → Seen 100 p b → isDigit b ≡ true
 unfolding leastAt mostAt isDigit
@@ -145,7 +145,7 @@ only-right s p b h = last (digit-at-last p b (told 100 p b refl h)) refl
 after-space : (p : ℕ) → eqb p 32 || false ≡ true → p ≡ 32
 after-space p h = eqb-true p 32 (rw or-false at h)
 
-pub between-right : (s : Bool) (p b : ℕ) (bs : List ℕ) → Right s b bs → surelyRight (betweenPlace s) p b ≡ true → Right s p (b ∷ bs)
+pub between-right : (s : Bool) (p b : ℕ) (bs : List ℕ) → Right s b bs → surelyRight (betweenLetter s) p b ≡ true → Right s p (b ∷ bs)
 unfolding leastAt mostAt isDigit
 between-right true p b bs r h = go (told 109 p b refl h)
   where
@@ -161,7 +161,7 @@ between-right false p b bs r h = go (told 115 p b refl h)
     go (t-minus e x f) = absurd (false≢true x)
 
 -- a column's first byte is right as if after a space, whatever stands before it
-pub first-right : (s : Bool) (p b : ℕ) (bs : List ℕ) → Right s b bs → surelyRight (firstPlace s) p b ≡ true → Right s 32 (b ∷ bs)
+pub first-right : (s : Bool) (p b : ℕ) (bs : List ℕ) → Right s b bs → surelyRight (firstLetter s) p b ≡ true → Right s 32 (b ∷ bs)
 unfolding leastAt mostAt isDigit
 first-right true p b bs r h = go (told 77 p b refl h)
   where
@@ -176,7 +176,7 @@ first-right false p b bs r h = go (told 83 p b refl h)
     go (t-space e x f) = space refl e r
     go (t-minus e x f) = absurd (false≢true x)
 
--- ---- a column that holds an integer or spaces: its last place is one behind the first of a column without a minus
+-- ---- a column that holds an integer or spaces: its last letter is one behind the first of a column without a minus
 
 pub data Loose : ℕ → List ℕ → Type 0 where
   number : {p : ℕ} {l : List ℕ} → Right true p l → Loose p l

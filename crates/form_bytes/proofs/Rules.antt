@@ -1,4 +1,4 @@
--- One column by what is judged in it: where no byte is in doubt at its places, it is well formed and inside its rule, but for a 0 where a number
+-- One column by what is judged in it: where no byte is in doubt by its letters, it is well formed and inside its rule, but for a 0 where a number
 -- above 0 is due. Assumes nothing.
 use mathlib.Core.Path.{_≡_, refl, sym}
 use mathlib.Core.Bool.{Bool, true, false, cond, _&&_, false≢true}
@@ -14,10 +14,10 @@ use Rattle.format.specs.Column.{strip, isDigit, allDigits, valueOf, isNumber, n
 use Rattle.format.specs.Layout.{Rule, anySign, atLeast, range, within, oneOf, inside, What, text, blank, integral, integralOrSpaces, isFormed, isInside}
 use Rattle.format.proofs.Basics.{and-true, true-and, abs-neg}
 use Rattle.form_bytes.specs.Doubt.{leastAt, mostAt}
-use Rattle.form_bytes.specs.Places.{ruled, placesFor, doubtsIn}
+use Rattle.form_bytes.specs.Letters.{ruled, lettersFor, doubtsIn}
 use Rattle.form_bytes.specs.Told.{looserRule, looser}
 use Rattle.form_bytes.proofs.Neighbours.{Seen, t-digit, t-space, t-minus, told, column-after, natural-after, value-after}
-use Rattle.form_bytes.proofs.Doubts.{right-at, length-places, column-right, column-loose}
+use Rattle.form_bytes.proofs.Doubts.{right-at, length-letters, column-right, column-loose}
 
 -- ---- columns of one and two bytes
 
@@ -59,9 +59,9 @@ module _ (b : ℕ) (d : isDigit b ≡ true) where
       let k : b ≡ 48 → ⊥ = eqb-false b 48 n in
       simp (d, value-one, ne-eqb (b - 48) 0 (λ (e : b - 48 ≡ 0). k (omega (arith, digit-at-least))))
 
--- ---- a byte at a place of one digit, and at the places of -9 to 9
+-- ---- a byte by the letter of one digit, and by those of -9 to 9
 
--- a place up to a digit of at most 9
+-- a letter up to a digit of at most 9
 module _ (m : ℕ) (h : m ≤ 9) where
   pub least-up-to : leastAt (48 + m) ≡ 48
   unfolding leastAt
@@ -195,19 +195,19 @@ pub record NoFault (what : What) (bytes : List ℕ) : Type 0 where
   pub is-formed : isFormed what bytes ≡ true
   pub is-inside : isInside (looser what) bytes ≡ true
 
-pub no-fault : (k : What) (w p : ℕ) (l : List ℕ) → 1 ≤ w → w ≤ length l → doubtsIn (placesFor k w) p l ≡ 0 → NoFault k (take w l)
-unfolding placesFor
+pub no-fault : (k : What) (w p : ℕ) (l : List ℕ) → 1 ≤ w → w ≤ length l → doubtsIn (lettersFor k w) p l ≡ 0 → NoFault k (take w l)
+unfolding lettersFor
 no-fault text w p l g h e = record { is-formed = refl; is-inside = refl }
 no-fault blank w p l g h e = record { is-formed = refl; is-inside = refl }
 no-fault (integral rule) w p l g h e = let r = rule-sound rule w p l g h e in record { is-formed = r .0; is-inside = r .1 }
 no-fault integralOrSpaces w p l g h e = record { is-formed = value-after refl (column-loose w p l g h e); is-inside = refl }
 
--- ---- a column has as many places as bytes
+-- ---- a column has as many letters as bytes
 
 length-ruled : (rule : Rule) (w : ℕ) → length (ruled rule w) ≡ w
 unfolding ruled
-length-ruled anySign w = length-places 77 109 100 w
-length-ruled (atLeast n) w = length-places 83 115 100 w
+length-ruled anySign w = length-letters 77 109 100 w
+length-ruled (atLeast n) w = length-letters 83 115 100 w
 length-ruled (range n m) w = go (eqb w 1 && (eqb n 0 && leb m 9)) (eqb w 1 && (eqb n 1 && eqb m 9)) refl refl
   where
     go : (t u : Bool) → eqb w 1 && (eqb n 0 && leb m 9) ≡ t → eqb w 1 && (eqb n 1 && eqb m 9) ≡ u → length (cond t ((48 + m) ∷ []) (cond u (114 ∷ []) (replicate w 33))) ≡ w
@@ -219,11 +219,11 @@ length-ruled (within n) w = go (eqb w 2 && eqb n 9) refl
     go : (t : Bool) → eqb w 2 && eqb n 9 ≡ t → length {A = ℕ} (cond t (90 ∷ 100 ∷ []) (replicate w 33)) ≡ w
     go true et = sym (eqb-true w 2 (and-true (eqb w 2) (eqb n 9) et .0))
     go false et = length-replicate w 33
-length-ruled (oneOf ns) w = length-places 83 115 100 w
+length-ruled (oneOf ns) w = length-letters 83 115 100 w
 
-pub length-for : (k : What) (w : ℕ) → length (placesFor k w) ≡ w
-unfolding placesFor
+pub length-for : (k : What) (w : ℕ) → length (lettersFor k w) ≡ w
+unfolding lettersFor
 length-for text w = length-replicate w 46
 length-for blank w = length-replicate w 46
 length-for (integral rule) w = length-ruled rule w
-length-for integralOrSpaces w = length-places 77 109 115 w
+length-for integralOrSpaces w = length-letters 77 109 115 w

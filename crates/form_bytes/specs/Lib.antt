@@ -1,3 +1,3 @@
 pub mod Doubt
-pub mod Places
+pub mod Letters
 pub mod Told

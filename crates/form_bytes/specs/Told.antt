@@ -7,7 +7,7 @@ use lib.Dec.{eqb, leb}
 use lib.ListN.{length, take}
 use Rattle.format.specs.Layout.{Rule, anySign, atLeast, range, within, oneOf, natural, What, text, blank, integral, integralOrSpaces, isFormed, isInside}
 use Rattle.form_bytes.specs.Doubt.{doubt}
-use Rattle.form_bytes.specs.Places.{placesFor, doubtsIn}
+use Rattle.form_bytes.specs.Letters.{lettersFor, doubtsIn}
 
 -- a rule, and what is judged in a column, with 0 allowed where a number above 0 is due, and every number from 0 on where one of a list is
 abbrev pub looserRule : Rule → Rule
@@ -40,19 +40,19 @@ plain integralOrSpaces before bytes = not (zeroAfterMinus before bytes)
 abbrev pub toldAtOnce : What → (before : ℕ) → List ℕ → Bool
 toldAtOnce what before bytes = isFormed what bytes && (isInside (looser what) bytes && plain what before bytes)
 
--- a column that has places of its own: of a range one digit, from 0 or from 1 to 9; of a size -9 to 9
-abbrev pub hasPlaces : What → (width : ℕ) → Bool
-hasPlaces text width = true
-hasPlaces blank width = true
-hasPlaces (integral anySign) width = true
-hasPlaces (integral (atLeast n)) width = true
-hasPlaces (integral (range n m)) width = eqb width 1 && ((eqb n 0 && leb m 9) || (eqb n 1 && eqb m 9))
-hasPlaces (integral (within n)) width = eqb width 2 && eqb n 9
-hasPlaces (integral (oneOf ns)) width = true
-hasPlaces integralOrSpaces width = leb 2 width
+-- a column that has letters of its own: of a range one digit, from 0 or from 1 to 9; of a size -9 to 9
+abbrev pub hasLetters : What → (width : ℕ) → Bool
+hasLetters text width = true
+hasLetters blank width = true
+hasLetters (integral anySign) width = true
+hasLetters (integral (atLeast n)) width = true
+hasLetters (integral (range n m)) width = eqb width 1 && ((eqb n 0 && leb m 9) || (eqb n 1 && eqb m 9))
+hasLetters (integral (within n)) width = eqb width 2 && eqb n 9
+hasLetters (integral (oneOf ns)) width = true
+hasLetters integralOrSpaces width = leb 2 width
 
--- the answer is 0 for a byte that is surely right at its place after the byte before it, else 1. And what that means: of a column that has places of
+-- the answer is 0 for a byte that is surely right by its letter after the byte before it, else 1. And what that means: of a column that has letters of
 -- its own no byte is in doubt exactly where it can be told at once
-pub record Told (place before byte answer : ℕ) : Type 0 where
-  pub is : answer ≡ doubt place before byte
-  pub columns : (what : What) (width p : ℕ) (bytes : List ℕ) → hasPlaces what width ≡ true → 1 ≤ width → width ≤ length bytes → eqb (doubtsIn (placesFor what width) p bytes) 0 ≡ toldAtOnce what p (take width bytes)
+pub record Told (letter before byte answer : ℕ) : Type 0 where
+  pub is : answer ≡ doubt letter before byte
+  pub columns : (what : What) (width p : ℕ) (bytes : List ℕ) → hasLetters what width ≡ true → 1 ≤ width → width ≤ length bytes → eqb (doubtsIn (lettersFor what width) p bytes) 0 ≡ toldAtOnce what p (take width bytes)

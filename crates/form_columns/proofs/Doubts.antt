@@ -10,36 +10,36 @@ use lib.ListN.{length, take, drop, getD, replicate, length-drop, drop-of-length-
 use Rattle.format.specs.Column.{columnOf, formed}
 use Rattle.format.proofs.Basics.{true-and}
 use Rattle.form_bytes.specs.Doubt.{doubt}
-use Rattle.form_bytes.specs.Places.{behind, placesIn, doubtsIn}
+use Rattle.form_bytes.specs.Letters.{behind, lettersIn, doubtsIn}
 use Rattle.form_bytes.proofs.Neighbours.{column-after}
 use Rattle.form_bytes.proofs.Doubts.{at-most-one, anything, one-more, doubts-append, column-right}
 use Rattle.form_columns.specs.Columns.{eachFormed}
 use Rattle.form_columns.specs.Counted.{countedIf}
 
--- ---- the places of columns of seven bytes
+-- ---- the letters of columns of seven bytes
 
-unfoldable pub placesOf : ℕ → List ℕ
-placesOf zero = []
-placesOf (suc columns) = placesIn 77 109 100 7 ++ placesOf columns
+unfoldable pub lettersOf : ℕ → List ℕ
+lettersOf zero = []
+lettersOf (suc columns) = lettersIn 77 109 100 7 ++ lettersOf columns
 
-length-columns : (columns : ℕ) → length (placesOf columns) ≡ columns * 7
-unfolding placesOf placesIn behind
+length-columns : (columns : ℕ) → length (lettersOf columns) ≡ columns * 7
+unfolding lettersOf lettersIn behind
 length-columns zero = refl
 length-columns (suc m) = omega (arith, length-columns m)
 
 -- no doubt, well formed
-all-right : (columns p : ℕ) (l : List ℕ) → columns * 7 ≤ length l → doubtsIn (placesOf columns) p l ≡ 0 → eachFormed columns l ≡ true
-unfolding placesOf placesIn behind eachFormed
+all-right : (columns p : ℕ) (l : List ℕ) → columns * 7 ≤ length l → doubtsIn (lettersOf columns) p l ≡ 0 → eachFormed columns l ≡ true
+unfolding lettersOf lettersIn behind eachFormed
 all-right zero p l h e = refl
 all-right (suc m) p l h e =
-    let s = doubts-append (placesIn 77 109 100 7) (placesOf m) p l (omega arith) in
-    let z : doubtsIn (placesIn 77 109 100 7) p l ≡ 0 = omega arith in
-    let k : doubtsIn (placesOf m) (getD (p ∷ l) 7 0) (drop 7 l) ≡ 0 = omega arith in
+    let s = doubts-append (lettersIn 77 109 100 7) (lettersOf m) p l (omega arith) in
+    let z : doubtsIn (lettersIn 77 109 100 7) p l ≡ 0 = omega arith in
+    let k : doubtsIn (lettersOf m) (getD (p ∷ l) 7 0) (drop 7 l) ≡ 0 = omega arith in
     true-and (formed (columnOf (take 7 l))) (eachFormed m (drop 7 l))
     (column-after refl (column-right true 7 p l (omega arith) (omega arith) z))
     (all-right m (getD (p ∷ l) 7 0) (drop 7 l) (rw (length-drop 7 l) (omega arith)) k)
 
--- ---- the loops, in the code's own words: the first byte of a column, and bytes at the places `ks` behind it
+-- ---- the loops, in the code's own words: the first byte of a column, and bytes by the letters `ks` behind it
 
 unfoldable pub allDoubts : List ℕ → List ℕ → ℕ → ℕ
 allDoubts ks l at = doubtsIn (77 ∷ ks) 32 (drop at l)
@@ -78,24 +78,24 @@ pub record Counting (ks l : List ℕ) (at doubts i : ℕ) : Type 0 where
 -- ---- `ends_sure`
 
 unfoldable pub behindFirst : List ℕ
-behindFirst = drop 1 (placesOf 7)
+behindFirst = drop 1 (lettersOf 7)
 
 module _ (l : List ℕ) (at : ℕ) (room : at + 49 ≤ length l) where
   pub first-doubt : (x : ℕ) → x ≡ doubt 77 32 (getD l at 0) → Counting behindFirst l at x 0
   first-doubt x e = record { small = at-most-one 77 32 (getD l at 0) x e; sums = first-of-all behindFirst l at x e (omega arith) }
 
   pub next-doubt : (x i doubts : ℕ) → x ≡ doubt (getD behindFirst i 0) (getD l (at + i) 0) (getD l (at + i + 1) 0) → i < 48 → Counting behindFirst l at doubts i → Counting behindFirst l at (doubts + x) (i + 1)
-  unfolding behindFirst placesOf placesIn behind
+  unfolding behindFirst lettersOf lettersIn behind
   next-doubt x i doubts e k s =
       record { small = one-at-most-more (getD behindFirst i 0) (getD l (at + i) 0) (getD l (at + i + 1) 0) x i doubts e (s .small); sums = next-of-all behindFirst l at x i doubts e k (omega arith) (s .sums) }
 
   pub no-doubt : (i doubts : ℕ) → 48 ≤ i → Counting behindFirst l at doubts i → eqb doubts 0 ≡ true → eachFormed 7 (drop at l) ≡ true
-  unfolding behindFirst placesOf placesIn behind
+  unfolding behindFirst lettersOf lettersIn behind
   no-doubt i doubts k s z = all-right 7 32 (drop at l) (rw (length-drop at l) (omega arith)) (none-of-all behindFirst l at i doubts k (s .sums) z)
 
 -- ---- `few_sure`
 
--- the places of which the doubts count: those of columns before `end`
+-- the letters of which the doubts count: those of columns before `end`
 unfoldable pub used : ℕ → List ℕ → List ℕ → List ℕ
 used end [] ks = []
 used end (c ∷ cs) [] = []
@@ -119,17 +119,17 @@ length-used end [] ks e = refl
 length-used end (c ∷ cs) [] e = absurd (omega arith)
 length-used end (c ∷ cs) (k ∷ ks) e = ap suc (length-used end cs ks (omega arith))
 
--- the places behind the first of `count` columns
+-- the letters behind the first of `count` columns
 unfoldable pub behindFirstOf : ℕ → List ℕ
 behindFirstOf count = used (48 + count) columnsOf behindFirst
 
-48-places : (count : ℕ) → length (behindFirstOf count) ≡ 48
-unfolding behindFirstOf columnsOf behindFirst placesOf placesIn behind
-48-places count = length-used (48 + count) columnsOf behindFirst refl
+48-letters : (count : ℕ) → length (behindFirstOf count) ≡ 48
+unfolding behindFirstOf columnsOf behindFirst lettersOf lettersIn behind
+48-letters count = length-used (48 + count) columnsOf behindFirst refl
 
-places-at : (count i : ℕ) → i < 48 → getD (behindFirstOf count) i 0 ≡ cond (ltb (getD columnsOf i 0) (48 + count)) (getD behindFirst i 0) 46
-unfolding behindFirstOf columnsOf behindFirst placesOf placesIn behind
-places-at count i h = used-at (48 + count) i columnsOf behindFirst h refl
+letters-at : (count i : ℕ) → i < 48 → getD (behindFirstOf count) i 0 ≡ cond (ltb (getD columnsOf i 0) (48 + count)) (getD behindFirst i 0) 46
+unfolding behindFirstOf columnsOf behindFirst lettersOf lettersIn behind
+letters-at count i h = used-at (48 + count) i columnsOf behindFirst h refl
 
 counted-is : (t : Bool) (x d k p b : ℕ) → x ≡ countedIf t d → d ≡ doubt k p b → x ≡ doubt (cond t k 46) p b
 unfolding countedIf
@@ -146,28 +146,28 @@ module _ (l : List ℕ) (at count : ℕ) (room : at + 49 ≤ length l) where
 
   pub few-next-doubt : (x d i doubts : ℕ) → x ≡ countedIf (ltb (getD columnsOf i 0) (48 + count)) d → d ≡ doubt (getD behindFirst i 0) (getD l (at + i) 0) (getD l (at + i + 1) 0) → i < 48 → Counting (behindFirstOf count) l at doubts i → Counting (behindFirstOf count) l at (doubts + x) (i + 1)
   few-next-doubt x d i doubts e f k s =
-      record { small = one-at-most-more (getD (behindFirstOf count) i 0) (getD l (at + i) 0) (getD l (at + i + 1) 0) x i doubts here (s .small); sums = next-of-all (behindFirstOf count) l at x i doubts here (omega (arith, 48-places count)) (omega arith) (s .sums) }
+      record { small = one-at-most-more (getD (behindFirstOf count) i 0) (getD l (at + i) 0) (getD l (at + i + 1) 0) x i doubts here (s .small); sums = next-of-all (behindFirstOf count) l at x i doubts here (omega (arith, 48-letters count)) (omega arith) (s .sums) }
     where
       here : x ≡ doubt (getD (behindFirstOf count) i 0) (getD l (at + i) 0) (getD l (at + i + 1) 0)
       here =
-          counted-is (ltb (getD columnsOf i 0) (48 + count)) x d (getD behindFirst i 0) (getD l (at + i) 0) (getD l (at + i + 1) 0) e f ∙ sym (ap (λ (n : ℕ). doubt n (getD l (at + i) 0) (getD l (at + i + 1) 0)) (places-at count i k))
+          counted-is (ltb (getD columnsOf i 0) (48 + count)) x d (getD behindFirst i 0) (getD l (at + i) 0) (getD l (at + i + 1) 0) e f ∙ sym (ap (λ (n : ℕ). doubt n (getD l (at + i) 0) (getD l (at + i + 1) 0)) (letters-at count i k))
 
--- their places are those of `count` columns, and then anything may stand
-few-places : (count : ℕ) → 1 ≤ count → count ≤ 7 → 77 ∷ behindFirstOf count ≡ placesOf count ++ replicate (49 - count * 7) 46
-unfolding behindFirstOf used columnsOf behindFirst placesOf placesIn behind
-few-places zero h k = absurd (omega arith)
-few-places (suc zero) h k = refl
-few-places (suc (suc zero)) h k = refl
-few-places (suc (suc (suc zero))) h k = refl
-few-places (suc (suc (suc (suc zero)))) h k = refl
-few-places (suc (suc (suc (suc (suc zero))))) h k = refl
-few-places (suc (suc (suc (suc (suc (suc zero)))))) h k = refl
-few-places (suc (suc (suc (suc (suc (suc (suc zero))))))) h k = refl
-few-places (suc (suc (suc (suc (suc (suc (suc (suc n)))))))) h k = absurd (omega arith)
+-- their letters are those of `count` columns, and then anything may stand
+few-letters : (count : ℕ) → 1 ≤ count → count ≤ 7 → 77 ∷ behindFirstOf count ≡ lettersOf count ++ replicate (49 - count * 7) 46
+unfolding behindFirstOf used columnsOf behindFirst lettersOf lettersIn behind
+few-letters zero h k = absurd (omega arith)
+few-letters (suc zero) h k = refl
+few-letters (suc (suc zero)) h k = refl
+few-letters (suc (suc (suc zero))) h k = refl
+few-letters (suc (suc (suc (suc zero)))) h k = refl
+few-letters (suc (suc (suc (suc (suc zero))))) h k = refl
+few-letters (suc (suc (suc (suc (suc (suc zero)))))) h k = refl
+few-letters (suc (suc (suc (suc (suc (suc (suc zero))))))) h k = refl
+few-letters (suc (suc (suc (suc (suc (suc (suc (suc n)))))))) h k = absurd (omega arith)
 
 pub few-no-doubt : (l : List ℕ) (at count i doubts : ℕ) → 1 ≤ count → count ≤ 7 → at + 49 ≤ length l → 48 ≤ i → Counting (behindFirstOf count) l at doubts i → eqb doubts 0 ≡ true → eachFormed count (drop at l) ≡ true
 few-no-doubt l at count i doubts a b h k s z =
-    let e = none-of-all (behindFirstOf count) l at i doubts (omega (arith, 48-places count)) (s .sums) z in
+    let e = none-of-all (behindFirstOf count) l at i doubts (omega (arith, 48-letters count)) (s .sums) z in
     let f : count * 7 ≤ length (drop at l) = rw (length-drop at l) (omega arith) in
-    let g = doubts-append (placesOf count) (replicate (49 - count * 7) 46) 32 (drop at l) (rw (length-columns count) f) in
-    all-right count 32 (drop at l) f (omega (arith, ap (λ (ks : List ℕ). doubtsIn ks 32 (drop at l)) (few-places count a b)))
+    let g = doubts-append (lettersOf count) (replicate (49 - count * 7) 46) 32 (drop at l) (rw (length-columns count) f) in
+    all-right count 32 (drop at l) f (omega (arith, ap (λ (ks : List ℕ). doubtsIn ks 32 (drop at l)) (few-letters count a b)))

@@ -10,8 +10,8 @@ ghost use Rattle.form_columns.specs.Counted.{countedIf};
 use form_bytes::doubt_at;
 use format::Column;
 
-// The places of the bytes of seven columns behind the first byte, by the letters of form_bytes; and the column of each of these bytes, from 0 to 6.
-const PLACES: [u8; 48] = *b"mmmmmdMmmmmmdMmmmmmdMmmmmmdMmmmmmdMmmmmmdMmmmmmd";
+// The letters, those of form_bytes, of the bytes of seven columns behind the first byte; and the column of each of these bytes, from 0 to 6.
+const LETTERS: [u8; 48] = *b"mmmmmdMmmmmmdMmmmmmdMmmmmmdMmmmmmdMmmmmmdMmmmmmd";
 
 const COLUMNS: [u8; 48] = *b"000000111111122222223333333444444455555556666666";
 
@@ -28,13 +28,13 @@ fn ends_sure(bytes: &[u8], at: usize, end: usize) -> Ends
     ensures { λ r. ⌜ (r .front ≡ true → eachFormed 7 (drop at (now (bytes .entry))) ≡ true)
         × (r .back ≡ true → eachFormed 7 (drop end (now (bytes .entry))) ≡ true) ⌝ }
 {
-    let places = PLACES;
+    let letters = LETTERS;
     let mut front = doubt_at(b'M', b' ', bytes[at]);
     let mut back = doubt_at(b'M', b' ', bytes[end]);
     let mut i = 0;
     while i < 48 {
-        front = front + doubt_at(places[i], bytes[at + i], bytes[at + i + 1]);
-        back = back + doubt_at(places[i], bytes[end + i], bytes[end + i + 1]);
+        front = front + doubt_at(letters[i], bytes[at + i], bytes[at + i + 1]);
+        back = back + doubt_at(letters[i], bytes[end + i], bytes[end + i + 1]);
         i += 1;
     }
     Ends {
@@ -55,13 +55,13 @@ fn few_sure(bytes: &[u8], at: usize, count: u8) -> bool
     requires { ⌜ (1 ≤ count) × (count ≤ 7) × (at + 49 ≤ length (now bytes)) ⌝ }
     ensures { λ r. ⌜ (r ≡ true → eachFormed count (drop at (now (bytes .entry))) ≡ true) ⌝ }
 {
-    let places = PLACES;
+    let letters = LETTERS;
     let columns = COLUMNS;
     let end = b'0' + count;
     let mut doubts = doubt_at(b'M', b' ', bytes[at]);
     let mut i = 0;
     while i < 48 {
-        let doubt = doubt_at(places[i], bytes[at + i], bytes[at + i + 1]);
+        let doubt = doubt_at(letters[i], bytes[at + i], bytes[at + i + 1]);
         doubts = doubts + counted(columns[i] < end, doubt);
         i += 1;
     }

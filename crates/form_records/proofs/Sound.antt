@@ -1,4 +1,4 @@
--- No byte of a record is in doubt at the places of its layout exactly where the record can be told at once; and what callers make of that. Assumes nothing.
+-- No byte of a record is in doubt by the letters of its layout exactly where the record can be told at once; and what callers make of that. Assumes nothing.
 use mathlib.Core.Path.{_≡_, refl, sym}
 use mathlib.Core.Bool.{Bool, true, false, cond, _&&_, false≢true}
 use mathlib.Core.List.{List, [], _∷_, _++_}
@@ -11,21 +11,21 @@ use lib.ListN.{length, drop, getD, length-drop}
 use lib.Seq.{drop-drop, getD-drop}
 use Rattle.format.specs.Layout.{Rule, anySign, atLeast, range, within, oneOf, What, text, blank, integral, integralOrSpaces, Col, column, bytesOf, isFormed, isInside, allFormed, allInside, indexC, sheetB, sheetE, sheetF, header, element, gridHeader, netHeader, dataNote}
 use Rattle.format.proofs.Basics.{and-true, true-and}
-use Rattle.form_bytes.specs.Places.{placesFor, doubtsIn}
-use Rattle.form_bytes.specs.Told.{looserRule, looser, plain, toldAtOnce, hasPlaces}
+use Rattle.form_bytes.specs.Letters.{lettersFor, doubtsIn}
+use Rattle.form_bytes.specs.Told.{looserRule, looser, plain, toldAtOnce, hasLetters}
 use Rattle.form_bytes.proofs.Doubts.{doubts-append}
 use Rattle.form_bytes.proofs.Rules.{length-for}
 use Rattle.form_bytes.proofs.AtOnce.{at-once}
 use Rattle.form_records.specs.Sure.{allTold, sure}
 
--- ---- the places of a layout's bytes, and records of which no byte is in doubt, as the code counts
+-- ---- the letters of a layout's bytes, and records of which no byte is in doubt, as the code counts
 
-unfoldable pub placesOf : List Col → List ℕ
-placesOf [] = []
-placesOf (c ∷ cs) = placesFor (c .what) (c .width) ++ placesOf cs
+unfoldable pub lettersOf : List Col → List ℕ
+lettersOf [] = []
+lettersOf (c ∷ cs) = lettersFor (c .what) (c .width) ++ lettersOf cs
 
 unfoldable pub surely : List Col → List ℕ → Bool
-surely layout r = eqb (length r) 84 && eqb (doubtsIn (placesOf layout) 32 r) 0
+surely layout r = eqb (length r) 84 && eqb (doubtsIn (lettersOf layout) 32 r) 0
 
 -- a sum is 0 where both are
 pub zero-sum : (x y : ℕ) → eqb (x + y) 0 ≡ eqb x 0 && eqb y 0
@@ -37,23 +37,23 @@ zero-sum x y = go (eqb x 0) refl
         let n : x ≡ 0 → ⊥ = eqb-false x 0 e in
         ne-eqb (x + y) 0 (λ (p : x + y ≡ 0). n (omega arith))
 
--- every column has a byte and places of its own, and starts where the one before it ends; the last ends at 84
+-- every column has a byte and letters of its own, and starts where the one before it ends; the last ends at 84
 abbrev laidOut : ℕ → List Col → Bool
 laidOut at [] = eqb at 84
-laidOut at (c ∷ cs) = eqb (c .start) at && ((leb 1 (c .width) && hasPlaces (c .what) (c .width)) && laidOut (at + c .width) cs)
+laidOut at (c ∷ cs) = eqb (c .start) at && ((leb 1 (c .width) && hasLetters (c .what) (c .width)) && laidOut (at + c .width) cs)
 
 record Laid (at : ℕ) (c : Col) (cs : List Col) : Type 0 where
   start-is : c .start ≡ at
   has-byte : 1 ≤ c .width
-  has-places : hasPlaces (c .what) (c .width) ≡ true
+  has-letters : hasLetters (c .what) (c .width) ≡ true
   behind : laidOut (at + c .width) cs ≡ true
 
 laid : (at : ℕ) (c : Col) (cs : List Col) → laidOut at (c ∷ cs) ≡ true → Laid at c cs
 laid at c cs h =
-    let a = and-true (eqb (c .start) at) ((leb 1 (c .width) && hasPlaces (c .what) (c .width)) && laidOut (at + c .width) cs) h in
-    let b = and-true (leb 1 (c .width) && hasPlaces (c .what) (c .width)) (laidOut (at + c .width) cs) (a .1) in
-    let d = and-true (leb 1 (c .width)) (hasPlaces (c .what) (c .width)) (b .0) in
-    record { start-is = eqb-true (c .start) at (a .0); has-byte = leb-true 1 (c .width) (d .0); has-places = d .1; behind = b .1 }
+    let a = and-true (eqb (c .start) at) ((leb 1 (c .width) && hasLetters (c .what) (c .width)) && laidOut (at + c .width) cs) h in
+    let b = and-true (leb 1 (c .width) && hasLetters (c .what) (c .width)) (laidOut (at + c .width) cs) (a .1) in
+    let d = and-true (leb 1 (c .width)) (hasLetters (c .what) (c .width)) (b .0) in
+    record { start-is = eqb-true (c .start) at (a .0); has-byte = leb-true 1 (c .width) (d .0); has-letters = d .1; behind = b .1 }
 
 ends-by-84 : (at : ℕ) (cs : List Col) → laidOut at cs ≡ true → at ≤ 84
 ends-by-84 at [] h = omega (arith, eqb-true at 84 h)
@@ -72,17 +72,17 @@ module _ (r : List ℕ) (whole : length r ≡ 84) where
   next-before zero at p h = absurd (omega arith)
   next-before (suc v) at p h = rw (add-suc at v) (getD-drop at r v 0)
 
-  columns-told : (cs : List Col) (at : ℕ) → laidOut at cs ≡ true → eqb (doubtsIn (placesOf cs) (byteBefore at) (drop at r)) 0 ≡ allTold cs r
-  unfolding placesOf doubtsIn allTold column
+  columns-told : (cs : List Col) (at : ℕ) → laidOut at cs ≡ true → eqb (doubtsIn (lettersOf cs) (byteBefore at) (drop at r)) 0 ≡ allTold cs r
+  unfolding lettersOf doubtsIn allTold column
   columns-told [] at h = refl
   columns-told (c ∷ cs) at h =
       let a = laid at c cs h in
       let w = c .width in
-      let k = placesFor (c .what) w in
+      let k = lettersFor (c .what) w in
       let n : at + w ≤ 84 = ends-by-84 (at + w) cs (a .behind) in
       let f : w ≤ length (drop at r) = rw (length-drop at r) (omega arith) in
-      let s = doubts-append k (placesOf cs) (byteBefore at) (drop at r) (rw (length-for (c .what) w) f) in
-      let t = at-once (c .what) w (byteBefore at) (drop at r) (a .has-places) (a .has-byte) f in
+      let s = doubts-append k (lettersOf cs) (byteBefore at) (drop at r) (rw (length-for (c .what) w) f) in
+      let t = at-once (c .what) w (byteBefore at) (drop at r) (a .has-letters) (a .has-byte) f in
       let i = columns-told cs (at + w) (a .behind) in
       rw (s, length-for (c .what) w, next-before w at (byteBefore at) (a .has-byte), drop-drop w at r, zero-sum, t, i, a .start-is)
 
@@ -90,7 +90,7 @@ pub surely-sure : (layout : List Col) → laidOut 0 layout ≡ true → (r : Lis
 unfolding surely sure
 surely-sure layout h r = go (eqb (length r) 84) refl
   where
-    go : (t : Bool) → eqb (length r) 84 ≡ t → t && eqb (doubtsIn (placesOf layout) 32 r) 0 ≡ t && allTold layout r
+    go : (t : Bool) → eqb (length r) 84 ≡ t → t && eqb (doubtsIn (lettersOf layout) 32 r) 0 ≡ t && allTold layout r
     go true e = columns-told r (eqb-true (length r) 84 e) layout 0 h
     go false e = refl
 

@@ -3,17 +3,17 @@
 use borrow.Author.Needs.{needs}
 use Prim.Native.Nat.{_-_, _≤_}
 use native.Mathlib.Omega.{arith}
-use Rattle.form_bytes.specs.Places.{behind, placesIn}
+use Rattle.form_bytes.specs.Letters.{behind, lettersIn}
 use Rattle.form_bytes.proofs.Doubts.{at-most-one}
-use Rattle.form_columns.proofs.Doubts.{placesOf, behindFirst, Counting, first-doubt, next-doubt, no-doubt}
+use Rattle.form_columns.proofs.Doubts.{lettersOf, behindFirst, Counting, first-doubt, next-doubt, no-doubt}
 use Rattle.form_columns.proofs.ends_sure.Statement.{statement}
 use Rattle.form_columns.proofs.ends_sure.Tie as tie
 
 abbrev Inv-loop : tie.InvT-loop
-Inv-loop bytes at end places front₀ back₀ i₀ front back i = (i ≤ 48) × Counting behindFirst bytes at front i × Counting behindFirst bytes end back i
+Inv-loop bytes at end letters front₀ back₀ i₀ front back i = (i ≤ 48) × Counting behindFirst bytes at front i × Counting behindFirst bytes end back i
 
 abbrev μ-loop : tie.MeasureT-loop
-μ-loop bytes at end places front₀ back₀ i₀ front back i = 48 - i
+μ-loop bytes at end letters front₀ back₀ i₀ front back i = 48 - i
 
 shared-slice-read-doubt-at : tie.Need-shared-slice-read-doubt-at Inv-loop μ-loop
 shared-slice-read-doubt-at c = search needs
@@ -85,7 +85,7 @@ loop-less : tie.Need-loop-less Inv-loop μ-loop
 loop-less c = search needs
 
 loop-again : tie.Need-loop-again Inv-loop μ-loop
-unfolding behindFirst placesOf placesIn behind
+unfolding behindFirst lettersOf lettersIn behind
 loop-again c = search (needs, next-doubt)
 
 returns : tie.Need-returns Inv-loop μ-loop

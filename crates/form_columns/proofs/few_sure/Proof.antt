@@ -3,17 +3,17 @@
 use borrow.Author.Needs.{needs}
 use Prim.Native.Nat.{_-_, _≤_}
 use native.Mathlib.Omega.{arith}
-use Rattle.form_bytes.specs.Places.{behind, placesIn}
-use Rattle.form_columns.proofs.Doubts.{placesOf, columnsOf, behindFirst, behindFirstOf, Counting, counted-small, few-first-doubt, few-next-doubt, few-no-doubt}
+use Rattle.form_bytes.specs.Letters.{behind, lettersIn}
+use Rattle.form_columns.proofs.Doubts.{lettersOf, columnsOf, behindFirst, behindFirstOf, Counting, counted-small, few-first-doubt, few-next-doubt, few-no-doubt}
 use Rattle.form_columns.proofs.few_sure.Statement.{statement}
 use Rattle.form_columns.proofs.few_sure.Tie as tie
 
 abbrev Inv-loop : tie.InvT-loop
-Inv-loop bytes at count places columns end doubts₀ i₀ doubts i =
+Inv-loop bytes at count letters columns end doubts₀ i₀ doubts i =
     (i ≤ 48) × Counting (behindFirstOf count) bytes at doubts i
 
 abbrev μ-loop : tie.MeasureT-loop
-μ-loop bytes at count places columns end doubts₀ i₀ doubts i = 48 - i
+μ-loop bytes at count letters columns end doubts₀ i₀ doubts i = 48 - i
 
 add-end : tie.Need-add-end Inv-loop μ-loop
 add-end c = search needs
@@ -64,7 +64,7 @@ loop-less : tie.Need-loop-less Inv-loop μ-loop
 loop-less c = search needs
 
 loop-again : tie.Need-loop-again Inv-loop μ-loop
-unfolding columnsOf behindFirst placesOf placesIn behind
+unfolding columnsOf behindFirst lettersOf lettersIn behind
 loop-again c = (search needs, few-next-doubt _ _ _ (search needs) _ _ _ _ (c .counted .ensures) (c .before .doubt-at2 .ensures .is) (search needs) (search needs))
 
 returns : tie.Need-returns Inv-loop μ-loop

@@ -13,10 +13,10 @@ use Rattle.form_records.proofs.middle_doubts.Lts as lts
 use Rattle.form_bytes.proofs.doubt_at.Reads as doubt-at-reads
 
 abbrev Inv-loop : tie.InvT-loop
-Inv-loop «record» places doubts₀ i₀ doubts i = (i ≤ 80) × (doubts ≤ i) × (doubts + doubtsFrom places «record» i ≡ allDoubts places «record»)
+Inv-loop «record» letters doubts₀ i₀ doubts i = (i ≤ 80) × (doubts ≤ i) × (doubts + doubtsFrom letters «record» i ≡ allDoubts letters «record»)
 
 abbrev μ-loop : tie.MeasureT-loop
-μ-loop «record» places doubts₀ i₀ doubts i = 80 - i
+μ-loop «record» letters doubts₀ i₀ doubts i = 80 - i
 
 -- src/lib.rt:39:5
 loop-holds : tie.Need-loop-holds Inv-loop μ-loop
