@@ -2,6 +2,7 @@
 use files::Stride;
 use records::Entry;
 use records::Held;
+use records::Tally;
 ghost use mathlib.Core.Path.{_≡_};
 ghost use Prim.Native.Nat.{_+_, _<_, _≤_};
 ghost use Rattle.records.specs.Entry.{entryOf, dataFaultOf, statesCounts};
@@ -37,7 +38,7 @@ pub(crate) fn data_fault_at(file: &[u8], extent: Extent, k: usize, held: Held, b
 }
 
 // Whether the header at record k states this tally.
-pub(crate) fn counts_agree_at(file: &[u8], extent: Extent, k: usize, tally: &[usize; 10]) -> bool
+pub(crate) fn counts_agree_at(file: &[u8], extent: Extent, k: usize, tally: &Tally) -> bool
     ensures { λ r. ⌜ r ≡ statesCounts (recordAt (now (file .entry)) extent k) (now (tally .entry)) ⌝ }
 {
     records::counts_agree(record_at(file, extent, k), tally)

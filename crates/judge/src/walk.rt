@@ -3,6 +3,7 @@
 use super::body_records;
 use super::body_records::Extent;
 use records::Entry;
+use records::Tally;
 ghost use mathlib.Core.Path.{_≡_};
 ghost use Prim.Native.Nat.{_<_, _≤_};
 ghost use Rattle.format.specs.Basics.{first};
@@ -41,7 +42,7 @@ pub(crate) struct WalkedBody {
     pub at: usize,
     pub next: usize,
     pub low: usize,
-    pub tally: [usize; 10],
+    pub tally: Tally,
     pub seen: Seen,
 }
 
@@ -104,7 +105,7 @@ fn passed_group(next: usize, low: usize, seen: Seen) -> WalkedGroup
     }
 }
 
-fn passed_body(next: usize, low: usize, tally: [usize; 10], seen: Seen) -> WalkedBody
+fn passed_body(next: usize, low: usize, tally: Tally, seen: Seen) -> WalkedBody
     ensures { λ r. ⌜ r ≡ passedBodyOf next low tally seen ⌝ }
 {
     WalkedBody {
