@@ -155,8 +155,8 @@ module _ (block : List ℕ) where
     picked true a b = refl
     picked false a b = refl
 
-    is-block : blockItem block ≡ cond (isBlock (view r) (drop 1 (map view (recordsOf Plain block)))) (given (record { count = countIndex ((view r) .kind); level = (view r) .level })) (refused 12 0)
-    is-block = block-records ∙ ap itemIn views-are ∙ picked (isBlock (view r) (drop 1 (map view (recordsOf Plain block)))) (given (record { count = countIndex ((view r) .kind); level = (view r) .level })) (refused 12 0)
+    is-block : blockItem block ≡ cond (isBlock (view r) (drop 1 (map view (recordsOf Plain block)))) (given (record { countIndex = countIndex ((view r) .kind); level = (view r) .level })) (refused 12 0)
+    is-block = block-records ∙ ap itemIn views-are ∙ picked (isBlock (view r) (drop 1 (map view (recordsOf Plain block)))) (given (record { countIndex = countIndex ((view r) .kind); level = (view r) .level })) (refused 12 0)
 
     refuse : isBlock (view r) (drop 1 (map view (recordsOf Plain block))) ≡ false → blockAnswer NoItem ≡ blockItem block
     unfolding blockAnswer

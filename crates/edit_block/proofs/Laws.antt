@@ -28,12 +28,12 @@ pub record OneItem (views : List View) (kind level : ℕ) : Type 0 where
   pub high : level ≤ 9
   pub kind-most : kind ≤ 9
 
-abbrev placed : (count level : ℕ) → Answer BlockItem
-placed count level = given (record { count = count; level = level })
+abbrev placed : (index level : ℕ) → Answer BlockItem
+placed index level = given (record { countIndex = index; level = level })
 
 abbrev itemOf : Answer BlockItem → BlockItem
 itemOf (given i) = i
-itemOf (refused n r) = record { count = 0; level = 0 }
+itemOf (refused n r) = record { countIndex = 0; level = 0 }
 
 abbrev no-item : Answer BlockItem
 no-item = refused 12 0
@@ -44,7 +44,7 @@ is-item v ds kind level t e =
     let b = and-true (fine (walk 8 0 nothing 0 0 (v ∷ ds))) _ (a .1) in
     let g : Good 8 v = good 8 nothing v ((walk-passes 8 0 nothing 0 0 (v ∷ ds) (fine-none _ (b .0))) .0 .0) in
     let i : isHead (v .kind) ≡ false = not-true _ (a .0) in
-    let k : kind ≡ countIndex (v .kind) = ap (λ (a : Answer BlockItem). (itemOf a) .count) e in
+    let k : kind ≡ countIndex (v .kind) = ap (λ (a : Answer BlockItem). (itemOf a) .countIndex) e in
     let l : level ≡ v .level = ap (λ (a : Answer BlockItem). (itemOf a) .level) e in
     record { no-fault = rw t; kind-is = k; level-is = l; low = rw l (rw (item-low (v .kind) i) at (g .low)); high = rw l (rw (item-high (v .kind) i) at (g .high)); kind-most = rw k (g .known) }
 

@@ -221,7 +221,7 @@ one-item-decides block = decides-by (there (blockOf block) refl) back
     back o = rw (block-records block o) (surely (item-decides (o .start) (o .rest)) (o .isItem, o .passes, o .asMany, o .restPasses))
 
 -- a block alone
-pub block-item : (block : List ℕ) (o : OneItem block) → blockItem block ≡ given (record { count = countIndex ((view (o .start)) .kind); level = (view (o .start)) .level })
+pub block-item : (block : List ℕ) (o : OneItem block) → blockItem block ≡ given (record { countIndex = countIndex ((view (o .start)) .kind); level = (view (o .start)) .level })
 unfolding blockItem
 block-item block o = rw (fault12-is (map view (blockOf block)), surely (one-item-decides block) o, block-records block o)
 

@@ -67,7 +67,7 @@ edited-one-to-one (Edited.Refused n r) (Edited.Refused m s) e = cc
 
 pub block-one-to-one : (a b : Block) → blockAnswer a ≡ blockAnswer b → a ≡ b
 unfolding blockAnswer
-block-one-to-one (Block.Item n m) (Block.Item k l) e = ap₂ Block.Item (ap (λ (a : Answer BlockItem). (valueOf (record { count = n; level = m }) a) .count) e) (ap (λ (a : Answer BlockItem). (valueOf (record { count = n; level = m }) a) .level) e)
+block-one-to-one (Block.Item n m) (Block.Item k l) e = ap₂ Block.Item (ap (λ (a : Answer BlockItem). (valueOf (record { countIndex = n; level = m }) a) .countIndex) e) (ap (λ (a : Answer BlockItem). (valueOf (record { countIndex = n; level = m }) a) .level) e)
 block-one-to-one (Block.Item n m) Block.NoItem e = cc
 block-one-to-one Block.NoItem (Block.Item n m) e = cc
 block-one-to-one Block.NoItem Block.NoItem e = refl

@@ -121,7 +121,7 @@ unfolding call
 edits-judge-first edit b number at e = rw e
 
 -- a block alone is its first record's count and level exactly when it is "exactly one item that passes 4 to 9 but for nesting, level 2..9", else 12
-pub blocks-that-are-items : (block : List ℕ) (o : OneItem block) → blockItem block ≡ given (record { count = countIndex ((view (o .start)) .kind); level = (view (o .start)) .level })
+pub blocks-that-are-items : (block : List ℕ) (o : OneItem block) → blockItem block ≡ given (record { countIndex = countIndex ((view (o .start)) .kind); level = (view (o .start)) .level })
 blocks-that-are-items = block-item
 
 pub blocks-that-are-none : (block : List ℕ) → (OneItem block → ⊥) → blockItem block ≡ refused 12 0

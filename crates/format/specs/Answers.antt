@@ -60,7 +60,7 @@ stepFor (Edited.Refused n r) used bytes = record { reply = editedAnswer (Edited.
 
 -- a block alone: the item that it is, or 12 at record 0
 unfoldable pub blockAnswer : Block → Answer BlockItem
-blockAnswer (Block.Item count level) = given (record { count = count; level = level })
+blockAnswer (Block.Item countIndex level) = given (record { countIndex = countIndex; level = level })
 blockAnswer Block.NoItem = refused 12 0
 
 -- the way up: the header above, and how many headers were passed; "For a layer header: none, 0"

@@ -147,16 +147,16 @@ module _ (list : RecordList) (place : ℕ) where
 abbrev pub blockOf : List ℕ → List (List ℕ)
 blockOf block = cond (eqb (length block % 84) 0) (chunks (length block / 84) block) []
 
--- ---- A block alone: the item that it is, by the count of a header that it belongs to and its level; else 12, "block is not exactly one item that
+-- ---- A block alone: the item that it is, by which of a header's ten counts counts it, and its level; else 12, "block is not exactly one item that
 -- passes 4 to 9 but for nesting, level 2..9"
 pub record BlockItem : Type 0 where
-  pub count : ℕ
+  pub countIndex : ℕ
   pub level : ℕ
 
 abbrev pub itemIn : List View → Answer BlockItem
 itemIn block =
     cond (eqb (fault12 block) 0)
-    (given (record { count = countIndex ((getD block 0 absent) .kind); level = (getD block 0 absent) .level }))
+    (given (record { countIndex = countIndex ((getD block 0 absent) .kind); level = (getD block 0 absent) .level }))
     (refused 12 0)
 
 unfoldable pub blockItem : List ℕ → Answer BlockItem

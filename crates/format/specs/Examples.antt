@@ -124,7 +124,7 @@ table =
     -- from the second data record: the layer's header, one header passed
     upwards example 9 6 1 ∷
     -- a block alone: a line, the second of a header's kinds, of level 2; 12 of no block, of one without its last record, of a header
-    alone (rows item) (given (record { count = 2; level = 2 })) ∷
+    alone (rows item) (given (record { countIndex = 2; level = 2 })) ∷
     alone [] (refused 12 0) ∷
     alone (take 168 (rows item)) (refused 12 0) ∷
     alone (bytes layer) (refused 12 0) ∷
