@@ -14,7 +14,7 @@ use Rattle.files.specs.Records.{strideOf, recordsOf}
 use Rattle.files.proofs.Records.{plain-records, record-is, record-wide}
 use Rattle.format.specs.Normal.{normalRecord}
 use Rattle.normal.specs.declared.due.FileDue.{FileDue}
-use Rattle.normal.specs.Due.{dueAfter, columnsDue, rewritten}
+use Rattle.normal.specs.Due.{nextInFile, columnsDue, rewritten}
 
 -- ---- `copy`
 
@@ -80,7 +80,7 @@ module _ (buffer second second₀ second′ : List ℕ) (n k : ℕ) (due due′ 
   pub kept-again : drop (84 * k) second ≡ drop (84 * k) second₀ → drop (84 * (k + 1)) second′ ≡ drop (84 * (k + 1)) second₀
   kept-again e = kept second (normalRecord (columnsDue due r) r) second′ k (omega arith) is same second₀ e
 
-  pub written-again : (whole : List ℕ) → r ≡ getD (recordsOf Plain buffer) k [] → due′ ≡ dueAfter due r → 84 * n ≤ length buffer → take (84 * k) second ++ flat (rewritten due (chunks (n - k) (drop (84 * k) buffer))) ≡ whole → take (84 * (k + 1)) second′ ++ flat (rewritten due′ (chunks (n - (k + 1)) (drop (84 * (k + 1)) buffer))) ≡ whole
+  pub written-again : (whole : List ℕ) → r ≡ getD (recordsOf Plain buffer) k [] → due′ ≡ nextInFile due r → 84 * n ≤ length buffer → take (84 * k) second ++ flat (rewritten due (chunks (n - k) (drop (84 * k) buffer))) ≡ whole → take (84 * (k + 1)) second′ ++ flat (rewritten due′ (chunks (n - (k + 1)) (drop (84 * (k + 1)) buffer))) ≡ whole
   unfolding rewritten
   written-again whole er next room e =
       ap (λ (x : List ℕ). x ++ flat (rewritten due′ (chunks (n - (k + 1)) (drop (84 * (k + 1)) buffer)))) (front second (normalRecord (columnsDue due r) r) second′ k (omega arith) is same)

@@ -21,7 +21,7 @@ use Rattle.part_and_index.proofs.due.Due.{the-type}
 use Rattle.part_and_index.proofs.WalkLaws.{due-still}
 use Rattle.normal.specs.declared.due.FileDue.{FileDue}
 use Rattle.normal.specs.declared.due.FileDue.the-variants.{Sheet, Index, Entry, Data}
-use Rattle.normal.specs.Due.{behindPart, dueData, behindEntry, dueAfter, letterColumns, partColumns, columnsDue}
+use Rattle.normal.specs.Due.{behindPart, dueData, behindEntry, nextInFile, letterColumns, partColumns, columnsDue}
 use Rattle.normal.proofs.Layouts.{form-stays}
 
 -- ---- `behind_part`
@@ -49,24 +49,24 @@ pub entry-behind : (r : List ℕ) (e : Declared.Entry) (d : FileDue) → e ≡ e
 unfolding behindEntry
 entry-behind r e d h k = k ∙ rw h
 
--- ---- `due_after`
+-- ---- `next_in_file`
 
 module _ (due : FileDue) (r : List ℕ) where
-  pub after-sheet : (part next : Due) (d : FileDue) → due ≡ Sheet part → next ≡ Part.nextDue part r → d ≡ behindPart next → d ≡ dueAfter due r
-  unfolding dueAfter
+  pub after-sheet : (part next : Due) (d : FileDue) → due ≡ Sheet part → next ≡ Part.nextDue part r → d ≡ behindPart next → d ≡ nextInFile due r
+  unfolding nextInFile
   after-sheet part next d h e k = k ∙ rw (h, e)
 
-  pub after-index : (part next : Due) → due ≡ Index part → next ≡ Part.nextDue part r → Index next ≡ dueAfter due r
-  unfolding dueAfter
+  pub after-index : (part next : Due) → due ≡ Index part → next ≡ Part.nextDue part r → Index next ≡ nextInFile due r
+  unfolding nextInFile
   after-index part next h e = rw (h, e)
 
   module _ (d : FileDue) where
-    pub after-entry : due ≡ Entry → d ≡ behindEntry r → d ≡ dueAfter due r
-    unfolding dueAfter
+    pub after-entry : due ≡ Entry → d ≡ behindEntry r → d ≡ nextInFile due r
+    unfolding nextInFile
     after-entry h k = k ∙ rw h
 
-    pub after-data : (held : Held) (behind : ℕ) → due ≡ Data held behind → d ≡ dueData held behind → d ≡ dueAfter due r
-    unfolding dueAfter
+    pub after-data : (held : Held) (behind : ℕ) → due ≡ Data held behind → d ≡ dueData held behind → d ≡ nextInFile due r
+    unfolding nextInFile
     after-data held behind h k = k ∙ rw h
 
 -- ---- `rewrite_entry`

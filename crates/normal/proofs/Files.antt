@@ -37,7 +37,7 @@ use Rattle.part_and_index.specs.Due as Part
 use Rattle.part_and_index.specs.Due.{dueIn, dueAt}
 use Rattle.part_and_index.proofs.DueLaws.{phase-after, stage-after}
 use Rattle.normal.specs.declared.due.FileDue.the-variants as Due
-use Rattle.normal.specs.Due.{behindPart, dueData, behindEntry, dueAfter, letterColumns, partColumns, columnsDue, rewritten, writtenTo}
+use Rattle.normal.specs.Due.{behindPart, dueData, behindEntry, nextInFile, letterColumns, partColumns, columnsDue, rewritten, writtenTo}
 
 -- ---- an index
 
@@ -49,7 +49,7 @@ stage-columns (Index.due-c cs) = refl
 stage-columns Index.over = refl
 
 stage-form : (p : Index.Stage) (rs : List (List ℕ)) → Wide rs → rewritten (Due.Index (dueAt p)) rs ≡ normalStage p rs
-unfolding rewritten columnsDue dueAfter Wide
+unfolding rewritten columnsDue nextInFile Wide
 stage-form p [] w = refl
 stage-form p (r ∷ rs) w = rw (stage-columns p, stage-after r (w .0) p, stage-form (Index.after p r) rs (w .1))
 
@@ -75,7 +75,7 @@ phase-over (Sheet.due-f unit wholes more fs) = refl
 phase-over Sheet.body = refl
 
 part-form : (p : Sheet.Phase) (rs : List (List ℕ)) → Wide rs → rewritten (behindPart (dueIn p)) rs ≡ normalPart p (take (partFrom Sheet.sheetMachine p rs) rs) ++ rewritten Due.Entry (drop (partFrom Sheet.sheetMachine p rs) rs)
-unfolding rewritten behindPart columnsDue dueAfter Wide
+unfolding rewritten behindPart columnsDue nextInFile Wide
 part-form p [] w = refl
 part-form p (r ∷ rs) w = go (Sheet.isOver p) refl (part-form (Sheet.after p r) rs (w .1))
   where
@@ -156,7 +156,7 @@ module _ (l : List ℕ) (whole : length l ≡ 84) (opened : ℕ) (held : Data) (
 -- ---- the body: what the code keeps is what the walk keeps
 
 body-form : (rs : List (List ℕ)) (opened due : ℕ) (held : Held) → Wide rs → Passes opened due (toData held) (map view rs) → rewritten (dueData held due) rs ≡ normalBody due (toData held) rs
-unfolding rewritten Wide dueAfter dueData columnsDue behindEntry
+unfolding rewritten Wide nextInFile dueData columnsDue behindEntry
 body-form [] opened due held wide p = refl
 body-form (r ∷ rs) opened zero held wide p =
     let e = entryOf r in

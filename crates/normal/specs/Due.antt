@@ -31,11 +31,11 @@ unfoldable pub behindEntry : List ℕ → FileDue
 behindEntry r = dueData ((entryOf r) .held) ((entryOf r) .«data_records»)
 
 -- ---- behind a record, whatever was due there
-unfoldable pub dueAfter : FileDue → List ℕ → FileDue
-dueAfter (Sheet due) r = behindPart (Part.nextDue due r)
-dueAfter (Index due) r = Index (Part.nextDue due r)
-dueAfter Entry r = behindEntry r
-dueAfter (Data held behind) r = dueData held behind
+unfoldable pub nextInFile : FileDue → List ℕ → FileDue
+nextInFile (Sheet due) r = behindPart (Part.nextDue due r)
+nextInFile (Index due) r = Index (Part.nextDue due r)
+nextInFile Entry r = behindEntry r
+nextInFile (Data held behind) r = dueData held behind
 
 -- ---- the columns of the record that is due
 -- a header or an item, by its first byte: 'H' is 72, 'E' 69, 'G' 71, 'T' 84
@@ -68,7 +68,7 @@ columnsDue (Data held behind) r = dataColumns (toData held) behind
 -- ---- the records of a file, from the record that is due first
 unfoldable pub rewritten : FileDue → List (List ℕ) → List (List ℕ)
 rewritten due [] = []
-rewritten due (r ∷ rs) = normalRecord (columnsDue due r) r ∷ rewritten (dueAfter due r) rs
+rewritten due (r ∷ rs) = normalRecord (columnsDue due r) r ∷ rewritten (nextInFile due r) rs
 
 -- "writes to a second buffer (else 15) ..; the second buffer past the file stays"
 unfoldable pub writtenTo : (used : ℕ) → List (List ℕ) → (second : List ℕ) → Outcome ℕ

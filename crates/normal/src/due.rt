@@ -1,7 +1,7 @@
 // Which record of a file is due: the records follow each other from the front, and each is read by its own layout. The order of the records of a sheet part
 // and of an index is that of crate part_and_index; behind a sheet part come headers, items and their data records.
 ghost use mathlib.Core.Path.{_≡_};
-ghost use Rattle.normal.specs.Due.{behindPart, dueData, behindEntry, dueAfter};
+ghost use Rattle.normal.specs.Due.{behindPart, dueData, behindEntry, nextInFile};
 use part_and_index::Due;
 use records::Held;
 
@@ -45,8 +45,8 @@ fn behind_entry(record: &[u8]) -> FileDue
 }
 
 // What is due behind a record.
-pub(crate) fn due_after(due: FileDue, record: &[u8]) -> FileDue
-    ensures { λ r. ⌜ r ≡ dueAfter due (now («record» .entry)) ⌝ }
+pub(crate) fn next_in_file(due: FileDue, record: &[u8]) -> FileDue
+    ensures { λ r. ⌜ r ≡ nextInFile due (now («record» .entry)) ⌝ }
 {
     match due {
         FileDue::Sheet(part) => behind_part(part_and_index::next_due(part, record)),

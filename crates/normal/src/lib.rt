@@ -104,7 +104,7 @@ fn write_records(buffer: &[u8], n: usize, first: FileDue, second: &mut [u8])
     while k < n {
         let record = files::record_at(buffer, Stride::Plain, k);
         write_at(record, due, second, k);
-        due = due::due_after(due, record);
+        due = due::next_in_file(due, record);
         k += 1;
     }
 }

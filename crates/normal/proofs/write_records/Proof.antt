@@ -27,8 +27,8 @@ record-at-requires c κs = search needs
 write-at-requires : tie.Need-write-at-requires Inv-loop μ-loop
 write-at-requires c κs = (search record-long, search needs)
 
-due-after-requires : tie.Need-due-after-requires Inv-loop μ-loop
-due-after-requires c κs = search needs
+next-in-file-requires : tie.Need-next-in-file-requires Inv-loop μ-loop
+next-in-file-requires c κs = search needs
 
 add-k : tie.Need-add-k Inv-loop μ-loop
 add-k c = search needs
@@ -54,7 +54,7 @@ write-records-spec =
     loop-holds
     record-at-requires
     write-at-requires
-    due-after-requires
+    next-in-file-requires
     add-k
     loop-less
     loop-again

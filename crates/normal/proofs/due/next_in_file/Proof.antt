@@ -1,8 +1,8 @@
--- `normal::due::due_after` meets its contract, by what was due. Assumes nothing.
+-- `normal::due::next_in_file` meets its contract, by what was due. Assumes nothing.
 use Rattle.normal.proofs.DueSteps.{after-sheet, after-index, after-entry, after-data}
 use borrow.Author.Needs.{needs}
-use Rattle.normal.proofs.due.due_after.Statement.{statement}
-use Rattle.normal.proofs.due.due_after.Tie as tie
+use Rattle.normal.proofs.due.next_in_file.Statement.{statement}
+use Rattle.normal.proofs.due.next_in_file.Tie as tie
 
 enum-known-due : tie.Need-enum-known-due
 enum-known-due c = search needs
@@ -43,8 +43,8 @@ returns-3 c = search after-entry
 returns-4 : tie.Need-returns-4
 returns-4 c = search after-data
 
-pub due-after-spec : {M : Type 1} → statement M
-due-after-spec =
+pub next-in-file-spec : {M : Type 1} → statement M
+next-in-file-spec =
     tie.close
     (tie.spec
     enum-known-due
