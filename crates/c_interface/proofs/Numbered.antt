@@ -1,26 +1,23 @@
 -- Every refusal of every call has a number of at least 1, and so has every header that the way up answers. Assumes nothing.
 use mathlib.Core.Path.{_≡_, refl}
 use mathlib.Core.Bool.{Bool, true, false, cond, _&&_}
-use mathlib.Core.List.{List, [], _∷_, _++_, map}
-use Prim.Native.Nat.{ℕ, zero, suc, _+_, _-_, _/_}
+use mathlib.Core.List.{List, _++_, map}
+use Prim.Native.Nat.{ℕ, zero, suc, _+_, _-_, _/_, _<_}
 use native.Mathlib.Omega.{arith}
 use borrow.Author.Tests.{eqb-false}
 use lib.Dec.{leb, ltb, eqb}
 use lib.ListN.{length, drop}
 use lib.IntN.{ℤ}
-use Rattle.format.specs.Basics.{Answer, given, refused, Outcome, Fault, none, fault, orElse, toFault, unless, stageOneOk, chunks, flat}
+use Rattle.format.specs.Basics.{Answer, given, refused, Outcome, chunks, flat}
 use Rattle.format.specs.Column.{readAlone, writeAlone, columnAnswer, columnOf, widthOk, fits, written}
 use Rattle.format.specs.declared.Column.{Column}
 use Rattle.format.specs.declared.Column.the-variants.{Value, MinusZero, Malformed}
 use Rattle.format.specs.Corner.{isUnit, fractionOk, millimetres, join, gives, split}
 use Rattle.format.proofs.Corners.{wholeOf, fractionOf}
-use Rattle.format.specs.Record.{Data, nothing, View, view}
-use Rattle.format.specs.Part.{Machine, partFrom, partFault}
-use Rattle.format.specs.Sheet.{sheetFault, sheetMachine}
-use Rattle.format.specs.Sheet as Sheet
-use Rattle.format.specs.Index.{indexFault, indexMachine}
-use Rattle.format.specs.Index as Index
-use Rattle.format.specs.Judge.{openAfter, dueAfter, heldAfter, ownerAfter, faultAt, missing, walk, headersAndItems, headerCountFault, countFault, items, File, fileOf, sheetCountFault, bodyFault, Counts, verdict, judge, afterPart, judgeRecords, judgeIndexRecords, afterStageOne, judgeSheet, judgeIndex}
+use Rattle.format.proofs.ChecksJudging.{sheet-numbered}
+use Rattle.format.proofs.ChecksIndex.{index-numbered}
+use Rattle.format.specs.Record.{view}
+use Rattle.format.specs.Judge.{File, fileOf, Counts, judgeSheet, judgeIndex}
 use Rattle.format.specs.Above.{Way, noHeader, toHeader, aboveAt, headersMet, up}
 use Rattle.format.specs.Above as Above
 use Rattle.format.specs.Edit.{RecordList, blockOf, insertFault, inserted, remove11, removed}
@@ -36,72 +33,17 @@ chosen : {A : Type 0} (P : A → Type 0) (t : Bool) {a b : A} → P a → P b �
 chosen P true p q = p
 chosen P false p q = q
 
--- ---- faults
-data Clean : Fault → Type 0 where
-  fine : Clean none
-  wrong : {n at : ℕ} → Clean (fault (suc n) at)
-
-or-else : {a b : Fault} → Clean a → Clean b → Clean (orElse a b)
-or-else fine q = q
-or-else wrong q = wrong
-
-to-fault : (n i : ℕ) → Clean (toFault n i)
-to-fault zero i = fine
-to-fault (suc n) i = wrong
-
-part-fault : (M : Machine) (p : M .Phase) (i : ℕ) (rs : List (List ℕ)) → Clean (partFault M p i rs)
-part-fault M p i [] = chosen Clean (M .over p) fine wrong
-part-fault M p i (r ∷ rs) = chosen Clean (M .over p) fine (or-else (to-fault (M .wrong p r) i) (part-fault M (M .step p r) (suc i) rs))
-
-missing-fault : (due owner : ℕ) → Clean (missing due owner)
-missing-fault zero owner = fine
-missing-fault (suc due) owner = wrong
-
-walk-fault : (opened due : ℕ) (held : Data) (owner number : ℕ) (rs : List View) → Clean (walk opened due held owner number rs)
-walk-fault opened due held owner number [] = missing-fault due owner
-walk-fault opened due held owner number (r ∷ rs) =
-    or-else (to-fault (faultAt opened due held r) number) (walk-fault (openAfter opened due r) (dueAfter due r) (heldAfter due held r) (ownerAfter due owner number) (suc number) rs)
-
-count-fault : (due number : ℕ) (rs : List View) → Clean (countFault due number rs)
-count-fault due number [] = fine
-count-fault zero number (r ∷ rs) = or-else (to-fault (headerCountFault r (headersAndItems (dueAfter zero r) rs)) number) (count-fault (dueAfter zero r) (suc number) rs)
-count-fault (suc due) number (r ∷ rs) = count-fault due (suc number) rs
-
-body-fault : (f : File) → Clean (bodyFault f)
-body-fault f = or-else (walk-fault 0 0 nothing 0 (suc (f .partLength)) (f .body)) (or-else (to-fault (sheetCountFault f) 2) (count-fault 0 (suc (f .partLength)) (f .body)))
-
 -- ---- judging
-verdict-numbered : {a : Fault} (n m : ℕ) → Clean a → Numbered (verdict a n m)
-verdict-numbered n m fine = answers
-verdict-numbered n m wrong = refuses
-
-judge-numbered : (f : File) → Numbered (judge f)
-unfolding judge
-judge-numbered f = verdict-numbered (f .partLength + length (f .body)) (items (headersAndItems 0 (f .body))) (body-fault f)
-
-after-part : {a : Fault} {b : Answer Counts} → Clean a → Numbered b → Numbered (afterPart a b)
-after-part fine q = q
-after-part wrong q = refuses
-
-records-numbered : (rs : List (List ℕ)) → Numbered (judgeRecords rs)
-unfolding judgeRecords sheetFault
-records-numbered rs = after-part (part-fault sheetMachine Sheet.due-a 1 rs) (judge-numbered (fileOf rs))
-
-index-numbered : (rs : List (List ℕ)) → Numbered (judgeIndexRecords rs)
-unfolding judgeIndexRecords indexFault
-index-numbered rs = verdict-numbered (length rs) 0 (or-else (part-fault indexMachine Index.due-a 1 rs) (to-fault (unless (eqb (length rs) (partFrom indexMachine Index.due-a rs)) 10) 1))
-
-stage-one : (t : Bool) {a : Answer Counts} → Numbered a → Numbered (afterStageOne t a)
-stage-one true p = p
-stage-one false p = refuses
+with-number : (answer : Answer Counts) → ((number at : ℕ) → answer ≡ refused number at → 0 < number) → Numbered answer
+with-number (given counts) some = answers
+with-number (refused zero at) some = absurd (omega (arith, some 0 at refl))
+with-number (refused (suc n) at) some = refuses
 
 pub judged-sheet : (used : ℕ) (buffer : List ℕ) → Numbered (judgeSheet used buffer)
-unfolding judgeSheet
-judged-sheet used buffer = stage-one (stageOneOk used buffer) (records-numbered (chunks (used / 84) buffer))
+judged-sheet used buffer = with-number (judgeSheet used buffer) (sheet-numbered used buffer)
 
 pub judged-index : (used : ℕ) (buffer : List ℕ) → Numbered (judgeIndex used buffer)
-unfolding judgeIndex
-judged-index used buffer = stage-one (stageOneOk used buffer) (index-numbered (chunks (used / 84) buffer))
+judged-index used buffer = with-number (judgeIndex used buffer) (index-numbered used buffer)
 
 given-or : {A : Type 0} (n : ℕ) (t : Bool) (a : A) → Numbered (cond t (given a) (refused (suc n) 0))
 given-or n true a = answers

@@ -3,7 +3,7 @@ use mathlib.Core.Path.{_≡_, refl, ap, sym, _∙_}
 use mathlib.Core.Logic.{inl, inr, _↔_, _≢_}
 use mathlib.Core.Bool.{Bool, true, false, cond, false≢true}
 use mathlib.Core.List.{List, [], _∷_, _++_}
-use Prim.Native.Nat.{ℕ, suc, _/_}
+use Prim.Native.Nat.{ℕ, suc, _/_, _<_}
 use native.Mathlib.Omega.{arith}
 use lib.Dec.{eqb, eqb·suc-zero, eqb·suc-suc}
 use lib.ListN.{length, length-append}
@@ -16,6 +16,7 @@ use Rattle.format.proofs.Lists.{length-chunks}
 use Rattle.format.proofs.ChecksOrder.{Says, says-map}
 use Rattle.format.proofs.ChecksParts.{index-first}
 use Rattle.format.proofs.ChecksWalks.{records-fault, fault-exactly, none-exactly, orElse-assoc}
+use Rattle.format.proofs.ChecksJudging.{fault-number, refusal-numbered}
 use Rattle.format.proofs.ChecksStages.{Third, passed, failed, stage-one-says, refusal-exactly, accepted-exactly}
 
 -- ---- Stage two
@@ -111,3 +112,11 @@ module _ (used : ℕ) (buffer : List ℕ) where
 
   pub index-accepted : (n m : ℕ) → judgeIndex used buffer ≡ accepted n m ↔ (((number at : ℕ) → IndexRefusal used buffer number at → ⊥) × (n ≡ used / 84) × (m ≡ 0))
   index-accepted = accepted-exactly (StageOneFails used buffer) (IndexStageTwo rs) Left (stageOneOk used buffer) (partFault indexMachine due-a 1 rs) (leftOverFault rs) (used / 84) 0 (judgeIndex used buffer) (stage-one-says used buffer) (index-two-exactly rs) (λ e. index-third rs) (λ a b x y. x .1 ∙ sym (y .1)) is-judged
+
+  -- each refusal has a number
+  pub index-numbered : (n k : ℕ) → judgeIndex used buffer ≡ refused n k → 0 < n
+  index-numbered n k e = refusal-numbered n k two ((index-refused n k) .0 e)
+    where
+      two : IndexStageTwo rs n k → 0 < n
+      two (inl f) = omega (arith, (fault-number indexWalk due-a 1 rs n k f) .0)
+      two (inr y) = omega (arith, y .0)

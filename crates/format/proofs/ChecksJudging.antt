@@ -2,7 +2,7 @@
 use mathlib.Core.Path.{_≡_, refl, ap, sym, _∙_}
 use mathlib.Core.Logic.{_⊎_, inl, inr, _↔_, _≢_}
 use mathlib.Core.List.{List, map}
-use Prim.Native.Nat.{ℕ, suc, _+_, _/_, _≤_}
+use Prim.Native.Nat.{ℕ, suc, _+_, _/_, _≤_, _<_}
 use native.Mathlib.Omega.{arith}
 use lib.ListN.{length, drop}
 use Rattle.format.specs.Basics.{refused, Fault, none, fault, orElse, chunks, stageOneOk}
@@ -10,7 +10,7 @@ use Rattle.format.specs.Record.{nothing, view}
 use Rattle.format.specs.Part.{partFrom, partFault}
 use Rattle.format.specs.Sheet.{due-a, sheetMachine, partLength, sheetFault}
 use Rattle.format.specs.Judge.{fileOf, walk, headersAndItems, items, accepted, verdict, judge, afterPart, afterStageOne, judgeRecords, judgeSheet}
-use Rattle.format.specs.Checks.{Walk, FirstOf, Faults, inOrder, FirstFault, StageOneFails, Ten, StageTwo, SheetRefusal}
+use Rattle.format.specs.Checks.{Walk, FirstOf, Faults, inOrder, FirstFault, StageOneFails, Ten, StageTwo, SheetRefusal, Refusal, stageOne, stageTwo, stageThree, sheetWalk, ofPart}
 use Rattle.format.proofs.JudgeWalks.{Passes, orElse-none, walk-passes}
 use Rattle.format.proofs.ChecksOrder.{first-is}
 use Rattle.format.proofs.AcceptedSheet.{accepted-by, all-records}
@@ -70,3 +70,16 @@ fault-number W due i records n k f = go (record-number _ n (f .fails))
     go : OfRecord n → (2 ≤ n) × (n ≤ 9) × (n ≢ 3)
     go (inl z, u, ne) = absurd (f .some z)
     go (inr l, u, ne) = (l, u, ne)
+
+-- so each refusal has a number
+pub refusal-numbered : {One : Type 0} {Two : (number at : ℕ) → Type 0} {Three : (at : ℕ) → Type 0} (n k : ℕ) → (Two n k → 0 < n) → Refusal One Two Three n k → 0 < n
+refusal-numbered n k two (stageOne x a b) = omega arith
+refusal-numbered n k two (stageTwo x y) = two y
+refusal-numbered n k two (stageThree x y a t) = omega arith
+
+pub sheet-numbered : (used : ℕ) (buffer : List ℕ) (n k : ℕ) → judgeSheet used buffer ≡ refused n k → 0 < n
+sheet-numbered used buffer n k e = refusal-numbered n k two ((sheet-refused used buffer n k) .0 e)
+  where
+    two : StageTwo (chunks (used / 84) buffer) n k → 0 < n
+    two (inl f) = omega (arith, (fault-number sheetWalk (ofPart due-a) 1 (chunks (used / 84) buffer) n k f) .0)
+    two (inr y) = omega (arith, y .0)
