@@ -1,6 +1,6 @@
--- Moves of bytes in the code's own words: what one store does to a buffer that is being moved, filled or copied into, and two moves in a row.
+-- Moves of bytes in the code's own words: what one store does to a buffer that is being moved or filled, and two moves in a row.
 -- Assumes nothing.
-use mathlib.Core.Path.{_≡_, sym, _∙_}
+use mathlib.Core.Path.{_≡_, ap, sym, _∙_}
 use mathlib.Core.List.{List, [], _∷_, _++_, append-assoc, append-nil}
 use Prim.Native.Nat.{ℕ, suc, _+_, _-_, _<_, _≤_}
 use native.Mathlib.Nat.{sub-self}
@@ -9,6 +9,8 @@ use native.Mathlib.Numerals.{add-one}
 use lib.ListN.{take-append-drop, length-replicate, length, take, drop, getD, set, replicate, length-append, List·getD-append, replicate-append-replicate}
 use lib.Seq.{take-append-le, take-take, take-at, drop-at, drop-append-add, drop-drop, length-slice, slice-empty, slice, slice-cons, take-suc, set-at, getD-take, getD-drop, getD-append-add, length-take-le, drop-append-le}
 use Rattle.format.proofs.Lists.{one-more}
+use Rattle.files.specs.Buffers.{putAt}
+use Rattle.files.proofs.Buffers.{put-there}
 
 -- moving up: the byte at i goes to i + n
 pub up : (l r b : List ℕ) (i n t : ℕ) → i < t → t + n ≤ length l → b ≡ take (suc (i + n)) l ++ (slice (suc i) t l ++ r) → set b (i + n) (getD b i 0) ≡ take (i + n) l ++ (slice i t l ++ r)
@@ -70,12 +72,13 @@ down-step l b at n i ai il h =
     rw byte (one-more l (take at l ++ slice (at + n) i l) b (i - n) (getD l i 0) len (omega arith) h ∙ rw (append-assoc (take at l) (slice (at + n) i l) (getD l i 0 ∷ []), e, slice-snoc (at + n) i l ai il))
 
 -- a gap opened and filled
-pub inserted : (l s m b : List ℕ) (used at : ℕ) → at ≤ used → used + length s ≤ length l → m ≡ take (at + length s) l ++ (slice at used l ++ drop (used + length s) l) → b ≡ take at m ++ (s ++ drop (at + length s) m) → b ≡ take at l ++ (s ++ (slice at used l ++ drop (used + length s) l))
+pub inserted : (l s m b : List ℕ) (used at : ℕ) → at ≤ used → used + length s ≤ length l → m ≡ take (at + length s) l ++ (slice at used l ++ drop (used + length s) l) → b ≡ putAt m at s → b ≡ take at l ++ (s ++ (slice at used l ++ drop (used + length s) l))
 inserted l s m b used at au ul hm hb =
     let len : length (take (at + length s) l) ≡ at + length s = length-take-le (at + length s) l (omega arith) in
     let front : take at m ≡ take at l = rw hm (take-append-le at (take (at + length s) l) (slice at used l ++ drop (used + length s) l) (omega arith) ∙ take-take at (at + length s) l (omega arith)) in
     let back : drop (at + length s) m ≡ slice at used l ++ drop (used + length s) l = rw hm (drop-at (take (at + length s) l) (slice at used l ++ drop (used + length s) l) (at + length s) len) in
-    hb ∙ rw (front, back)
+    let room : at + length s ≤ length m = omega (arith, ap length hm ∙ length-append (take (at + length s) l) (slice at used l ++ drop (used + length s) l), len) in
+    hb ∙ put-there m at s room ∙ rw (front, back)
 
 -- bytes moved down and the freed end filled
 pub closed : (l m b : List ℕ) (used at n v : ℕ) → at + n ≤ used → used ≤ length l → m ≡ take at l ++ (slice (at + n) used l ++ drop (used - n) l) → b ≡ take (used - n) m ++ (replicate (used - (used - n)) v ++ drop used m) → b ≡ take at l ++ (slice (at + n) used l ++ (replicate n v ++ drop used l))

@@ -16,10 +16,6 @@ movedDown bytes used at n = take at bytes ++ (slice (at + n) used bytes ++ drop 
 abbrev pub filled : (bytes : List ℕ) → (from to byte : ℕ) → List ℕ
 filled bytes from to byte = take from bytes ++ (replicate (to - from) byte ++ drop to bytes)
 
--- a block copied in from `at` on
-abbrev pub copiedIn : (bytes : List ℕ) → (at : ℕ) → (block : List ℕ) → List ℕ
-copiedIn bytes at block = take at bytes ++ (block ++ drop (at + length block) bytes)
-
 -- a block put in: what follows within the used length moves up
 abbrev pub putIn : (bytes : List ℕ) → (used at : ℕ) → (block : List ℕ) → List ℕ
 putIn bytes used at block = take at bytes ++ (block ++ (slice at used bytes ++ drop (used + length block) bytes))

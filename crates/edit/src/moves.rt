@@ -2,7 +2,7 @@
 ghost use mathlib.Core.Path.{_≡_};
 ghost use Prim.Native.Nat.{_+_, _≤_};
 ghost use lib.ListN.{length};
-ghost use Rattle.edit.specs.Moves.{movedUp, movedDown, filled, copiedIn, putIn, takenOut};
+ghost use Rattle.edit.specs.Moves.{movedUp, movedDown, filled, putIn, takenOut};
 
 // Moves the bytes from `at` to `used` up by n places. The n bytes from `at` on stay as they were.
 fn open_gap(buffer: &mut [u8], used: usize, at: usize, n: usize)
@@ -40,18 +40,6 @@ fn fill(buffer: &mut [u8], from: usize, to: usize, byte: u8)
     }
 }
 
-// Copies all of a block into the buffer, from `at` on.
-fn copy_in(buffer: &mut [u8], at: usize, block: &[u8])
-    requires { ⌜ at + length (now block) ≤ length (now buffer) ⌝ }
-    ensures { λ _. ⌜ now (buffer .exit) ≡ copiedIn (now (buffer .entry)) at (now (block .entry)) ⌝ }
-{
-    let mut j = 0;
-    while j < block.len() {
-        buffer[at + j] = block[j];
-        j += 1;
-    }
-}
-
 // Takes the n bytes from `at` on out: what follows them within `used` moves down, and the freed end is filled with spaces.
 pub(crate) fn take_out(buffer: &mut [u8], used: usize, at: usize, n: usize)
     requires { ⌜ (at + n ≤ used) × (used ≤ length (now buffer)) ⌝ }
@@ -67,5 +55,5 @@ pub(crate) fn put_in(buffer: &mut [u8], used: usize, at: usize, block: &[u8])
     ensures { λ _. ⌜ now (buffer .exit) ≡ putIn (now (buffer .entry)) used at (now (block .entry)) ⌝ }
 {
     open_gap(buffer, used, at, block.len());
-    copy_in(buffer, at, block);
+    files::put_at(buffer, at, block);
 }

@@ -1,8 +1,9 @@
-// The records of a file in a lent buffer: where each stands, how many there are, and stage one of judging. A file has its records end to end, or
-// each with a line end behind it; the walks above take the stride and serve both.
+// The records of a file in a lent buffer: where each stands, how many there are, and stage one of judging; and bytes put into a buffer. A file has its
+// records end to end, or each with a line end behind it; the walks above take the stride and serve both.
 ghost use mathlib.Core.Path.{_≡_};
 ghost use mathlib.Core.List.{[]};
 ghost use lib.ListN.{length, getD};
+ghost use Rattle.files.specs.Buffers.{putAt};
 ghost use Rattle.files.specs.Records.{strideOf, recordsOf, lengthOk};
 
 // Bytes of a record.
@@ -67,4 +68,21 @@ pub fn length_ok(buffer: &[u8], used: usize, stride: Stride) -> bool
         return false;
     }
     used <= each * MOST
+}
+
+// Puts bytes at a place of a buffer; nothing where they have no room there.
+pub fn put_at(buffer: &mut [u8], at: usize, bytes: &[u8])
+    ensures { λ _. ⌜ now (buffer .exit) ≡ putAt (now (buffer .entry)) at (now (bytes .entry)) ⌝ }
+{
+    if buffer.len() < at {
+        return;
+    }
+    if buffer.len() - at < bytes.len() {
+        return;
+    }
+    let mut i = 0;
+    while i < bytes.len() {
+        buffer[at + i] = bytes[i];
+        i += 1;
+    }
 }

@@ -11,7 +11,9 @@ use lib.Seq.{take-set-le}
 use Rattle.format.specs.Column.{digitsIn, digits}
 use Rattle.format.proofs.Lists.{drop-set}
 use Rattle.format.proofs.Columns.{Size, below, above, size-of, length-one, length-more}
-use Rattle.report.specs.Steps.{placed, lastDigits, storedDigits}
+use Rattle.files.specs.Buffers.{putAt}
+use Rattle.files.proofs.Buffers.{put-there}
+use Rattle.report.specs.Steps.{lastDigits, storedDigits}
 
 -- ---- the loop: `left` is what is still to be counted, `count` one more than the digits counted
 module _ (n left count : ℕ) (h : 10 ≤ left) (b : left < 10 ^ (21 - count)) (c : count ≤ 20) where
@@ -85,6 +87,6 @@ last zero n h = last-one n h
 last (suc f) n h = last-next f n (size-of n) (last f) h
 
 -- a number of 64 bits stored whole
-pub digits-placed : (out : List ℕ) (at n : ℕ) → n < 2 ^ 64 → at + length (digits n) ≤ length out → storedDigits out at (length (digits n)) n ≡ placed out at (digits n)
-unfolding digits placed
-digits-placed out at n b h = stored-is (length (digitsIn 19 n)) out at n h ∙ ap (λ (l : List ℕ). take at out ++ (l ++ drop (at + length (digitsIn 19 n)) out)) (sym (last 19 n (omega arith)))
+pub digits-put : (out : List ℕ) (at n : ℕ) → n < 2 ^ 64 → at + length (digits n) ≤ length out → storedDigits out at (length (digits n)) n ≡ putAt out at (digits n)
+unfolding digits
+digits-put out at n b h = stored-is (length (digitsIn 19 n)) out at n h ∙ ap (λ (l : List ℕ). take at out ++ (l ++ drop (at + length (digitsIn 19 n)) out)) (sym (last 19 n (omega arith))) ∙ sym (put-there out at (digitsIn 19 n) h)

@@ -3,4 +3,3 @@ pub mod Digits
 pub mod Laws
 pub mod Lines
 pub mod Starts
-pub mod Texts

@@ -1,15 +1,11 @@
--- How the code puts the line together: texts and digits at places of a buffer. Assumes nothing.
+-- How the code puts the line together: digits in a buffer, and the texts and numbers of a line. Assumes nothing.
 use mathlib.Core.List.{List, [], _∷_, _++_}
 use Prim.Native.Nat.{ℕ, zero, suc, _+_, _/_, _%_}
-use lib.ListN.{length, take, drop, set}
+use lib.ListN.{set}
 use Rattle.format.specs.Column.{digits}
 use Rattle.format.specs.declared.Judged.{Judged}
 use Rattle.format.specs.Program.{lineOf}
 use Rattle.format.specs.Answers.{judgedAnswer}
-
--- the buffer with a text at a place; what stands before and behind it stays
-unfoldable pub placed : List ℕ → (at : ℕ) → (text : List ℕ) → List ℕ
-placed out at text = take at out ++ (text ++ drop (at + length text) out)
 
 -- the last `count` digits of a number
 unfoldable pub lastDigits : (count n : ℕ) → List ℕ

@@ -8,7 +8,8 @@ ghost use Rattle.format.specs.Text.{begins};
 ghost use Rattle.format.specs.Answers.{judgedAnswer, writtenAnswer};
 ghost use Rattle.format.specs.Program.{judgeInput};
 ghost use Rattle.format.specs.Program.{lineTo, reportTo};
-ghost use Rattle.report.specs.Steps.{placed, numberLine, lineFor};
+ghost use Rattle.files.specs.Buffers.{putAt};
+ghost use Rattle.report.specs.Steps.{numberLine, lineFor};
 use format::Judged;
 use format::Written;
 
@@ -28,22 +29,10 @@ fn count_digits(n: u64) -> usize
     count
 }
 
-// Puts a text at a place of a buffer.
-fn put_text(out: &mut [u8], at: usize, text: &[u8])
-    requires { ⌜ at + length (now text) ≤ length (now out) ⌝ }
-    ensures { λ _. ⌜ now (out .exit) ≡ placed (now (out .entry)) at (now (text .entry)) ⌝ }
-{
-    let mut i = 0;
-    while i < text.len() {
-        out[at + i] = text[i];
-        i += 1;
-    }
-}
-
 // Puts the digits of a number at a place of a buffer.
 fn put_digits(out: &mut [u8], at: usize, n: u64)
     requires { ⌜ at + length (digits n) ≤ length (now out) ⌝ }
-    ensures { λ _. ⌜ now (out .exit) ≡ placed (now (out .entry)) at (digits n) ⌝ }
+    ensures { λ _. ⌜ now (out .exit) ≡ putAt (now (out .entry)) at (digits n) ⌝ }
 {
     let mut left = n;
     let mut i = count_digits(n);
@@ -58,9 +47,9 @@ fn put_digits(out: &mut [u8], at: usize, n: u64)
 fn put_pair(out: &mut [u8], at: usize, text: &[u8], n: u64) -> usize
     requires { ⌜ at + length (now text) + length (digits n) ≤ length (now out) ⌝ }
     ensures { λ r. ⌜ (r ≡ at + length (now (text .entry)) + length (digits n))
-        × (now (out .exit) ≡ placed (now (out .entry)) at (now (text .entry) ++ digits n)) ⌝ }
+        × (now (out .exit) ≡ putAt (now (out .entry)) at (now (text .entry) ++ digits n)) ⌝ }
 {
-    put_text(out, at, text);
+    files::put_at(out, at, text);
     let behind = at + text.len();
     put_digits(out, behind, n);
     behind + count_digits(n)
@@ -73,7 +62,7 @@ fn put_text_line(out: &mut [u8], text: &[u8]) -> Written
     if out.len() < text.len() {
         return Written::Refused(15, 0);
     }
-    put_text(out, 0, text);
+    files::put_at(out, 0, text);
     Written::Bytes(text.len())
 }
 
@@ -97,7 +86,7 @@ fn put_number_line(
     }
     let at = put_pair(out, 0, first, a);
     let at = put_pair(out, at, second, b);
-    put_text(out, at, third);
+    files::put_at(out, at, third);
     Written::Bytes(length)
 }
 

@@ -5,7 +5,7 @@ use Prim.Native.Nat.{_≤_}
 use mathlib.Core.Path.{_≡_, refl, _∙_}
 use lib.ListN.{length, length-set}
 use native.Mathlib.Omega.{arith}
-use Rattle.report.proofs.Digits.{one-stored, none-left, digits-placed}
+use Rattle.report.proofs.Digits.{one-stored, none-left, digits-put}
 use Rattle.format.specs.Column.{digits}
 use Rattle.report.specs.Steps.{storedDigits}
 use Rattle.report.proofs.put_digits.Statement.{statement}
@@ -54,7 +54,7 @@ returns : tie.Need-returns Inv-loop μ-loop
 returns c =
     let a = c .before .before .before .before .args in
     let k = c .before .loop in
-    none-left (k .out) (a .at) (k .i) (k .left) (omega arith) ∙ k .inv .2 ∙ digits-placed (a .out .now) (a .at) (a .n) (search needs) (search needs)
+    none-left (k .out) (a .at) (k .i) (k .left) (omega arith) ∙ k .inv .2 ∙ digits-put (a .out .now) (a .at) (a .n) (search needs) (search needs)
 
 pub put-digits-spec : {M : Type 1} → statement M
 put-digits-spec =

@@ -31,8 +31,8 @@ put-pair-requires c κs = search needs
 put-pair-requires-2 : tie.Need-put-pair-requires-2
 put-pair-requires-2 c κs = search needs
 
-put-text-requires : tie.Need-put-text-requires
-put-text-requires c κs = search needs
+put-at-requires : tie.Need-put-at-requires
+put-at-requires c κs = search needs
 
 same-length : tie.Need-same-length
 same-length c = search needs
@@ -53,6 +53,6 @@ put-number-line-spec =
     returns
     put-pair-requires
     put-pair-requires-2
-    put-text-requires
+    put-at-requires
     same-length
     returns-2)

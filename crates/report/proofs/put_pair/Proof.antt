@@ -1,11 +1,11 @@
 -- `report::put_pair` meets its contract. Assumes nothing.
 use borrow.Author.Needs.{needs}
-use Rattle.report.proofs.Lines.{pair-placed}
+use Rattle.report.proofs.Lines.{pair-put}
 use Rattle.report.proofs.put_pair.Statement.{statement}
 use Rattle.report.proofs.put_pair.Tie as tie
 
-put-text-requires : tie.Need-put-text-requires
-put-text-requires c κs = search needs
+put-at-requires : tie.Need-put-at-requires
+put-at-requires c κs = search needs
 
 add-behind : tie.Need-add-behind
 add-behind c = search needs
@@ -23,13 +23,13 @@ same-length : tie.Need-same-length
 same-length c = search needs
 
 returns : tie.Need-returns
-returns c = search (needs, pair-placed)
+returns c = search (needs, pair-put)
 
 pub put-pair-spec : {M : Type 1} → statement M
 put-pair-spec =
     tie.close
     (tie.spec
-    put-text-requires
+    put-at-requires
     add-behind
     put-digits-requires
     count-digits-requires

@@ -7,8 +7,8 @@ use Rattle.report.proofs.put_text_line.Tie as tie
 returns : tie.Need-returns
 returns c = search no-room
 
-put-text-requires : tie.Need-put-text-requires
-put-text-requires c κs = search needs
+put-at-requires : tie.Need-put-at-requires
+put-at-requires c κs = search needs
 
 same-length : tie.Need-same-length
 same-length c = search needs
@@ -17,4 +17,4 @@ returns-2 : tie.Need-returns-2
 returns-2 c = search put-whole
 
 pub put-text-line-spec : {M : Type 1} → statement M
-put-text-line-spec = tie.close (tie.spec returns put-text-requires same-length returns-2)
+put-text-line-spec = tie.close (tie.spec returns put-at-requires same-length returns-2)
