@@ -6,6 +6,6 @@ use lib.Dec.{leb}
 use lib.ListN.{length}
 use Rattle.format.specs.Layout.{splice}
 
--- some bytes put at a place: what stands before and behind them stays. All stays where they have no room there
+-- bytes put into a buffer, from `at` on: what stands before and behind them stays. All stays where they have no room there
 unfoldable pub putAt : (buffer : List ℕ) → (at : ℕ) → (bytes : List ℕ) → List ℕ
 putAt buffer at bytes = cond (leb (at + length bytes) (length buffer)) (splice at (length bytes) bytes buffer) buffer

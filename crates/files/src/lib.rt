@@ -70,7 +70,7 @@ pub fn length_ok(buffer: &[u8], used: usize, stride: Stride) -> bool
     used <= each * MOST
 }
 
-// Puts bytes at a place of a buffer; nothing where they have no room there.
+// Puts bytes into a buffer, from `at` on; nothing where they have no room there.
 pub fn put_at(buffer: &mut [u8], at: usize, bytes: &[u8])
     ensures { λ _. ⌜ now (buffer .exit) ≡ putAt (now (buffer .entry)) at (now (bytes .entry)) ⌝ }
 {

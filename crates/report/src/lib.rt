@@ -29,7 +29,7 @@ fn count_digits(n: u64) -> usize
     count
 }
 
-// Puts the digits of a number at a place of a buffer.
+// Puts the digits of a number into a buffer, from `at` on.
 fn put_digits(out: &mut [u8], at: usize, n: u64)
     requires { ⌜ at + length (digits n) ≤ length (now out) ⌝ }
     ensures { λ _. ⌜ now (out .exit) ≡ putAt (now (out .entry)) at (digits n) ⌝ }
@@ -43,7 +43,7 @@ fn put_digits(out: &mut [u8], at: usize, n: u64)
     }
 }
 
-// Puts a text and the digits of a number behind it at a place of a buffer, and answers the place behind them.
+// Puts a text and the digits of a number behind it into a buffer, from `at` on, and answers where they end.
 fn put_pair(out: &mut [u8], at: usize, text: &[u8], n: u64) -> usize
     requires { ⌜ at + length (now text) + length (digits n) ≤ length (now out) ⌝ }
     ensures { λ r. ⌜ (r ≡ at + length (now (text .entry)) + length (digits n))
