@@ -139,8 +139,7 @@ fn open_body(file: &[u8], extent: Extent, part: SheetPart) -> Sheet
     requires { ⌜ (ExtentOf (now file) extent) × (part .length ≤ extent .records) ⌝ }
     ensures { λ r. ⌜ r ≡ bodySheet (now (file .entry)) extent part ⌝ }
 {
-    let first = body_records::begin(file, part.length);
-    let body = walk::walk_body(file, extent, first, 0, walk::seen_none(first));
+    let body = walk::walk_whole(file, extent, part.length);
     if body.number != 0 {
         return refused(body.number, body.at);
     }

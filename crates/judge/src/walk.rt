@@ -133,7 +133,7 @@ fn last_before(k: usize, before: usize, latest: usize) -> usize
 }
 
 // What a walk has seen where it begins, behind the sheet part.
-pub(crate) fn seen_none(part: usize) -> Seen
+fn seen_none(part: usize) -> Seen
     ensures { λ r. ⌜ r ≡ seenNone part ⌝ }
 {
     Seen {
@@ -198,13 +198,7 @@ fn walk_group(file: &[u8], extent: Extent, k: usize, open_level: usize, seen: Se
 }
 
 // The headers and items one level below the open one, from record k on.
-pub(crate) fn walk_body(
-    file: &[u8],
-    extent: Extent,
-    k: usize,
-    open_level: usize,
-    given: Seen,
-) -> WalkedBody
+fn walk_body(file: &[u8], extent: Extent, k: usize, open_level: usize, given: Seen) -> WalkedBody
     requires { ⌜ (ExtentOf (now file) extent) × (k ≤ extent .records) × («open_level» ≤ 8) × (SeenUpTo k given) ⌝ }
     ensures { λ r. ⌜ Body (now (file .entry)) extent k «open_level» given r ⌝ }
 {
@@ -242,4 +236,13 @@ pub(crate) fn walk_body(
         }
     }
     passed_body(at, low, tally, seen)
+}
+
+// All of the body, behind a sheet part of so many records.
+pub(crate) fn walk_whole(file: &[u8], extent: Extent, part: usize) -> WalkedBody
+    requires { ⌜ (ExtentOf (now file) extent) × (part ≤ extent .records) ⌝ }
+    ensures { λ r. ⌜ Body (now (file .entry)) extent part 0 (seenNone part) r ⌝ }
+{
+    let first = body_records::begin(file, part);
+    walk_body(file, extent, first, 0, seen_none(first))
 }
