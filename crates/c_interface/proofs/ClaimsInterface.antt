@@ -9,7 +9,7 @@ use Rattle.format.specs.Basics.{Answer, given, refused}
 use Rattle.format.specs.Column.{readAlone, writeAlone}
 use Rattle.format.specs.Corner.{Corner, join, split}
 use Rattle.format.specs.Judge.{Counts, judgeSheet, judgeIndex}
-use Rattle.format.specs.Above.{Way, noHeader, toHeader, up}
+use Rattle.format.specs.Above.{Way, toHeader, up}
 use Rattle.format.specs.Calls.{Edit}
 use Rattle.format.specs.Run.{Buffer, call}
 use Rattle.format.specs.Normal.{normalSheet, normalIndex}

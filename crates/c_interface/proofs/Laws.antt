@@ -1,9 +1,9 @@
 -- An answer's case, as the struct that C sees. Assumes nothing.
-use mathlib.Core.Path.{_≡_, refl, ap, sym, _∙_}
+use mathlib.Core.Path.{_≡_, refl, ap, _∙_}
 use mathlib.Core.List.{List}
 use Prim.Native.Nat.{ℕ}
 use lib.IntN.{ℤ, pos}
-use Rattle.format.specs.Basics.{Answer, given, refused, Outcome}
+use Rattle.format.specs.Basics.{Answer, Outcome}
 use Rattle.format.specs.Column.{writeAlone}
 use Rattle.format.specs.Corner.{Corner, join, split}
 use mir.Syntax.{w64}

@@ -12,7 +12,7 @@ ghost use Rattle.format.specs.Run.{call};
 ghost use Rattle.format.specs.Normal.{normalSheet, normalIndex};
 ghost use Rattle.format.specs.Answers.{numberAnswer, writtenAnswer, partsAnswer, judgedAnswer, wayUpAnswer, editedAnswer};
 ghost use Rattle.format.specs.Program.{reportTo};
-ghost use Rattle.c_interface.specs.Interface.{numberOf, cornerOf, countsOf, lengthOf, wayOf, Wrote, wroteOf, editedOf};
+ghost use Rattle.c_interface.specs.Interface.{numberOf, cornerOf, countsOf, lengthOf, wayOf, wroteOf, editedOf};
 use format::Edited;
 use format::Judged;
 use format::Number;

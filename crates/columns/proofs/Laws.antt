@@ -2,26 +2,22 @@
 -- written, and reads as that number. Assumes nothing.
 use mathlib.Core.Path.{_≡_, refl, ap, sym, _∙_}
 use mathlib.Core.Bool.{Bool, true, false, cond, _&&_}
-use mathlib.Core.List.{List, [], _∷_}
-use Prim.Native.Nat.{ℕ, zero, suc, _+_, _^_, _≤_, _<_}
-use native.Mathlib.Nat.{pow-suc}
+use mathlib.Core.List.{List}
+use Prim.Native.Nat.{ℕ, _+_, _≤_}
 use native.Mathlib.Omega.{arith}
-use borrow.Author.Tests.{lt-ltb, le-leb, leb-true}
-use lib.Dec.{eqb, leb}
-use lib.IntN.{ℤ, pos, negsuc, negℤ, natAbs}
+use borrow.Author.Tests.{le-leb, leb-true}
+use lib.Dec.{leb}
+use lib.IntN.{ℤ}
 use lib.ListN.{length}
-use Rattle.format.specs.declared.Column.the-variants.{Value, MinusZero, Malformed}
-use Rattle.format.specs.Column.{strip, valueOf, isNumber, positive, signed, columnOf, textOf, fits, written}
+use Rattle.format.specs.declared.Column.the-variants.{Value, Malformed}
+use Rattle.format.specs.Column.{columnOf, fits, written}
 use Rattle.format.specs.Layout.{column, splice}
 use Rattle.format.proofs.Basics.{and-true}
-use Rattle.format.proofs.Columns.{Byte, v-space, v-minus, v-digit, v-other, byte, length-column, length-written, length-splice, column-own}
+use Rattle.format.proofs.Columns.{length-column, length-written, length-splice, column-own}
 use Rattle.format.proofs.NormalReads.{read-fits}
 use Rattle.format.proofs.ColumnRoundTrip.{reads-back}
 use Rattle.columns.specs.declared.State.{State}
-use Rattle.columns.specs.declared.State.the-variants.{Blank, Signed, Digits, Bad}
-use Rattle.columns.specs.ReadSteps.{finishOf, numberKept, run}
 use Rattle.columns.specs.InRecord.{columnAt, Rewritten, writeAt}
-use Rattle.columns.proofs.Reading.{run-small, signed-run, means}
 
 -- ---- A COLUMN INSIDE A RECORD
 

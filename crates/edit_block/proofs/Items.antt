@@ -8,7 +8,7 @@ use borrow.Author.Tests.{eq-eqb, ne-eqb, eqb-true, le-leb, leb-true, not-true, n
 use lib.Dec.{eqb, leb}
 use lib.ListN.{length, drop, getD, length-drop, length-map}
 use Rattle.format.specs.Basics.{Answer, given, refused, unless, fine}
-use Rattle.format.specs.Record.{Kind, head, item, neither, isHead, countIndex, Data, nothing, View, view}
+use Rattle.format.specs.Record.{Kind, isHead, countIndex, Data, nothing, View, view}
 use Rattle.format.specs.Judge.{lowestLevel, highestLevel, openAfter, faultAt, walk}
 use Rattle.format.specs.Edit.{BlockItem, itemIn, blockItem, isBlock, blockOf}
 use Rattle.format.proofs.Basics.{and-true}

@@ -1,9 +1,9 @@
 -- The judged columns of an item's data records. Assumes nothing.
 use mathlib.Core.Path.{_≡_, refl, sym, _∙_}
-use mathlib.Core.Logic.{_⊎_, inl, inr, _↔_}
+use mathlib.Core.Logic.{inl, inr}
 use mathlib.Core.Bool.{Bool, true, false}
-use mathlib.Core.List.{List, [], _∷_}
-use Prim.Native.Nat.{ℕ, zero, suc, _+_, _-_, _*_, _≤_, _<_}
+use mathlib.Core.List.{List, _∷_}
+use Prim.Native.Nat.{ℕ, zero, suc, _+_, _-_, _*_, _<_}
 use native.Mathlib.Omega.{arith}
 use native.Mathlib.Nat.{mul-add}
 use lib.Dec.{eqb}
@@ -11,7 +11,7 @@ use Rattle.format.specs.Basics.{roundUp}
 use Rattle.format.specs.Layout.{numberAt, element, gridHeader, netHeader}
 use Rattle.format.specs.Record.{RecordType, H, E1, E2, E3, E4, E5, E6, E7, E8, G, T, other, typeOf, usedIn, dataOf, dataColumns, viewAs, view, headerView, elementView, gridView, netView, otherView, gridStates}
 use Rattle.format.specs.Judge.{dueOf}
-use Rattle.format.specs.Checks.{Check, FirstOf, Faults, inOrder, OneOf, RoundedUp, Records, KindAndCount, DataRuleKept, faultsAs, headerOrItemFaults, stated, Used, JudgedByKind, JudgedBehind}
+use Rattle.format.specs.Checks.{Check, FirstOf, Faults, inOrder, RoundedUp, Records, KindAndCount, faultsAs, headerOrItemFaults, stated, Used, JudgedByKind, JudgedBehind}
 use Rattle.format.proofs.ChecksOrder.{Decides}
 use Rattle.format.proofs.ChecksRecords.{only-rounded, decides-rounded}
 

@@ -1,13 +1,9 @@
 -- Claims: each answer enum of the code and the paper's answers are one to one, so that no program may answer one case for another. Assumes nothing.
 use mathlib.Core.Path.{_≡_, refl, ap, ap₂}
-use Prim.Native.Nat.{ℕ}
-use native.Mathlib.Omega.{arith}
-use lib.IntN.{ℤ}
 use Rattle.format.specs.Basics.{Answer, given, refused}
 use Rattle.format.specs.Corner.{Corner}
 use Rattle.format.specs.Judge.{Counts}
 use Rattle.format.specs.Edit.{BlockItem}
-use Rattle.format.specs.Above.{Way, noHeader, toHeader}
 use Rattle.format.specs.Answers.{numberAnswer, writtenAnswer, partsAnswer, judgedAnswer, editedAnswer, blockAnswer, wayUpAnswer}
 use Rattle.format.specs.declared.Number.{Number}
 use Rattle.format.specs.declared.Number.the-variants as Number

@@ -9,7 +9,7 @@ use Rattle.format.specs.Record.{View, isHead, nothing}
 use Rattle.format.specs.Judge.{File, walk, headersAndItems, countUnder}
 use Rattle.format.specs.Edit.{dueBehind}
 use Rattle.format.specs.Nested.{Body, directly, InLevels, BodyBehind}
-use Rattle.format.proofs.Nested.{nested, flat, walk-levels, walk-body, behind-at, counted-at}
+use Rattle.format.proofs.Nested.{nested, flat, walk-body, behind-at, counted-at}
 
 -- records keep the level rule from open level 0, all their data there, exactly when they are layers, each a header followed by its body
 pub flat-is-nested : (records : List View) → InLevels 0 0 records ↔ Body 0 records

@@ -1,6 +1,6 @@
 -- What a column's bytes are for each thing that it may say, both ways and for lists of any length. Assumes nothing.
 use mathlib.Core.Path.{_≡_, refl, ap, _∙_}
-use mathlib.Core.Bool.{Bool, true, false, cond, and-false, false≢true}
+use mathlib.Core.Bool.{Bool, true, false, and-false, false≢true}
 use mathlib.Core.Logic.{inl, inr, _↔_}
 use mathlib.Core.List.{List, [], _∷_, _++_, append-assoc, append-nil}
 use Prim.Native.Nat.{ℕ, zero, suc, _+_, _-_, _*_, _^_, _≤_}
@@ -9,7 +9,7 @@ use native.Mathlib.Omega.{arith}
 use borrow.Author.Tests.{lt-leb, leb-true}
 use lib.Dec.{eqb, leb, eqb·suc-zero}
 use lib.ListN.{length, replicate, length-append}
-use lib.IntN.{ℤ, pos, negsuc, negℤ}
+use lib.IntN.{ℤ, pos, negsuc}
 use Rattle.format.specs.declared.Column.{Column}
 use Rattle.format.specs.declared.Column.the-variants.{Value, MinusZero, Malformed}
 use Rattle.format.specs.Column.{strip, isDigit, allDigits, valueOf, isNumber, negative, positive, signed, columnOf}

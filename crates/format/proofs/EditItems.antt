@@ -8,8 +8,7 @@ use lib.ListN.{length, length-append}
 use borrow.Author.Tests.{le-leb}
 use Rattle.format.specs.Record.{Data, Kind, View, head, isHead, item, neither, nothing, countIndex}
 use Rattle.format.specs.Above.{NoHeaderOf}
-use Rattle.format.specs.Judge.{faultAt, headersAndItems, items, dueAfter, lowestLevel, dueOf, one-if-item, openOf, openAfter}
-use Rattle.format.proofs.EditViews.{less, more}
+use Rattle.format.specs.Judge.{faultAt, headersAndItems, items, dueAfter, lowestLevel, one-if-item, openAfter}
 use Rattle.format.specs.Edit.{notBelow, dueBehind, openBehind}
 use Rattle.format.proofs.JudgeWalks.{Passes, good, reopen, sort, headersAndItems-append, dueBehind-append, openBehind-append, passes-split, passes-join}
 use Rattle.format.proofs.JudgeCounts.{Counted, OneMore, counts-up, counts-down}

@@ -7,7 +7,7 @@ use Prim.Native.Nat.{ℕ, zero, suc, pred, _+_, _<_}
 use native.Mathlib.Omega.{arith}
 use lib.Dec.{eqb}
 use borrow.Author.Tests.{eqb-false, ne-eqb}
-use Rattle.format.specs.Record.{Data, Kind, View, head, item, neither, nothing}
+use Rattle.format.specs.Record.{Data, Kind, View, head, item, neither}
 use Rattle.format.specs.Above.{NoHeaderOf}
 use Rattle.format.specs.Judge.{faultAt, headersAndItems, countsFor, ownerAfter, isHeaderAt, dueAfter, openAfter, heldAfter, countUnder, walk}
 use Rattle.format.proofs.JudgeWalks.{Passes, Good, good}

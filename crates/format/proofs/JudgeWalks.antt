@@ -1,9 +1,9 @@
 -- Stage two as a proposition, and its laws over ++. Assumes nothing.
 use mathlib.Core.Path.{_≡_, refl, ap}
-use mathlib.Core.Bool.{true, not}
+use mathlib.Core.Bool.{true}
 use mathlib.Core.List.{List, [], _∷_, _++_}
-use Prim.Native.Nat.{ℕ, zero, suc, _+_, _≤_}
-use Rattle.format.specs.Record.{Data, View, item, nothing, countIndex}
+use Prim.Native.Nat.{ℕ, zero, suc, _≤_}
+use Rattle.format.specs.Record.{Data, View, countIndex}
 use Rattle.format.specs.Basics.{Fault, fault, none, orElse, toFault}
 use Rattle.format.specs.Judge.{faultAt, missing, headersAndItems, highestLevel, dueAfter, lowestLevel, openAfter, heldAfter, walk}
 use Rattle.format.specs.Edit.{notBelow, dueBehind, openBehind}

@@ -1,16 +1,15 @@
 -- The flat walk and the nested bodies are the same. Assumes nothing.
 use mathlib.Core.Path.{_≡_, refl, ap, sym, subst, _∙_}
-use mathlib.Core.Logic.{_≢_}
 use mathlib.Core.Bool.{Bool, true, false, cond, _&&_}
 use mathlib.Core.List.{List, [], _∷_, _++_, append-assoc, append-nil}
-use Prim.Native.Nat.{ℕ, zero, suc, pred, _+_, _-_, _≤_, _<_}
+use Prim.Native.Nat.{ℕ, zero, suc, pred, _+_, _-_, _≤_}
 use native.Mathlib.Omega.{arith}
-use lib.Dec.{eqb, leb}
+use lib.Dec.{leb}
 use lib.ListN.{length}
-use borrow.Author.Tests.{leb-true, le-leb, eqb-true, eqb-false, eq-eqb, ne-eqb}
+use borrow.Author.Tests.{leb-true, le-leb, eq-eqb, ne-eqb}
 use Rattle.format.specs.Basics.{none}
-use Rattle.format.specs.Record.{Data, nothing, View, isHead, countIndex}
-use Rattle.format.specs.Judge.{File, walk, levelOk, lowestLevel, highestLevel, openAfter, dueAfter, heldAfter, headersAndItems, isHeaderAt, countsFor, countUnder}
+use Rattle.format.specs.Record.{Data, nothing, View, isHead}
+use Rattle.format.specs.Judge.{File, walk, levelOk, lowestLevel, highestLevel, openAfter, dueAfter, headersAndItems, countUnder}
 use Rattle.format.specs.Edit.{dueBehind, openBehind, notBelow}
 use Rattle.format.specs.Nested.{Body, empty, withItem, withGroup, directly, oneOfKind, InLevels, AllDeeper, NextAtMost, BodyBehind}
 use Rattle.format.proofs.Basics.{and-true, true-and}

@@ -1,7 +1,7 @@
 -- Layers and groups as document 01 nests them, beside the flat walk of Judge; that the two are the same is claimed in proofs/ClaimsNested.antt. Assumes
 -- nothing.
 use mathlib.Core.Path.{_≡_}
-use mathlib.Core.Bool.{true, false, cond, _&&_}
+use mathlib.Core.Bool.{true, false, cond}
 use mathlib.Core.List.{List, [], _∷_, _++_}
 use Prim.Native.Nat.{ℕ, zero, suc, _+_, _≤_, _<_}
 use lib.Dec.{eqb}

@@ -2,7 +2,7 @@
 -- stands in JudgedColumns and is claimed in proofs/ClaimsNormal.antt. Assumes nothing.
 use mathlib.Core.Bool.{cond}
 use mathlib.Core.List.{List, [], _∷_, _++_}
-use Prim.Native.Nat.{ℕ, zero, suc, _+_, _/_}
+use Prim.Native.Nat.{ℕ, zero, suc, _/_}
 use lib.Dec.{leb}
 use lib.ListN.{length, take, drop}
 use Rattle.format.specs.Basics.{Answer, given, refused, Outcome, chunks, flat}

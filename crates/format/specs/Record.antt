@@ -2,7 +2,7 @@
 use mathlib.Core.Path.{_≡_, refl}
 use mathlib.Core.Bool.{Bool, true, false, cond, not, _&&_, _||_}
 use mathlib.Core.List.{List, [], _∷_}
-use Prim.Native.Nat.{ℕ, zero, suc, _+_, _-_, _*_, _/_, _%_}
+use Prim.Native.Nat.{ℕ, zero, suc, _+_, _-_, _*_, _%_}
 use Prim.Native.String.{String}
 use lib.Dec.{leb, eqb}
 use lib.IntN.{pos}
@@ -11,7 +11,7 @@ use lib.ListN.{take, getD}
 use Rattle.format.specs.Text.{begins}
 use Rattle.format.specs.Basics.{member, roundUp, minus, first, unless}
 use Rattle.format.specs.Column.{written}
-use Rattle.format.specs.Layout.{Col, column, splice, has, hasAll, find, integerAt, numberAt, columnFault, header, element, gridHeader, netHeader, data3D, data2D, dataNote, dataAttribute, dataGrid, dataNet}
+use Rattle.format.specs.Layout.{Col, splice, has, hasAll, find, integerAt, numberAt, columnFault, header, element, gridHeader, netHeader, data3D, data2D, dataNote, dataAttribute, dataGrid, dataNet}
 
 -- ---- The type of a header or an item: its first two bytes, "H, E1..E8, G or T" (a single letter is followed by a space)
 pub data RecordType : Type 0 where

@@ -8,7 +8,7 @@ use borrow.Author.Tests.{ltb-true, ltb-false, le-leb, ne-eqb}
 use lib.Dec.{eqb, ltb}
 use lib.ListN.{length, drop, getD, length-append, length-drop, length-map, take-append-drop}
 use lib.Seq.{length-take-le, take-all, getD-drop, getD-append-seam}
-use Rattle.format.specs.Record.{Kind, head, item, neither, View, view, nothing, countIndex}
+use Rattle.format.specs.Record.{Kind, head, item, neither, View, view, countIndex}
 use Rattle.format.specs.Judge.{dueOf, openOf, dueAfter}
 use Rattle.format.specs.Edit.{absent, dueBehind, openBehind}
 use Rattle.format.specs.Above.{lastStart}

@@ -8,7 +8,7 @@ use borrow.Author.Tests.{eqb-true, eq-eqb, ne-eqb}
 use lib.Dec.{eqb}
 use lib.IntN.{ℤ, pos}
 use lib.ListN.{length, getD}
-use Rattle.format.specs.Basics.{first, unless, fine, Fault, none, fault, orElse, toFault}
+use Rattle.format.specs.Basics.{unless, fine, Fault, none, fault, orElse, toFault}
 use Rattle.format.specs.declared.Column.{Column}
 use Rattle.format.specs.declared.Column.the-variants.{Value, MinusZero, Malformed}
 use Rattle.format.specs.Column.{columnOf, integer, digitsIn, digits, textOf, fits}

@@ -15,7 +15,7 @@ use denote.Enum.Declared.{tagOf}
 use Rattle.format.specs.Basics.{unless}
 use Rattle.format.specs.Column.{integer}
 use Rattle.format.specs.Layout.{find, numberAt, integerAt, allFormed, allInside, columnFault, dataNote, dataAttribute}
-use Rattle.format.specs.Record.{nothing, notes, dataColumns, directionOk, dataFault}
+use Rattle.format.specs.Record.{notes, dataColumns, directionOk, dataFault}
 use Rattle.columns.specs.InRecord.{columnAt, numberIn}
 use Rattle.format.proofs.Signed.{back}
 use Rattle.form_columns.specs.Columns.{eachFormed, columnsFormed}

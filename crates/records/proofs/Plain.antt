@@ -2,14 +2,14 @@
 use mathlib.Core.Path.{_≡_, refl, ap, sym, _∙_}
 use mathlib.Core.Bool.{Bool, true, false, cond, not, _&&_, _||_, false≢true}
 use mathlib.Core.List.{List, [], _∷_}
-use Prim.Native.Nat.{ℕ, zero, suc, _+_, _-_, _*_, _%_, _^_, _≤_, _<_}
-use native.Mathlib.Nat.{add-mul, mul-assoc, pow-succ', pow-suc, one-le-pow, pow-le-pow-right}
+use Prim.Native.Nat.{ℕ, suc, _+_, _-_, _*_, _%_, _^_, _≤_, _<_}
+use native.Mathlib.Nat.{pow-suc, one-le-pow, pow-le-pow-right}
 use native.Mathlib.Numerals.{add-one}
 use native.Mathlib.Omega.{arith}
-use borrow.Author.Tests.{leb-true, eqb-true}
+use borrow.Author.Tests.{eqb-true}
 use lib.Dec.{leb, eqb}
 use lib.IntN.{pos}
-use lib.ListN.{length, take, drop, getD, drop-of-length-le}
+use lib.ListN.{length, drop, getD, drop-of-length-le}
 use lib.Seq.{drop-cons, getD-take, getD-drop}
 use mir.Syntax.{w64}
 use mir.Val.{Fits}
@@ -19,7 +19,7 @@ use Rattle.format.specs.Column.{strip, isDigit, allDigits, valueOf, isNumber, p
 use Rattle.format.specs.Layout.{column}
 use Rattle.format.proofs.Basics.{and-true}
 use Rattle.format.proofs.Columns.{Byte, v-space, v-minus, v-digit, v-other, byte, length-column}
-use Rattle.columns.specs.InRecord.{columnAt, numberIn}
+use Rattle.columns.specs.InRecord.{numberIn}
 use Rattle.columns.proofs.Laws.{column-at-inside}
 use Rattle.columns.proofs.Reading.{digit-more}
 use Rattle.records.proofs.Naturals.{half-of-digit}
