@@ -2,7 +2,7 @@
 use mathlib.Core.Path.{_≡_}
 use mathlib.Core.Bool.{Bool, _&&_}
 use mathlib.Core.List.{List, [], map}
-use Prim.Native.Nat.{ℕ, suc, _+_, _-_, _/_, _≤_, _<_}
+use Prim.Native.Nat.{ℕ, suc, _+_, _-_, _*_, _/_, _≤_, _<_}
 use lib.Dec.{leb, ltb, eqb}
 use lib.ListN.{length, getD}
 use Rattle.format.specs.Basics.{given, refused, first, unless, chunks}
@@ -42,8 +42,8 @@ unfoldable pub isPlace : (part last due place : ℕ) → Bool
 isPlace part last due place = ltb part place && leb place last && eqb due 0
 
 -- "block level above the open level plus 1 at that place, or below the level of the record now there"
-unfoldable pub nestsIn : (opened level next : ℕ) → Bool
-nestsIn opened level next = leb level (suc opened) && leb next level
+unfoldable pub nestsIn : (openLevel level next : ℕ) → Bool
+nestsIn openLevel level next = leb level (suc openLevel) && leb next level
 
 -- 14, then 15: "a buffer is too short for the result", with so many bytes free in it
 unfoldable pub roomFault : Above → (kind records limit free length : ℕ) → ℕ
@@ -87,12 +87,12 @@ pub record CanPut (bytes : List ℕ) (used : ℕ) (block : List ℕ) (c : Change
   pub room : used + length block ≤ length bytes
   pub fitting : Fitting c (length bytes)
 
--- a block that no 11 to 13 refuses there: an item of this kind and level
-pub record Nested (bytes : List ℕ) (used place : ℕ) (block : List ℕ) (sheet : Sheet) (kind level : ℕ) : Type 0 where
+-- a block that neither 11 nor 12 refuses there: an item of this kind and level
+pub record ForPlace (bytes : List ℕ) (used place : ℕ) (block : List ℕ) (sheet : Sheet) (kind level : ℕ) : Type 0 where
   pub opened-at : OpenedAt bytes used place sheet
   pub eleven : insert11 (sheetIn used bytes) place ≡ 0
   pub twelve : fault12 (map view (blockOf block)) ≡ 0
-  pub thirteen : insert13 (sheetIn used bytes) place (map view (blockOf block)) ≡ 0
+  pub closed : dueBehind 0 (before (sheetIn used bytes) place) ≡ 0
   pub kind-is : kind ≡ countIndex ((getD (map view (blockOf block)) 0 absent) .kind)
   pub level-is : level ≡ (getD (map view (blockOf block)) 0 absent) .level
   pub kind-most : kind ≤ 9
@@ -100,6 +100,25 @@ pub record Nested (bytes : List ℕ) (used place : ℕ) (block : List ℕ) (shee
   pub level-high : level ≤ 9
   pub behind : sheet .part < place
   pub place-high : place ≤ used / 84 + 1
+
+-- and not 13 either
+pub record Nested (bytes : List ℕ) (used place : ℕ) (block : List ℕ) (sheet : Sheet) (kind level : ℕ) : Type 0 where
+  pub for-place : ForPlace bytes used place block sheet kind level
+  pub thirteen : insert13 (sheetIn used bytes) place (map view (blockOf block)) ≡ 0
+
+-- the numbers of an insertion, with `all` records in the file then: one item more in the header above and in the sheet
+unfoldable pub oneMore : Above → (kind : ℕ) → Sheet → (all place length : ℕ) → Change
+oneMore above kind sheet all place length =
+    record { header = above .header; kind = kind; total = above .total + 1; count = above .count + 1; «stated_elements» = sheet .items + 1; «stated_records» = all - sheet .part; start = 84 * (place - 1); length = length }
+
+-- none of them is too large
+pub record Countable (above : Above) (sheet : Sheet) (all place : ℕ) : Type 0 where
+  pub total-small : above .total < 100000
+  pub count-small : above .count < 100000
+  pub items-few : sheet .items ≤ 200000
+  pub part-inside : sheet .part ≤ all
+  pub place-some : 1 ≤ place
+  pub place-few : place ≤ 200001
 
 pub record InsertionReady (bytes : List ℕ) (used place : ℕ) (block : List ℕ) (c : Change) : Type 0 where
   pub can : CanPut bytes used block c

@@ -6,7 +6,7 @@ ghost use lib.ListN.{getD};
 ghost use Rattle.records.specs.Entry.{entryOf};
 ghost use Rattle.files.specs.Records.{recordsOf};
 ghost use Rattle.files.specs.declared.Stride.the-variants.{Plain};
-ghost use Rattle.edit.specs.Plans.{OpenedAt, HasAbove, AboveRead, Nested, Removable, InsertionPlanned, RemovalPlanned};
+ghost use Rattle.edit.specs.Plans.{OpenedAt, HasAbove, AboveRead, ForPlace, Nested, Countable, oneMore, Removable, InsertionPlanned, RemovalPlanned};
 use super::counts;
 use super::counts::Change;
 use super::refusals;
@@ -57,6 +57,30 @@ fn header_above(file: &[u8], sheet: Sheet, level: usize, kind: usize) -> Above
     }
 }
 
+// The counts of one item more, in a file of `all` records then.
+fn one_item_more(
+    above: Above,
+    kind: usize,
+    sheet: Sheet,
+    all: usize,
+    place: usize,
+    length: usize,
+) -> Change
+    requires { ⌜ Countable above sheet all place ⌝ }
+    ensures { λ r. ⌜ r ≡ oneMore above kind sheet all place length ⌝ }
+{
+    Change {
+        header: above.header,
+        kind,
+        total: above.total + 1,
+        count: above.count + 1,
+        stated_elements: sheet.items + 1,
+        stated_records: all - sheet.part,
+        start: files::RECORD * (place - 1),
+        length,
+    }
+}
+
 // A block that nests there: 14, 15, or the counts of one item more.
 fn counted_in(
     buffer: &[u8],
@@ -72,28 +96,13 @@ fn counted_in(
 {
     let above = header_above(&buffer[..used], sheet, level, kind);
     let length = block.len();
-    let records = length / files::RECORD;
-    let fault = refusals::room(
-        above,
-        kind,
-        used / files::RECORD + records,
-        files::MOST,
-        buffer.len() - used,
-        length,
-    );
+    let all = used / files::RECORD + length / files::RECORD;
+    let free = buffer.len() - used;
+    let fault = refusals::room(above, kind, all, files::MOST, free, length);
     if fault != 0 {
         return Plan::Refuse(fault, 0);
     }
-    Plan::Store(Change {
-        header: above.header,
-        kind,
-        total: above.total + 1,
-        count: above.count + 1,
-        stated_elements: sheet.items + 1,
-        stated_records: used / files::RECORD - sheet.part + records,
-        start: files::RECORD * (place - 1),
-        length,
-    })
+    Plan::Store(one_item_more(above, kind, sheet, all, place, length))
 }
 
 // An item at the place: the counts of one item less.
@@ -115,7 +124,27 @@ fn counted_out(buffer: &[u8], used: usize, sheet: Sheet, place: usize, item: Ent
     })
 }
 
-// An insertion into an accepted sheet: 11 to 13, then `counted_in`.
+// An item for the place: 13, then `counted_in`.
+fn item_for_place(
+    buffer: &[u8],
+    used: usize,
+    sheet: Sheet,
+    place: usize,
+    block: &[u8],
+    kind: usize,
+    level: usize,
+) -> Plan
+    requires { ⌜ ForPlace (now buffer) used place (now block) sheet kind level ⌝ }
+    ensures { λ r. ⌜ InsertionPlanned (now (buffer .entry)) used place (now (block .entry)) r ⌝ }
+{
+    let next = entry_at(&buffer[..used], place - 1);
+    if !refusals::nests(sheet.open_level, level, next.level) {
+        return Plan::Refuse(refusals::WRONG_LEVEL, 0);
+    }
+    counted_in(buffer, used, sheet, place, block, kind, level)
+}
+
+// An insertion into an accepted sheet: 11 and 12, then `item_for_place`.
 fn insertion_in_sheet(buffer: &[u8], used: usize, sheet: Sheet, place: usize, block: &[u8]) -> Plan
     requires { ⌜ OpenedAt (now buffer) used place sheet ⌝ }
     ensures { λ r. ⌜ InsertionPlanned (now (buffer .entry)) used place (now (block .entry)) r ⌝ }
@@ -126,11 +155,7 @@ fn insertion_in_sheet(buffer: &[u8], used: usize, sheet: Sheet, place: usize, bl
     let Block::Item(kind, level) = edit_block::read_block(block) else {
         return Plan::Refuse(refusals::NO_ITEM, 0);
     };
-    let next = entry_at(&buffer[..used], place - 1);
-    if !refusals::nests(sheet.open_level, level, next.level) {
-        return Plan::Refuse(refusals::WRONG_LEVEL, 0);
-    }
-    counted_in(buffer, used, sheet, place, block, kind, level)
+    item_for_place(buffer, used, sheet, place, block, kind, level)
 }
 
 // A removal from an accepted sheet: 11, then `counted_out`.

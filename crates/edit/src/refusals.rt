@@ -23,11 +23,11 @@ pub(crate) fn is_place(part: usize, last: usize, due: usize, place: usize) -> bo
 }
 
 // 13: a level not above the open level plus 1, nor below that of the record now there, 0 for none.
-pub(crate) fn nests(opened: usize, level: usize, next: usize) -> bool
+pub(crate) fn nests(open_level: usize, level: usize, next: usize) -> bool
     requires { ⌜ 1 ≤ level ⌝ }
-    ensures { λ r. ⌜ r ≡ nestsIn opened level next ⌝ }
+    ensures { λ r. ⌜ r ≡ nestsIn «open_level» level next ⌝ }
 {
-    (level - 1 <= opened) & (next <= level)
+    (level - 1 <= open_level) & (next <= level)
 }
 
 // 14: room for one item more in the total, in the count of grids and nets, which has one digit, and in the file, of so many records then.

@@ -17,11 +17,7 @@ same-length : tie.Need-same-length
 same-length c = search needs
 
 returns : tie.Need-returns
-returns c =
-    let g = c .before .before in
-    let o = g .before .before .before .before in
-    let s = o .before .before .before in
-    closed (s .args .buffer .now) (o .shift-down .last .0) (g .fill .last .0) (s .args .used) (s .args .at) (s .args .n) 32 (s .pre .0) (s .pre .1) (o .shift-down .ensures) (g .fill .ensures)
+returns c = search closed
 
 pub take-out-spec : {M : Type 1} → statement M
 take-out-spec =
