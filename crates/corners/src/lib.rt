@@ -25,7 +25,7 @@ fn within(z: i64, least: i64, most: i64) -> bool
     least <= z && z <= most
 }
 
-// A unit, a whole that fits its column I7 and a fraction that fits its I4, where a minus takes a place.
+// A unit, a whole that fits its column I7 and a fraction that fits its I4, where a minus takes a byte.
 fn is_allowed(unit: u64, whole: i64, fraction: i64) -> bool
     ensures { λ r. ⌜ r ≡ (isUnit unit && fits 7 whole && fits 4 fraction) ⌝ }
 {

@@ -18,7 +18,7 @@ use Rattle.format.proofs.Basics.{and-true, true-and, or-false}
 use Rattle.format.proofs.Columns.{Byte, v-space, v-minus, v-digit, v-other, byte, number-digits}
 use Rattle.form_bytes.specs.Doubt.{leastAt, mostAt, surelyRight, doubt}
 use Rattle.form_bytes.specs.Letters.{behind, lettersIn, ruled, lettersFor, doubtsIn}
-use Rattle.form_bytes.specs.Told.{looser, zeroAfterMinus, plain, toldAtOnce, hasLetters, Told}
+use Rattle.form_bytes.specs.Told.{looser, zeroAfterMinus, noZeroAfterMinus, toldAtOnce, hasLetters, Told}
 use Rattle.form_bytes.proofs.Neighbours.{firstLetter, betweenLetter, Seen, t-digit, t-space, t-minus, told}
 use Rattle.form_bytes.proofs.Doubts.{right-at, anything}
 use Rattle.form_bytes.proofs.Rules.{one-digit, digit-at-least, digit-at-most, least-up-to, most-up-to, NoFault, no-fault, length-for}
@@ -333,7 +333,7 @@ within-none n w p l g h f i z =
     go (b ∷ q ∷ c ∷ bs) g f i z = absurd (omega arith)
     go (b ∷ q ∷ []) g f i z = two-none p b q f i z
 
-exact : (k : What) (w p : ℕ) (l : List ℕ) → 1 ≤ w → length l ≡ w → hasLetters k w ≡ true → NoFault k l → plain k p l ≡ true → doubtsIn (lettersFor k w) p l ≡ 0
+exact : (k : What) (w p : ℕ) (l : List ℕ) → 1 ≤ w → length l ≡ w → hasLetters k w ≡ true → NoFault k l → noZeroAfterMinus k p l ≡ true → doubtsIn (lettersFor k w) p l ≡ 0
 unfolding lettersFor ruled
 exact text w p l h g t c z = anything-in w p l
 exact blank w p l h g t c z = anything-in w p l
@@ -355,7 +355,7 @@ in-front [] p l = refl
 in-front (k ∷ ks) p [] = refl
 in-front (k ∷ ks) p (b ∷ bs) = rw (in-front ks b bs)
 
-no-doubt : (k : What) (w p : ℕ) (l : List ℕ) → 1 ≤ w → w ≤ length l → hasLetters k w ≡ true → NoFault k (take w l) → plain k p (take w l) ≡ true → doubtsIn (lettersFor k w) p l ≡ 0
+no-doubt : (k : What) (w p : ℕ) (l : List ℕ) → 1 ≤ w → w ≤ length l → hasLetters k w ≡ true → NoFault k (take w l) → noZeroAfterMinus k p (take w l) ≡ true → doubtsIn (lettersFor k w) p l ≡ 0
 no-doubt k w p l h g t c z =
     in-front (lettersFor k w) p l ∙ rw (length-for k w) (exact k w p (take w l) h (length-take-le w l g) t c z)
 
@@ -419,7 +419,7 @@ plain-at ks w p l g n h e =
     let z = none-there ks p l n (omega arith) e in
     rw (rw g at z)
 
-is-plain : (k : What) (w p : ℕ) (l : List ℕ) → w ≤ length l → doubtsIn (lettersFor k w) p l ≡ 0 → plain k p (take w l) ≡ true
+is-plain : (k : What) (w p : ℕ) (l : List ℕ) → w ≤ length l → doubtsIn (lettersFor k w) p l ≡ 0 → noZeroAfterMinus k p (take w l) ≡ true
 unfolding lettersFor
 is-plain text w p l h e = refl
 is-plain blank w p l h e = refl
@@ -433,15 +433,15 @@ at-once k w p l t g h = go (eqb (doubtsIn (lettersFor k w) p l) 0) (toldAtOnce k
   where
     there : toldAtOnce k p (take w l) ≡ true → doubtsIn (lettersFor k w) p l ≡ 0
     there e =
-        let a = and-true (isFormed k (take w l)) (isInside (looser k) (take w l) && plain k p (take w l)) e in
-        let b = and-true (isInside (looser k) (take w l)) (plain k p (take w l)) (a .1) in
+        let a = and-true (isFormed k (take w l)) (isInside (looser k) (take w l) && noZeroAfterMinus k p (take w l)) e in
+        let b = and-true (isInside (looser k) (take w l)) (noZeroAfterMinus k p (take w l)) (a .1) in
         no-doubt k w p l g h t (record { is-formed = a .0; is-inside = b .0 }) (b .1)
 
     back : doubtsIn (lettersFor k w) p l ≡ 0 → toldAtOnce k p (take w l) ≡ true
     back e =
         let n = no-fault k w p l g h e in
-        true-and (isFormed k (take w l)) (isInside (looser k) (take w l) && plain k p (take w l)) (n .is-formed)
-        (true-and (isInside (looser k) (take w l)) (plain k p (take w l)) (n .is-inside) (is-plain k w p l h e))
+        true-and (isFormed k (take w l)) (isInside (looser k) (take w l) && noZeroAfterMinus k p (take w l)) (n .is-formed)
+        (true-and (isInside (looser k) (take w l)) (noZeroAfterMinus k p (take w l)) (n .is-inside) (is-plain k w p l h e))
 
     go : (x y : Bool) → eqb (doubtsIn (lettersFor k w) p l) 0 ≡ x → toldAtOnce k p (take w l) ≡ y → x ≡ y
     go true y e f = sym (back (eqb-true (doubtsIn (lettersFor k w) p l) 0 e)) ∙ f

@@ -29,16 +29,16 @@ zeroAfterMinus before [] = false
 zeroAfterMinus before (byte ∷ bytes) = (eqb before 45 && eqb byte 48) || zeroAfterMinus byte bytes
 
 -- none does in a column that holds a number
-abbrev pub plain : What → (before : ℕ) → List ℕ → Bool
-plain text before bytes = true
-plain blank before bytes = true
-plain (integral rule) before bytes = not (zeroAfterMinus before bytes)
-plain integralOrSpaces before bytes = not (zeroAfterMinus before bytes)
+abbrev pub noZeroAfterMinus : What → (before : ℕ) → List ℕ → Bool
+noZeroAfterMinus text before bytes = true
+noZeroAfterMinus blank before bytes = true
+noZeroAfterMinus (integral rule) before bytes = not (zeroAfterMinus before bytes)
+noZeroAfterMinus integralOrSpaces before bytes = not (zeroAfterMinus before bytes)
 
 -- a column that can be told at once: it is well formed; its number is inside its rule, or at least inside the looser one; and no 0 stands right after a
 -- minus
 abbrev pub toldAtOnce : What → (before : ℕ) → List ℕ → Bool
-toldAtOnce what before bytes = isFormed what bytes && (isInside (looser what) bytes && plain what before bytes)
+toldAtOnce what before bytes = isFormed what bytes && (isInside (looser what) bytes && noZeroAfterMinus what before bytes)
 
 -- a column that has letters of its own: of a range one digit, from 0 or from 1 to 9; of a size -9 to 9
 abbrev pub hasLetters : What → (width : ℕ) → Bool

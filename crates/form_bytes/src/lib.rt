@@ -30,7 +30,7 @@ fn most_at(letter: u8) -> u8
 }
 
 // 0 where the byte is surely right by its letter after the byte before it, else 1: a column of which no byte is in doubt has no fault but a 0 where a
-// number above 0 is due. No branch, so that a loop of it takes sixteen bytes at a time.
+// number above 0 is due, or a number that is not of its list. No branch, so that a loop of it takes sixteen bytes at a time.
 pub fn doubt_at(letter: u8, before: u8, byte: u8) -> u8
     ensures { λ r. ⌜ Told letter before byte r ⌝ }
 {

@@ -12,7 +12,7 @@ use lib.Seq.{drop-drop, getD-drop}
 use Rattle.format.specs.Layout.{Rule, anySign, atLeast, range, within, oneOf, What, text, blank, integral, integralOrSpaces, Col, column, bytesOf, isFormed, isInside, allFormed, allInside, indexC, sheetB, sheetE, sheetF, header, element, gridHeader, netHeader, dataNote}
 use Rattle.format.proofs.Basics.{and-true, true-and}
 use Rattle.form_bytes.specs.Letters.{lettersFor, doubtsIn}
-use Rattle.form_bytes.specs.Told.{looserRule, looser, plain, toldAtOnce, hasLetters}
+use Rattle.form_bytes.specs.Told.{looserRule, looser, noZeroAfterMinus, toldAtOnce, hasLetters}
 use Rattle.form_bytes.proofs.Doubts.{doubts-append}
 use Rattle.form_bytes.proofs.Rules.{length-for}
 use Rattle.form_bytes.proofs.AtOnce.{at-once}
@@ -169,8 +169,8 @@ same integralOrSpaces e = refl
 -- the three parts of a column told at once
 parts : (k : What) (p : ℕ) (bs : List ℕ) → toldAtOnce k p bs ≡ true → (isFormed k bs ≡ true) × (isInside (looser k) bs ≡ true)
 parts k p bs h =
-    let a = and-true (isFormed k bs) (isInside (looser k) bs && plain k p bs) h in
-    (a .0, and-true (isInside (looser k) bs) (plain k p bs) (a .1) .0)
+    let a = and-true (isFormed k bs) (isInside (looser k) bs && noZeroAfterMinus k p bs) h in
+    (a .0, and-true (isInside (looser k) bs) (noZeroAfterMinus k p bs) (a .1) .0)
 
 module _ (r : List ℕ) where
   told-formed : (cs : List Col) → allTold cs r ≡ true → allFormed cs r ≡ true

@@ -36,8 +36,8 @@ unfoldable pub viewsFrom : List ℕ → Extent → ℕ → List View
 viewsFrom file x k = map view (drop k (recordsOf (x .stride) file))
 
 -- the first fault of a walk from here, where no data is due; the first record has number i
-abbrev pub faultFrom : (opened i : ℕ) → List View → Fault
-faultFrom opened i rs = walk opened 0 nothing 0 i rs
+abbrev pub faultFrom : (openLevel i : ℕ) → List View → Fault
+faultFrom openLevel i rs = walk openLevel 0 nothing 0 i rs
 
 -- the headers and items from here, where no data is due
 abbrev pub entries : List View → List View
@@ -55,12 +55,12 @@ lowestOf kind = cond (eqb kind 0) 1 2
 unfoldable pub highestOf : (kind : ℕ) → ℕ
 highestOf kind = cond (eqb kind 0) 8 9
 
-unfoldable pub levelFits : (kind level opened : ℕ) → Bool
-levelFits kind level opened = leb (lowestOf kind) level && leb level (highestOf kind) && leb level (opened + 1)
+unfoldable pub levelFits : (kind level openLevel : ℕ) → Bool
+levelFits kind level openLevel = leb (lowestOf kind) level && leb level (highestOf kind) && leb level (openLevel + 1)
 
 -- the first of its fault, of 7, and of the fault of its data rule
-unfoldable pub entryFault : Entry → (opened : ℕ) → ℕ
-entryFault e opened = first (e .fault) (first (unless (levelFits (e .kind) (e .level) opened) 7) (e .«rule_fault»))
+unfoldable pub entryFault : Entry → (openLevel : ℕ) → ℕ
+entryFault e openLevel = first (e .fault) (first (unless (levelFits (e .kind) (e .level) openLevel) 7) (e .«rule_fault»))
 
 -- ---- What stands before a place, behind `before` records of the file: those of a list whose first record has number i
 abbrev pub upTo : (before i : ℕ) → List View → List View
@@ -88,7 +88,7 @@ pub record SeenUpTo (k : ℕ) (s : Seen) : Type 0 where
 
 -- ---- Data records: of those due at rs, so many are left at rs′, and none between them is wrong
 pub record Through (held : Data) (owner due i : ℕ) (rs : List View) (left i′ : ℕ) (rs′ : List View) : Type 0 where
-  pub same : (opened : ℕ) → walk opened due held owner i rs ≡ walk opened left held owner i′ rs′
+  pub same : (openLevel : ℕ) → walk openLevel due held owner i rs ≡ walk openLevel left held owner i′ rs′
   pub behind : headersAndItems due rs ≡ headersAndItems left rs′
   pub wrong : countFault due i rs ≡ countFault left i′ rs′
   pub start : (before latest : ℕ) → lastStart due i latest (upTo before i rs) ≡ lastStart left i′ latest (upTo before i′ rs′)
@@ -97,10 +97,10 @@ pub record Through (held : Data) (owner due i : ℕ) (rs : List View) (left i′
 -- ---- Headers and items: from rs at one open level to rs′ at another nothing is wrong; `low` is the first header between them whose counts differ, 0 for
 -- none. Counts are those of a file in which stage two finds nothing: that is the premise of `wrong`. What stands between counts for no header of a level
 -- lower than the open one
-pub record Joins (opened i : ℕ) (rs : List View) (opened′ i′ : ℕ) (rs′ : List View) (low : ℕ) : Type 0 where
-  pub same : faultFrom opened i rs ≡ faultFrom opened′ i′ rs′
-  pub wrong : faultFrom opened′ i′ rs′ ≡ none → countFault 0 i rs ≡ orElse (wrongAt low) (countFault 0 i′ rs′)
-  pub deeper : (level kind : ℕ) → level < opened → countUnder level kind (entries rs) ≡ countUnder level kind (entries rs′)
+pub record Joins (openLevel i : ℕ) (rs : List View) (openLevel′ i′ : ℕ) (rs′ : List View) (low : ℕ) : Type 0 where
+  pub same : faultFrom openLevel i rs ≡ faultFrom openLevel′ i′ rs′
+  pub wrong : faultFrom openLevel′ i′ rs′ ≡ none → countFault 0 i rs ≡ orElse (wrongAt low) (countFault 0 i′ rs′)
+  pub deeper : (level kind : ℕ) → level < openLevel → countUnder level kind (entries rs) ≡ countUnder level kind (entries rs′)
 
 -- what is seen at rs, and what is seen then at rs′: how many items, the last header or item before the place, the last header of each level
 pub record Sees (before i : ℕ) (rs : List View) (s : Seen) (i′ : ℕ) (rs′ : List View) (s′ : Seen) : Type 0 where
@@ -124,49 +124,49 @@ abbrev pub itemAsGroup : Walked → Seen → WalkedGroup
 itemAsGroup w seen = record { number = w .number; at = w .at; next = w .next; low = 0; seen = seen }
 
 -- the walk from record k at an open level, to record `next` at another
-abbrev pub JoinsTo : List ℕ → Extent → (k opened next after low : ℕ) → Type 0
-JoinsTo file x k opened next after low = Joins opened (suc k) (viewsFrom file x k) after (suc next) (viewsFrom file x next) low
+abbrev pub JoinsTo : List ℕ → Extent → (k openLevel next after low : ℕ) → Type 0
+JoinsTo file x k openLevel next after low = Joins openLevel (suc k) (viewsFrom file x k) after (suc next) (viewsFrom file x next) low
 
 abbrev pub SeesTo : List ℕ → Extent → (k : ℕ) → Seen → (next : ℕ) → Seen → Type 0
 SeesTo file x k s next s′ = Sees (x .before) (suc k) (viewsFrom file x k) s (suc next) (viewsFrom file x next) s′
 
-abbrev pub Fails : List ℕ → Extent → (k opened number at : ℕ) → Type 0
-Fails file x k opened number at = faultFrom opened (suc k) (viewsFrom file x k) ≡ fault number at
+abbrev pub Fails : List ℕ → Extent → (k openLevel number at : ℕ) → Type 0
+Fails file x k openLevel number at = faultFrom openLevel (suc k) (viewsFrom file x k) ≡ fault number at
 
 -- what `walk_item` ensures of the data records behind the item at record k
 pub record Item (file : List ℕ) (x : Extent) (k due : ℕ) (held : Data) (w : Walked) : Type 0 where
-  pub fails : (w .number ≡ 0 → ⊥) → (opened : ℕ) → walk opened due held (suc k) (suc (suc k)) (viewsFrom file x (k + 1)) ≡ fault (w .number) (w .at)
+  pub fails : (w .number ≡ 0 → ⊥) → (openLevel : ℕ) → walk openLevel due held (suc k) (suc (suc k)) (viewsFrom file x (k + 1)) ≡ fault (w .number) (w .at)
   pub passes : w .number ≡ 0 → Through held (suc k) due (suc (suc k)) (viewsFrom file x (k + 1)) 0 (suc (w .next)) (viewsFrom file x (w .next))
   pub start : w .number ≡ 0 → k < w .next
   pub within : w .number ≡ 0 → w .next ≤ x .records
 
 -- record k is a header that passes, one level below the open one
-pub record HeaderAt (file : List ℕ) (x : Extent) (k opened : ℕ) : Type 0 where
-  pub well : faultAt opened 0 nothing (view (recordAt file x k)) ≡ 0
+pub record HeaderAt (file : List ℕ) (x : Extent) (k openLevel : ℕ) : Type 0 where
+  pub well : faultAt openLevel 0 nothing (view (recordAt file x k)) ≡ 0
   pub header : isHead ((view (recordAt file x k)) .kind) ≡ true
-  pub deep : (view (recordAt file x k)) .level ≡ suc opened
+  pub deep : (view (recordAt file x k)) .level ≡ suc openLevel
 
 -- one header or item a level below the open one, at record k, with all that belongs to it
-pub record Child (file : List ℕ) (x : Extent) (k opened : ℕ) (s : Seen) (w : WalkedGroup) : Type 0 where
-  pub fails : (w .number ≡ 0 → ⊥) → Fails file x k opened (w .number) (w .at)
-  pub passes : w .number ≡ 0 → JoinsTo file x k opened (w .next) opened (w .low)
+pub record Child (file : List ℕ) (x : Extent) (k openLevel : ℕ) (s : Seen) (w : WalkedGroup) : Type 0 where
+  pub fails : (w .number ≡ 0 → ⊥) → Fails file x k openLevel (w .number) (w .at)
+  pub passes : w .number ≡ 0 → JoinsTo file x k openLevel (w .next) openLevel (w .low)
   pub sees : w .number ≡ 0 → SeesTo file x k s (w .next) (w .seen)
   pub seen-then : w .number ≡ 0 → SeenUpTo (w .next) (w .seen)
   pub further : w .number ≡ 0 → k < w .next
   pub within : w .number ≡ 0 → w .next ≤ x .records
-  pub counts : w .number ≡ 0 → (kind : ℕ) → countUnder opened kind (entries (viewsFrom file x k)) ≡ cond (eqb (countIndex ((view (recordAt file x k)) .kind)) kind) 1 0 + countUnder opened kind (entries (viewsFrom file x (w .next)))
+  pub counts : w .number ≡ 0 → (kind : ℕ) → countUnder openLevel kind (entries (viewsFrom file x k)) ≡ cond (eqb (countIndex ((view (recordAt file x k)) .kind)) kind) 1 0 + countUnder openLevel kind (entries (viewsFrom file x (w .next)))
 
 -- what `walk_body` ensures: all that stands below the open level from record k on. It stops at a record that the level above may hold, or
 -- at the end
-pub record Body (file : List ℕ) (x : Extent) (k opened : ℕ) (s : Seen) (w : WalkedBody) : Type 0 where
-  pub fails : (w .number ≡ 0 → ⊥) → Fails file x k opened (w .number) (w .at)
-  pub passes : w .number ≡ 0 → JoinsTo file x k opened (w .next) (opened - 1) (w .low)
+pub record Body (file : List ℕ) (x : Extent) (k openLevel : ℕ) (s : Seen) (w : WalkedBody) : Type 0 where
+  pub fails : (w .number ≡ 0 → ⊥) → Fails file x k openLevel (w .number) (w .at)
+  pub passes : w .number ≡ 0 → JoinsTo file x k openLevel (w .next) (openLevel - 1) (w .low)
   pub sees : w .number ≡ 0 → SeesTo file x k s (w .next) (w .seen)
   pub seen-then : w .number ≡ 0 → SeenUpTo (w .next) (w .seen)
   pub onward : w .number ≡ 0 → k ≤ w .next
   pub within : w .number ≡ 0 → w .next ≤ x .records
-  pub counts : w .number ≡ 0 → faultFrom (opened - 1) (suc (w .next)) (viewsFrom file x (w .next)) ≡ none → (kind : ℕ) → countUnder opened kind (entries (viewsFrom file x k)) ≡ getD (w .tally) kind 0
-  pub whole : w .number ≡ 0 → opened ≡ 0 → w .next ≡ x .records
+  pub counts : w .number ≡ 0 → faultFrom (openLevel - 1) (suc (w .next)) (viewsFrom file x (w .next)) ≡ none → (kind : ℕ) → countUnder openLevel kind (entries (viewsFrom file x k)) ≡ getD (w .tally) kind 0
+  pub whole : w .number ≡ 0 → openLevel ≡ 0 → w .next ≡ x .records
 
 -- a sheet, by what its sheet part came to
 abbrev pub bodyOf : List ℕ → Extent → SheetPart → File
@@ -187,8 +187,8 @@ openOfEntry e = cond (eqb (e .kind) 0) (e .level) (e .level - 1)
 unfoldable pub placeIn : Extent → ℕ
 placeIn x = cond (ltb (x .before) (x .records)) (x .before) (x .records)
 
-abbrev pub sheetWith : SheetPart → (due opened : ℕ) → Seen → Sheet
-sheetWith part due opened seen = record { fault = 0; at = 0; items = seen .items; part = part .length; unit = part .unit; corners = part .corners; due = due; «open_level» = opened; start = seen .start; headers = seen .headers }
+abbrev pub sheetWith : SheetPart → (due openLevel : ℕ) → Seen → Sheet
+sheetWith part due openLevel seen = record { fault = 0; at = 0; items = seen .items; part = part .length; unit = part .unit; corners = part .corners; due = due; «open_level» = openLevel; start = seen .start; headers = seen .headers }
 
 -- what the walk of a body that nothing is wrong with leaves to say
 pub record Stands (file : List ℕ) (x : Extent) (part : SheetPart) (s : Seen) : Type 0 where

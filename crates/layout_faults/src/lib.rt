@@ -1,6 +1,6 @@
 // The fault of one record's own columns, layout by layout: 5 for a malformed integer column, else 6 for a number outside its range or list,
-// else 0. Bytes that are no record of 84 answer 5. In a sheet's body most records are told at once to be without fault; the others are read column
-// by column.
+// else 0. Bytes that are no record of 84 answer 5. Most records of a sheet's body, records b, e and f of its part and c of an index are told at once
+// to be without fault; the others are read column by column.
 ghost use mathlib.Core.Path.{_≡_};
 ghost use mathlib.Core.Bool.{true};
 ghost use mathlib.Core.List.{[], _∷_};
@@ -81,7 +81,8 @@ fn column_fault(
     highs: &[i64],
 ) -> u8
     requires { ⌜ (i < length (now starts)) × Alike (now starts) (now widths) (now forms) (now lows) (now highs) ⌝ }
-    ensures { λ r. ⌜ r ≡ faultOf (now («record» .entry)) i (now (starts .entry)) (now (widths .entry)) (now (forms .entry)) (now (lows .entry)) (now (highs .entry)) ⌝ }
+    ensures { λ r. ⌜ r
+        ≡ faultOf (now («record» .entry)) i (now (starts .entry)) (now (widths .entry)) (now (forms .entry)) (now (lows .entry)) (now (highs .entry)) ⌝ }
 {
     fault_by_form(record, starts[i], widths[i], forms[i], lows[i], highs[i])
 }
@@ -96,7 +97,8 @@ fn table_fault(
     highs: &[i64],
 ) -> u8
     requires { ⌜ Alike (now starts) (now widths) (now forms) (now lows) (now highs) ⌝ }
-    ensures { λ r. ⌜ r ≡ tableFault (now («record» .entry)) (now (starts .entry)) (now (widths .entry)) (now (forms .entry)) (now (lows .entry)) (now (highs .entry)) ⌝ }
+    ensures { λ r. ⌜ r
+        ≡ tableFault (now («record» .entry)) (now (starts .entry)) (now (widths .entry)) (now (forms .entry)) (now (lows .entry)) (now (highs .entry)) ⌝ }
 {
     if record.len() != RECORD {
         return 5;

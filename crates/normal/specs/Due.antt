@@ -77,9 +77,9 @@ writtenTo used records second =
     (record { answer = given used; bytes = flat records ++ drop used second })
     (record { answer = refused 15 0; bytes = second })
 
--- the second buffer with a record at place k, counted from 0
-abbrev pub putAt : (k : ℕ) → (bytes second : List ℕ) → List ℕ
-putAt k bytes second = take (84 * k) second ++ (bytes ++ drop (84 * (k + 1)) second)
+-- the second buffer with these bytes for its record k, from 0
+abbrev pub withRecord : (k : ℕ) → (bytes second : List ℕ) → List ℕ
+withRecord k bytes second = take (84 * k) second ++ (bytes ++ drop (84 * (k + 1)) second)
 
 -- the file in the first `used` bytes of a buffer so written, from the record that is due first
 abbrev pub fileTo : (used : ℕ) → FileDue → (buffer second : List ℕ) → Outcome ℕ

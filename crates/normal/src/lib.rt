@@ -6,7 +6,7 @@ ghost use lib.ListN.{length, drop};
 ghost use Rattle.format.specs.Basics.{chunks, flat};
 ghost use Rattle.format.specs.Normal.{normalRecord, normalSheet, normalIndex};
 ghost use Rattle.format.specs.Answers.{writtenAnswer};
-ghost use Rattle.normal.specs.Due.{letterColumns, partColumns, columnsDue, rewritten, putAt, fileTo};
+ghost use Rattle.normal.specs.Due.{letterColumns, partColumns, columnsDue, rewritten, withRecord, fileTo};
 use due::FileDue;
 use files::Stride;
 use format::Judged;
@@ -87,7 +87,7 @@ fn write_record(source: &[u8], due: FileDue, target: &mut [u8])
 // The same at record k of the second buffer, counted from 0.
 fn write_at(source: &[u8], due: FileDue, second: &mut [u8], k: usize)
     requires { ⌜ (length (now source) ≡ 84) × (84 * (k + 1) ≤ length (now second)) ⌝ }
-    ensures { λ r. ⌜ now (second .exit) ≡ putAt k (normalRecord (columnsDue due (now (source .entry))) (now (source .entry))) (now (second .entry)) ⌝ }
+    ensures { λ r. ⌜ now (second .exit) ≡ withRecord k (normalRecord (columnsDue due (now (source .entry))) (now (source .entry))) (now (second .entry)) ⌝ }
 {
     let start = files::RECORD * k;
     let end = start + files::RECORD;
