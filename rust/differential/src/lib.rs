@@ -33,7 +33,8 @@ impl Answers {
         reference: Result<T, Refusal>,
     ) -> Result<(), String> {
         // A number that the reference cannot have becomes 255, which equals none of its own.
-        let proved = proved.map_err(|e| Refusal { number: u8::try_from(e.number()).unwrap_or(u8::MAX), record: e.record });
+        let proved =
+            proved.map_err(|e| Refusal { number: u8::try_from(e.number()).unwrap_or(u8::MAX), record: e.record.unwrap_or(0) });
         if proved != reference {
             return Err(format!("proved {proved:?}, reference {reference:?}: {}", line()));
         }

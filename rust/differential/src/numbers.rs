@@ -75,7 +75,7 @@ pub fn joining(r: &mut Random, cases: usize, answers: &mut Answers) -> Result<()
         let fraction = if r.once_in(2) { r.between(-101, 101) } else { some_number(r) };
         answers.same(
             || format!("join {unit} {whole} {fraction}"),
-            zvaigulta::join(unit, whole, fraction),
+            zvaigulta::join(unit.into(), whole, fraction),
             corner::join(unit, whole, fraction),
         )?;
     }
@@ -86,7 +86,7 @@ pub fn splitting(r: &mut Random, cases: usize, answers: &mut Answers) -> Result<
     for _ in 0..cases {
         let unit = some_unit(r);
         let millimetres = if r.once_in(2) { 10 * r.between(-100_000_000, 1_000_000_000) } else { some_number(r) };
-        let ours = zvaigulta::split(unit, millimetres).map(|c| (c.whole, c.fraction));
+        let ours = zvaigulta::split(unit.into(), millimetres).map(|c| (c.whole, c.fraction));
         answers.same(|| format!("split {unit} {millimetres}"), ours, corner::split(unit, millimetres))?;
     }
     Ok(())

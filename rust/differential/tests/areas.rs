@@ -47,7 +47,7 @@ fn no_difference_in_every_byte_of_small_files() {
 }
 
 fn refused<T>(answer: Result<T, Refusal>) -> Option<(u64, usize)> {
-    answer.err().map(|refusal| (refusal.number(), refusal.record))
+    answer.err().map(|refusal| (refusal.number(), refusal.record.unwrap_or(0)))
 }
 
 /// 1,000 by 840 points, 70,000 data records, which the grid header states by repeat 8 and records 0.

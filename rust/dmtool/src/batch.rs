@@ -51,7 +51,7 @@ type Answer = Result<String, String>;
 fn said(answer: Result<String, Refusal>) -> String {
     match answer {
         Ok(text) => format!("ok {text}"),
-        Err(refusal) => format!("no {} {}", refusal.number(), refusal.record),
+        Err(refusal) => format!("no {} {}", refusal.number(), refusal.record.unwrap_or(0)),
     }
 }
 
@@ -82,12 +82,12 @@ fn write(words: &mut Words) -> Answer {
 
 fn join(words: &mut Words) -> Answer {
     let (unit, whole, fraction) = (words.allowed_or_not("UNIT")?, words.signed("WHOLE")?, words.signed("FRACTION")?);
-    Ok(said(zvaigulta::join(unit, whole, fraction).map(|n| n.to_string())))
+    Ok(said(zvaigulta::join(unit.into(), whole, fraction).map(|n| n.to_string())))
 }
 
 fn split(words: &mut Words) -> Answer {
     let (unit, millimetres) = (words.allowed_or_not("UNIT")?, words.signed("MM")?);
-    Ok(said(zvaigulta::split(unit, millimetres).map(|c| format!("{} {}", c.whole, c.fraction))))
+    Ok(said(zvaigulta::split(unit.into(), millimetres).map(|c| format!("{} {}", c.whole, c.fraction))))
 }
 
 fn normal(words: &mut Words) -> Answer {

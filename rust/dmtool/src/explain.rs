@@ -2,11 +2,11 @@
 
 use crate::arguments::Arguments;
 use crate::failure::{output_failed, Done, FINE, REFUSED};
-use crate::faults::{explained, Explained, Fault};
 use crate::files;
-use crate::outline::{Named, Outline};
-use crate::text::quoted;
 use std::io::{self, Write};
+use zvaigulta::explain::{explain, Explanation, Fault};
+use zvaigulta::outline::{Outline, Record};
+use zvaigulta::text::quoted;
 
 /// Prints the judgement of a file and, where it is refused, what is wrong.
 pub fn run(arguments: &Arguments, out: &mut impl Write) -> Done {
@@ -21,8 +21,8 @@ pub fn run(arguments: &Arguments, out: &mut impl Write) -> Done {
         Err(refusal) => refusal,
     };
     writeln!(out, "{name}: {refusal}").map_err(output_failed)?;
-    let Explained { faults, notes } = explained(&bytes, refusal);
-    let named = refusal.record.checked_sub(1).and_then(|place| Outline::of(&bytes).nth(place));
+    let Explanation { faults, notes } = explain(&bytes, refusal);
+    let named = refusal.record.and_then(|record| Outline::of(&bytes).nth(record - 1));
     if let Some(named) = named {
         print_record(&named, &faults, out).map_err(output_failed)?;
     }
@@ -33,7 +33,7 @@ pub fn run(arguments: &Arguments, out: &mut impl Write) -> Done {
 }
 
 /// A record's columns, a line each; those at fault are marked and say why.
-fn print_record(named: &Named, faults: &[Fault], out: &mut impl Write) -> io::Result<()> {
+fn print_record(named: &Record, faults: &[Fault], out: &mut impl Write) -> io::Result<()> {
     writeln!(out, "record {}: {}", named.number, named.title())?;
     let Some(layout) = named.layout else {
         let fault = faults.first().map_or("", |fault| fault.words.as_str());

@@ -1,10 +1,10 @@
 //! Files as they are named, read and judged.
 
 use crate::failure::Failure;
-use crate::text::shown;
 use std::ffi::OsStr;
 use std::fs::File;
 use std::io::{self, Read};
+use zvaigulta::text::shown;
 use zvaigulta::{Counts, FileKind, Refusal, MOST_RECORDS, RECORD_BYTES};
 
 /// One record more than a file may have. A longer file answers as this much of it does: it is refused by its length.

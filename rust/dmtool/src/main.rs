@@ -2,22 +2,16 @@
 
 mod arguments;
 mod batch;
-mod counts;
 mod edit;
 mod explain;
 mod failure;
-mod faults;
 mod files;
 mod help;
-mod items;
-mod joined;
 mod judge;
 mod normal;
-mod outline;
 mod progress;
 mod replace;
 mod show;
-mod text;
 mod up;
 mod words;
 

@@ -3,10 +3,10 @@
 use crate::arguments::{record_number, Arguments};
 use crate::failure::{output_failed, Done, Failure, FINE};
 use crate::files;
-use crate::outline::{Named, Outline};
-use crate::text::{quoted, quoted_short};
 use std::io::Write;
 use zvaigulta::layout::{Column, Content};
+use zvaigulta::outline::{Outline, Record};
+use zvaigulta::text::{quoted, quoted_short};
 use zvaigulta::RECORD_BYTES;
 
 /// Prints the file's judgement, then a line for each record from FROM to TO.
@@ -35,7 +35,7 @@ pub fn run(arguments: &Arguments, out: &mut impl Write) -> Done {
 }
 
 /// A record on one line: its number, what it is, and its columns by name.
-fn line(named: &Named) -> String {
+fn line(named: &Record) -> String {
     let mut columns = Vec::new();
     let Some(layout) = named.layout else {
         return format!("{}: {}: {}", named.number, named.title(), quoted(named.bytes));

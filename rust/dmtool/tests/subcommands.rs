@@ -6,7 +6,7 @@ use reference::RECORD;
 use support::{block, damaged, good, large, Folder};
 
 const EMPTY: &str =
-    "empty.dm: refused 1 at record 0: the length is 0, above the buffer, not a multiple of 84 bytes, or above 200,000 records";
+    "empty.dm: refused 1: the length is 0, above the buffer, not a multiple of 84 bytes, or above 200,000 records";
 const DAMAGED: &str = "damaged.dm: refused 10 at record 6: a count differs from what the file holds";
 const MISSING: &str = "dmtool: missing.dm: there is no such file; check the name and the folder\n";
 
@@ -53,11 +53,11 @@ fn judge_any_bytes_and_standard_input() {
     f.put("ragged", &good()[1..]).put("short", b"I ").put("zeros", &[0; RECORD]);
     let ran = f.run(&["judge", "ragged", "short", "zeros"]);
     let answers: Vec<String> = ran.text().lines().map(|l| l.split(' ').take(5).collect::<Vec<_>>().join(" ")).collect();
-    assert_eq!(answers, ["ragged: refused 1 at record", "short: refused 1 at record", "zeros: refused 2 at record"]);
+    assert_eq!(answers, ["ragged: refused 1: the length", "short: refused 1: the length", "zeros: refused 2 at record"]);
     assert_eq!((ran.status, ran.err.as_str()), (Some(1), ""));
     // a file of 4 GB, of which only as much is read as a file may have
     std::fs::File::create(f.0.join("huge")).unwrap().set_len(84 * 50_000_000).unwrap();
-    assert!(f.run(&["judge", "huge"]).text().starts_with("huge: refused 1 at record 0: "));
+    assert!(f.run(&["judge", "huge"]).text().starts_with("huge: refused 1: "));
 }
 
 #[test]
@@ -117,7 +117,7 @@ fn insert() {
     assert_eq!(f.run(&["judge", "good.dm"]).seen(), says("good.dm: accepted 12 records 2 items"));
     let ran = f.run_on(&block(), &["insert", "good.dm", "end", "-", "-o", "other.dm"]);
     assert_eq!(ran.seen(), says("other.dm: inserted 3 records at record 13, now 15 records 3 items"));
-    for (file, number) in [("damaged.dm", "10 at record 6"), ("empty.dm", "1 at record 0"), ("large.dm", "14 at record 0")] {
+    for (file, number) in [("damaged.dm", "10 at record 6"), ("empty.dm", "1"), ("large.dm", "14")] {
         let before = f.get(file);
         let ran = f.run(&["insert", file, "end", "block.dm"]);
         assert_eq!((ran.status, ran.text()), (Some(1), String::new()));

@@ -1,10 +1,11 @@
 //! The calls of the library, with Rust's own types.
 
-use crate::{raw, Reason, Refusal};
+use crate::{raw, Reason, Refusal, Unit};
 use std::fmt;
 
 /// What an accepted file holds.
 #[derive(Clone, Copy, Debug, PartialEq, Eq, Hash)]
+#[non_exhaustive]
 pub struct Counts {
     /// Its records.
     pub records: usize,
@@ -30,6 +31,7 @@ pub struct Corner {
 
 /// The way up from a record to its layer.
 #[derive(Clone, Copy, Debug, PartialEq, Eq, Hash)]
+#[non_exhaustive]
 pub struct WayUp {
     /// The record number of the header above; `None` for a layer header.
     pub header: Option<usize>,
@@ -41,7 +43,7 @@ pub struct WayUp {
 fn answer<T>(refusal: u64, record: usize, value: T) -> Result<T, Refusal> {
     match refusal {
         0 => Ok(value),
-        number => Err(Refusal { reason: Reason::from_number(number), record }),
+        number => Err(Refusal { reason: Reason::from_number(number), record: Some(record).filter(|record| *record != 0) }),
     }
 }
 
@@ -53,7 +55,10 @@ fn length(raw: raw::Length) -> Result<usize, Refusal> {
     answer(raw.refusal, raw.at, raw.length)
 }
 
-/// Judges a sheet: the first `used` bytes of the buffer. Refusals 1 to 10.
+/// Judges a sheet: the first `used` bytes of the buffer.
+///
+/// # Errors
+/// 1 to 10, the first that document 01's order of checks meets.
 ///
 /// ```
 /// use zvaigulta::{judge_sheet, Reason, EXAMPLE};
@@ -61,7 +66,7 @@ fn length(raw: raw::Length) -> Result<usize, Refusal> {
 /// assert_eq!(judge_sheet(EXAMPLE, EXAMPLE.len())?.to_string(), "accepted 9 records 1 items");
 /// // Without its last record the item at record 7 lacks data.
 /// let refusal = judge_sheet(EXAMPLE, 8 * 84).unwrap_err();
-/// assert_eq!((refusal.reason, refusal.record), (Reason::MissingRecord, 7));
+/// assert_eq!((refusal.reason, refusal.record), (Reason::MissingRecord, Some(7)));
 /// // A length that the buffer does not have is answered too.
 /// assert_eq!(judge_sheet(EXAMPLE, usize::MAX).unwrap_err().reason, Reason::Length);
 /// # Ok::<(), zvaigulta::Refusal>(())
@@ -70,7 +75,10 @@ pub fn judge_sheet(buffer: &[u8], used: usize) -> Result<Counts, Refusal> {
     counts(raw::judge_sheet(buffer, used))
 }
 
-/// Judges an index: the first `used` bytes of the buffer. Refusals 1 to 6 and 10.
+/// Judges an index: the first `used` bytes of the buffer.
+///
+/// # Errors
+/// 1 to 6 and 10, the first that document 01's order of checks meets.
 ///
 /// ```
 /// let index = b"I  9City survey office              0 0   0002008Regulation                    10   ";
@@ -82,7 +90,10 @@ pub fn judge_index(buffer: &[u8], used: usize) -> Result<Counts, Refusal> {
     counts(raw::judge_index(buffer, used))
 }
 
-/// Reads a number column; the slice is the column, 1 to 18 bytes. Refusals 16 (its width) and 5 (malformed).
+/// Reads a number column; the slice is the column, 1 to 18 bytes.
+///
+/// # Errors
+/// 16 for another width, 5 for a malformed column.
 ///
 /// ```
 /// use zvaigulta::{read_column, Reason};
@@ -97,8 +108,10 @@ pub fn read_column(column: &[u8]) -> Result<i64, Refusal> {
     answer(raw.refusal, raw.at, raw.value)
 }
 
-/// Writes a number to a column in written form: shortest digits, spaces in front, over the whole slice. Refusal 16 where the width is not
-/// 1 to 18 or the number does not fit; the column is then unchanged.
+/// Writes a number to a column in written form: shortest digits, spaces in front, over the whole slice.
+///
+/// # Errors
+/// 16 where the width is not 1 to 18 or the number does not fit; the column is then unchanged.
 ///
 /// ```
 /// let mut column = *b"****";
@@ -112,37 +125,48 @@ pub fn write_column(column: &mut [u8], value: i64) -> Result<(), Refusal> {
     length(raw::write(column, value)).map(|_| ())
 }
 
-/// Joins a corner's whole metres and fraction to millimetres. The unit is 1 (fraction in millimetres), 10 or 999 (in centimetres).
-/// Refusals 16 (unit, or a part that does not fit its column), then 9 (fraction too large or of opposite sign).
+/// Joins a corner's whole metres and fraction to millimetres. The unit says what the fraction counts: millimetres for unit 1, centimetres
+/// for units 10 and 999.
+///
+/// # Errors
+/// 16 for another unit, or a part that does not fit its column; then 9 for a fraction that is too large or of opposite sign.
 ///
 /// ```
-/// use zvaigulta::{join, Reason};
+/// use zvaigulta::{join, Reason, Unit};
 ///
-/// assert_eq!(join(1, -1234, -56), Ok(-1_234_056));
-/// assert_eq!(join(10, -1234, -56), Ok(-1_234_560));
-/// assert_eq!(join(10, 0, -5), Ok(-50));
-/// assert_eq!(join(1, 12, -3).unwrap_err().reason, Reason::Fraction);
+/// assert_eq!(join(Unit::Millimetre, -1234, -56), Ok(-1_234_056));
+/// assert_eq!(join(Unit::Centimetre, -1234, -56), Ok(-1_234_560));
+/// assert_eq!(join(Unit::Centimetre, 0, -5), Ok(-50));
+/// assert_eq!(join(Unit::Millimetre, 12, -3).unwrap_err().reason, Reason::Fraction);
 /// ```
-pub fn join(unit: u64, whole: i64, fraction: i64) -> Result<i64, Refusal> {
-    let raw = raw::join(unit, whole, fraction);
+pub fn join(unit: Unit, whole: i64, fraction: i64) -> Result<i64, Refusal> {
+    let raw = raw::join(unit.code(), whole, fraction);
     answer(raw.refusal, raw.at, raw.value)
 }
 
-/// Splits millimetres into the one corner that joins to them. Refusal 16 where there is none.
+/// Splits millimetres into the one corner that joins to them.
+///
+/// # Errors
+/// 16 where there is none.
 ///
 /// ```
-/// let corner = zvaigulta::split(10, -50)?;
+/// use zvaigulta::{split, Unit};
+///
+/// let corner = split(Unit::Centimetre, -50)?;
 /// assert_eq!((corner.whole, corner.fraction), (0, -5));
-/// assert_eq!(zvaigulta::split(10, -55).unwrap_err().number(), 16);
+/// assert_eq!(split(Unit::Centimetre, -55).unwrap_err().number(), 16);
 /// # Ok::<(), zvaigulta::Refusal>(())
 /// ```
-pub fn split(unit: u64, millimetres: i64) -> Result<Corner, Refusal> {
-    let raw = raw::split(unit, millimetres);
+pub fn split(unit: Unit, millimetres: i64) -> Result<Corner, Refusal> {
+    let raw = raw::split(unit.code(), millimetres);
     answer(raw.refusal, raw.at, Corner { whole: raw.whole, fraction: raw.fraction })
 }
 
 /// Writes the normal form of a sheet, every judged integer in written form, to a second buffer; answers its length, which is `used`. Bytes of
-/// the second buffer past it stay. Judges first (1 to 10); refusal 15 where the second buffer is too short.
+/// the second buffer past it stay.
+///
+/// # Errors
+/// Those of judging, 1 to 10; then 15 where the second buffer is too short.
 ///
 /// ```
 /// use zvaigulta::{normal_sheet, EXAMPLE};
@@ -160,6 +184,9 @@ pub fn normal_sheet(buffer: &[u8], used: usize, second: &mut [u8]) -> Result<usi
 
 /// The same for an index.
 ///
+/// # Errors
+/// Those of judging, 1 to 6 and 10; then 15 where the second buffer is too short.
+///
 /// ```
 /// let loose = b"I 09City survey office            000 0   0002008Regulation                    10   ";
 /// let index = b"I  9City survey office              0 0   0002008Regulation                    10   ";
@@ -173,8 +200,11 @@ pub fn normal_index(buffer: &[u8], used: usize, second: &mut [u8]) -> Result<usi
 }
 
 /// Inserts a block, one item with its data, before the record at a place or, one past the last record, at the end; answers the new used
-/// length. The header above and the sheet's counts are rewritten; the rest moves unchanged. Judges first (1 to 10), then 11 to 15; the buffer
-/// must have room for the block behind the sheet.
+/// length. The header above and the sheet's counts are rewritten; the rest moves unchanged. The buffer must have room for the block behind
+/// the sheet.
+///
+/// # Errors
+/// Those of judging, 1 to 10; then 11 to 15.
 ///
 /// ```
 /// use zvaigulta::{insert, judge_sheet, EXAMPLE};
@@ -190,8 +220,10 @@ pub fn insert(buffer: &mut [u8], used: usize, place: usize, block: &[u8]) -> Res
     length(raw::insert(buffer, used, place, block))
 }
 
-/// Removes the item that starts at a place; answers the new used length. The freed end is filled with spaces. Judges first (1 to 10), then
-/// 11.
+/// Removes the item that starts at a place; answers the new used length. The freed end is filled with spaces.
+///
+/// # Errors
+/// Those of judging, 1 to 10; then 11.
 ///
 /// ```
 /// use zvaigulta::{judge_sheet, remove, EXAMPLE};
@@ -208,8 +240,10 @@ pub fn remove(buffer: &mut [u8], used: usize, place: usize) -> Result<usize, Ref
     length(raw::remove(buffer, used, place))
 }
 
-/// The header above a record, and how many headers the way to its layer passes. A data record answers as its item. Judges first (1 to 10),
-/// then 17.
+/// The header above a record, and how many headers the way to its layer passes. A data record answers as its item.
+///
+/// # Errors
+/// Those of judging, 1 to 10; then 17.
 ///
 /// ```
 /// use zvaigulta::{way_up, EXAMPLE};
@@ -227,7 +261,10 @@ pub fn way_up(buffer: &[u8], used: usize, number: usize) -> Result<WayUp, Refusa
 }
 
 /// Puts the line that the program `dm` prints on an input, with its line end, at the start of a buffer; answers the line's length. Bytes
-/// behind it stay. Refusal 15 where the buffer is too short; 65 bytes are always enough.
+/// behind it stay.
+///
+/// # Errors
+/// 15 where the buffer is too short; 65 bytes are always enough.
 ///
 /// ```
 /// let mut line = [0; 65];

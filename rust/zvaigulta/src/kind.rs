@@ -33,6 +33,9 @@ impl FileKind {
     }
 
     /// [`judge_sheet`] or [`judge_index`].
+    ///
+    /// # Errors
+    /// Theirs.
     pub fn judge(self, buffer: &[u8], used: usize) -> Result<Counts, Refusal> {
         match self {
             FileKind::Sheet => judge_sheet(buffer, used),
@@ -41,6 +44,9 @@ impl FileKind {
     }
 
     /// [`normal_sheet`] or [`normal_index`].
+    ///
+    /// # Errors
+    /// Theirs.
     pub fn normal(self, buffer: &[u8], used: usize, second: &mut [u8]) -> Result<usize, Refusal> {
         match self {
             FileKind::Sheet => normal_sheet(buffer, used, second),

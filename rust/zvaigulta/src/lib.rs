@@ -24,10 +24,14 @@
 #![deny(unsafe_code)]
 
 mod calls;
+pub mod explain;
 mod kind;
 pub mod layout;
+pub mod outline;
 mod raw;
 mod refusal;
+pub mod text;
+mod unit;
 
 pub use calls::{
     insert, join, judge_index, judge_sheet, normal_index, normal_sheet, read_column, remove, report, split, way_up, write_column,
@@ -35,6 +39,7 @@ pub use calls::{
 };
 pub use kind::FileKind;
 pub use refusal::{Reason, Refusal};
+pub use unit::Unit;
 
 /// Bytes of a record.
 pub const RECORD_BYTES: usize = 84;

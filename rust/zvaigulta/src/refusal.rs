@@ -120,16 +120,23 @@ impl fmt::Display for Reason {
 /// A refused call: the reason, and the record that it names. Every lent buffer is then as before the call.
 ///
 /// ```
-/// let refusal = zvaigulta::read_column(b"12  ").unwrap_err();
-/// assert_eq!((refusal.number(), refusal.record), (5, 0));
-/// assert_eq!(refusal.to_string(), "refused 5 at record 0: an integer column is malformed");
+/// use zvaigulta::{judge_sheet, read_column, EXAMPLE};
+///
+/// let refusal = judge_sheet(EXAMPLE, 8 * 84).unwrap_err();
+/// assert_eq!((refusal.number(), refusal.record), (3, Some(7)));
+/// assert_eq!(refusal.to_string(), "refused 3 at record 7: a record that is needed is missing");
+///
+/// let refusal = read_column(b"12  ").unwrap_err();
+/// assert_eq!((refusal.number(), refusal.record), (5, None));
+/// assert_eq!(refusal.to_string(), "refused 5: an integer column is malformed");
 /// ```
 #[derive(Clone, Copy, Debug, PartialEq, Eq, Hash)]
+#[non_exhaustive]
 pub struct Refusal {
     /// Why.
     pub reason: Reason,
-    /// The record, numbered from 1; 0 where the refusal names none.
-    pub record: usize,
+    /// The record, numbered from 1; `None` where the refusal names none (0 on paper).
+    pub record: Option<usize>,
 }
 
 impl Refusal {
@@ -141,7 +148,10 @@ impl Refusal {
 
 impl fmt::Display for Refusal {
     fn fmt(&self, f: &mut fmt::Formatter<'_>) -> fmt::Result {
-        write!(f, "refused {} at record {}: {}", self.number(), self.record, self.reason)
+        match self.record {
+            Some(record) => write!(f, "refused {} at record {record}: {}", self.number(), self.reason),
+            None => write!(f, "refused {}: {}", self.number(), self.reason),
+        }
     }
 }
 

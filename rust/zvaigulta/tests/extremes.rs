@@ -47,7 +47,7 @@ fn columns_of_every_width_hold_what_was_written() {
 
 #[test]
 fn corners_at_the_ends() {
-    for unit in [0, 1, 2, 10, 999, 1_000, u64::MAX] {
+    for unit in [0, 1, 2, 10, 999, 1_000, u64::MAX].map(Unit::from) {
         for a in SIGNED {
             for b in SIGNED {
                 if let Ok(millimetres) = join(unit, a, b) {

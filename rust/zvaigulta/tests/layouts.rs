@@ -74,7 +74,7 @@ fn judged_with(records: &Records, at: usize, column: &Column, text: &[u8]) -> Op
     let start = at * RECORD_BYTES + column.start;
     file[start..start + column.width].copy_from_slice(text);
     let kind = if records.len() == 3 { FileKind::Index } else { FileKind::Sheet };
-    kind.judge(&file, file.len()).err().filter(|refusal| refusal.record == at + 1).map(|refusal| refusal.reason)
+    kind.judge(&file, file.len()).err().filter(|refusal| refusal.record == Some(at + 1)).map(|refusal| refusal.reason)
 }
 
 #[test]

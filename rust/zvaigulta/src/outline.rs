@@ -1,31 +1,41 @@
 //! What each record of a file is, told from the front by what the records before it state. In an accepted file this is what it is; behind a
 //! refusal it is the best guess.
 
-use crate::items::{natural, Sort, Stated};
-use zvaigulta::layout::*;
-use zvaigulta::{FileKind, RECORD_BYTES};
+mod items;
+
+pub use items::{natural, Sort, Stated, COUNTS};
+
+use crate::layout::*;
+use crate::{FileKind, RECORD_BYTES};
 
 use What::{Data, Entry, Part, Unknown};
 
 /// What a record is.
-#[derive(Clone, Copy, Debug)]
+#[derive(Clone, Copy, Debug, PartialEq, Eq)]
 pub enum What {
     /// A record of the sheet part or of an index.
     Part,
     /// A header or an item.
     Entry(Sort),
     /// A data record of the item at a record.
-    Data { item: usize },
+    Data {
+        /// The item's record number.
+        item: usize,
+    },
     /// None of these, where a header or an item is due, or more than an index states.
     Unknown,
 }
 
 /// A record with its number and name.
 #[derive(Clone, Copy, Debug)]
-pub struct Named<'a> {
+pub struct Record<'a> {
+    /// Its number, from 1.
     pub number: usize,
+    /// Its bytes: 84, or fewer at a ragged end.
     pub bytes: &'a [u8],
+    /// What it is.
     pub what: What,
+    /// The layout of its columns, if it is known.
     pub layout: Option<&'static Layout>,
     /// How many of the layout's columns are judged.
     pub judged: usize,
@@ -33,7 +43,7 @@ pub struct Named<'a> {
     pub level: Option<i64>,
 }
 
-impl Named<'_> {
+impl Record<'_> {
     /// The columns that are judged.
     pub fn judged_columns(&self) -> &'static [Column] {
         let all = self.layout.map_or(&[][..], |layout| layout.columns);
@@ -108,39 +118,40 @@ pub struct Outline<'a> {
 }
 
 impl<'a> Outline<'a> {
+    /// Of a whole file.
     pub fn of(bytes: &'a [u8]) -> Outline<'a> {
         Outline { kind: FileKind::of(bytes), part: part(bytes), records: bytes.chunks(RECORD_BYTES).enumerate(), due: None }
     }
 
     /// The next data record of the item whose data is due.
-    fn data(&mut self, number: usize, bytes: &'a [u8]) -> Option<Named<'a>> {
+    fn data(&mut self, number: usize, bytes: &'a [u8]) -> Option<Record<'a>> {
         let due = self.due.filter(|due| due.nth < due.stated.records)?;
         self.due = Some(Due { nth: due.nth + 1, ..due });
         let (layout, judged) = (due.stated.layout, due.stated.judged(due.nth));
-        Some(Named { number, bytes, what: Data { item: due.item }, layout, judged, level: due.level })
+        Some(Record { number, bytes, what: Data { item: due.item }, layout, judged, level: due.level })
     }
 
-    fn entry(&mut self, number: usize, bytes: &'a [u8]) -> Option<Named<'a>> {
+    fn entry(&mut self, number: usize, bytes: &'a [u8]) -> Option<Record<'a>> {
         let sort = Sort::of(bytes).filter(|_| self.kind == FileKind::Sheet)?;
         let layout = sort.layout();
         let level = layout.value("level", bytes);
         self.due = Some(Due { item: number, level, stated: Stated::of(sort, bytes), nth: 0 });
-        Some(Named { number, bytes, what: Entry(sort), layout: Some(layout), judged: layout.columns.len(), level })
+        Some(Record { number, bytes, what: Entry(sort), layout: Some(layout), judged: layout.columns.len(), level })
     }
 }
 
 impl<'a> Iterator for Outline<'a> {
-    type Item = Named<'a>;
+    type Item = Record<'a>;
 
-    fn next(&mut self) -> Option<Named<'a>> {
+    fn next(&mut self) -> Option<Record<'a>> {
         let (place, bytes) = self.records.next()?;
         let number = place + 1;
-        let unknown = Named { number, bytes, what: Unknown, layout: None, judged: 0, level: None };
+        let unknown = Record { number, bytes, what: Unknown, layout: None, judged: 0, level: None };
         if bytes.len() < RECORD_BYTES {
             return Some(unknown);
         }
         if let Some(layout) = self.part.get(place) {
-            return Some(Named { what: Part, layout: Some(layout), judged: layout.columns.len(), ..unknown });
+            return Some(Record { what: Part, layout: Some(layout), judged: layout.columns.len(), ..unknown });
         }
         self.data(number, bytes).or_else(|| self.entry(number, bytes)).or(Some(unknown))
     }
@@ -181,7 +192,7 @@ mod tests {
                     if let (Content::Integer(_) | Content::IntegerOrSpaces, Some(value)) =
                         (column.content, column.value(named.bytes))
                     {
-                        zvaigulta::write_column(&mut out[column.start..column.start + column.width], value).unwrap();
+                        crate::write_column(&mut out[column.start..column.start + column.width], value).unwrap();
                     }
                 }
             }

@@ -1,13 +1,12 @@
 //! 10: what a header, the sheet or an index states, against what the file holds.
 
-use crate::faults::{fault, Fault};
-use crate::items::{natural, Sort, COUNTS};
-use crate::outline::{part, Named, Outline, What};
-use zvaigulta::layout::{Layout, HEADER, INDEX_A, SHEET_B};
-use zvaigulta::RECORD_BYTES;
+use super::{fault, Fault};
+use crate::layout::{Layout, HEADER, INDEX_A, SHEET_B};
+use crate::outline::{natural, part, Outline, Record, Sort, What, COUNTS};
+use crate::RECORD_BYTES;
 
 /// The counts that differ.
-pub fn differing(bytes: &[u8], named: &Named) -> Vec<Fault> {
+pub fn differing(bytes: &[u8], named: &Record) -> Vec<Fault> {
     let records = bytes.len() / RECORD_BYTES;
     match (named.what, named.layout) {
         (What::Entry(Sort::Header), _) => header(bytes, named),
@@ -25,13 +24,13 @@ pub fn differing(bytes: &[u8], named: &Named) -> Vec<Fault> {
 }
 
 /// A count that is stated otherwise than it is found.
-fn stated(layout: &Layout, column: &'static str, named: &Named, found: usize) -> Option<Fault> {
+fn stated(layout: &Layout, column: &'static str, named: &Record, found: usize) -> Option<Fault> {
     let states = natural(layout, column, named.bytes);
     (states != found as u64).then(|| fault(column, format!("states {states}, the file holds {found}")))
 }
 
 /// A header's counts: what stands one level below it, before the next header or item of its own level or above.
-fn header(bytes: &[u8], named: &Named) -> Vec<Fault> {
+fn header(bytes: &[u8], named: &Record) -> Vec<Fault> {
     let own = named.level.unwrap_or(0);
     let mut found = [0; COUNTS.len()];
     for below in Outline::of(bytes).skip(named.number) {

@@ -1,36 +1,41 @@
 //! Which columns of a refused record are at fault, and why. The library has judged; here its answer is put into words.
 
-use crate::items::{Sort, Stated};
-use crate::outline::{part, Named, Outline, What};
+mod counts;
+mod joined;
+
+use crate::layout::{Column, Content};
+use crate::outline::{part, Outline, Record, Sort, Stated, What};
 use crate::text::quoted;
-use crate::{counts, joined};
-use zvaigulta::layout::{Column, Content};
-use zvaigulta::{FileKind, Reason, Refusal, MOST_RECORDS, RECORD_BYTES};
+use crate::{FileKind, Reason, Refusal, MOST_RECORDS, RECORD_BYTES};
 
 /// A column at fault, and why.
 #[derive(Debug)]
 pub struct Fault {
+    /// The column's name.
     pub column: &'static str,
+    /// What is wrong with it.
     pub words: String,
 }
 
 /// Shorthand for a fault.
-pub fn fault(column: &'static str, words: String) -> Fault {
+fn fault(column: &'static str, words: String) -> Fault {
     Fault { column, words }
 }
 
 /// The columns at fault in the refused record, and what else there is to say.
 #[derive(Debug, Default)]
-pub struct Explained {
+pub struct Explanation {
+    /// The columns at fault.
     pub faults: Vec<Fault>,
+    /// What else there is to say, a line each.
     pub notes: Vec<String>,
 }
 
 /// Explains a refusal of a file by the judge.
-pub fn explained(bytes: &[u8], refusal: Refusal) -> Explained {
-    let named = refusal.record.checked_sub(1).and_then(|place| Outline::of(bytes).nth(place));
+pub fn explain(bytes: &[u8], refusal: Refusal) -> Explanation {
+    let named = refusal.record.and_then(|record| Outline::of(bytes).nth(record - 1));
     let Some(named) = named else {
-        return Explained { faults: Vec::new(), notes: vec![length(bytes)] };
+        return Explanation { faults: Vec::new(), notes: vec![length(bytes)] };
     };
     let mut notes = Vec::new();
     let faults = match refusal.reason {
@@ -45,7 +50,7 @@ pub fn explained(bytes: &[u8], refusal: Refusal) -> Explained {
         Reason::Count => counts::differing(bytes, &named),
         _ => Vec::new(),
     };
-    Explained { faults, notes }
+    Explanation { faults, notes }
 }
 
 /// Why a length is refused.
@@ -63,7 +68,7 @@ fn length(bytes: &[u8]) -> String {
 }
 
 /// 3: an item's data, or a record of the sheet part or the index.
-fn missing(bytes: &[u8], named: &Named, notes: &mut Vec<String>) -> Vec<Fault> {
+fn missing(bytes: &[u8], named: &Record, notes: &mut Vec<String>) -> Vec<Fault> {
     let there = bytes.len() / RECORD_BYTES;
     if let What::Entry(sort) = named.what {
         let stated = Stated::of(sort, named.bytes).records;
@@ -82,9 +87,9 @@ fn missing(bytes: &[u8], named: &Named, notes: &mut Vec<String>) -> Vec<Fault> {
 }
 
 /// 4: also what stands before the record, whose count may be the wrong one.
-fn record_type(bytes: &[u8], named: &Named, notes: &mut Vec<String>) -> Vec<Fault> {
+fn record_type(bytes: &[u8], named: &Record, notes: &mut Vec<String>) -> Vec<Fault> {
     let before = Outline::of(bytes).take(named.number - 1).filter(|n| matches!(n.what, What::Entry(_))).last();
-    if let Some(Named { what: What::Entry(sort), bytes, number, .. }) = before {
+    if let Some(Record { what: What::Entry(sort), bytes, number, .. }) = before {
         let records = Stated::of(sort, bytes).records;
         notes.push(format!("before it stands the {} at record {number}, which states {records} data records", sort.name()));
     }
@@ -107,7 +112,7 @@ fn malformed(column: &Column, record: &[u8]) -> Option<Fault> {
 }
 
 /// 6: columns outside their own range, else the rule that joins several columns.
-fn outside(bytes: &[u8], named: &Named) -> Vec<Fault> {
+fn outside(bytes: &[u8], named: &Record) -> Vec<Fault> {
     let own = |column: &Column| match (column.content, column.value(named.bytes)) {
         (Content::Integer(allowed), Some(n)) if !allowed.holds(n) => {
             Some(fault(column.name, format!("is {n}, must be {allowed}")))
@@ -123,7 +128,7 @@ fn outside(bytes: &[u8], named: &Named) -> Vec<Fault> {
 }
 
 /// 7: the levels that a record may have where it stands.
-fn level(bytes: &[u8], named: &Named) -> Fault {
+fn level(bytes: &[u8], named: &Record) -> Fault {
     let (sort, least, most) = match named.what {
         What::Entry(Sort::Header) => ("a header", 1, 8),
         _ => ("an item", 2, 9),
@@ -143,10 +148,14 @@ fn level(bytes: &[u8], named: &Named) -> Fault {
 #[cfg(test)]
 mod tests {
     use super::*;
-    use crate::files::judge;
+    use crate::Counts;
     use reference::random::Random;
     use reference::sheets;
     use std::collections::BTreeMap;
+
+    fn judge(bytes: &[u8]) -> Result<Counts, Refusal> {
+        FileKind::of(bytes).judge(bytes, bytes.len())
+    }
 
     /// Every refusal of a damaged file is explained: columns of the record's own layout, each named once; without a record, a note.
     #[test]
@@ -158,10 +167,10 @@ mod tests {
             let file = sheets::damaged(&mut r, &file);
             let Err(refusal) = judge(&file) else { continue };
             *seen.entry(refusal.number()).or_insert(0) += 1;
-            let explained = explained(&file, refusal);
-            assert_eq!(refusal.record == 0, explained.faults.is_empty(), "case {n}: {refusal}: {explained:?}");
-            assert!(refusal.record > 0 || !explained.notes.is_empty(), "case {n}: {refusal}");
-            let named = Outline::of(&file).nth(refusal.record.max(1) - 1);
+            let explained = explain(&file, refusal);
+            assert_eq!(refusal.record.is_none(), explained.faults.is_empty(), "case {n}: {refusal}: {explained:?}");
+            assert!(refusal.record.is_some() || !explained.notes.is_empty(), "case {n}: {refusal}");
+            let named = Outline::of(&file).nth(refusal.record.unwrap_or(1) - 1);
             for fault in &explained.faults {
                 assert_eq!(explained.faults.iter().filter(|f| f.column == fault.column).count(), 1, "case {n}: {explained:?}");
                 let layout = named.and_then(|named| named.layout);
@@ -194,11 +203,11 @@ mod tests {
             (at(7, 31), b"   3", 8, "records", "is 3, must be 2"),
         ];
         for (start, bytes, number, column, words) in cases {
-            let mut sheet = zvaigulta::EXAMPLE.to_vec();
+            let mut sheet = crate::EXAMPLE.to_vec();
             sheet[start..start + bytes.len()].copy_from_slice(bytes);
             let refusal = judge(&sheet).unwrap_err();
             assert_eq!(refusal.number(), number, "{column}: {refusal}");
-            let explained = explained(&sheet, refusal);
+            let explained = explain(&sheet, refusal);
             let fault = explained.faults.iter().find(|fault| fault.column == column);
             assert!(fault.is_some_and(|fault| fault.words.contains(words)), "{refusal}: {explained:?}");
         }

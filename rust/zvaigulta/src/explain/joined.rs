@@ -1,13 +1,12 @@
 //! Rules that join several columns, in words: unit and level, f count, b count, note direction; data rules; fractions.
 
-use crate::faults::{fault, Fault};
-use crate::items::{natural, Sort, Stated};
-use crate::outline::{Named, What};
-use zvaigulta::layout::*;
-use zvaigulta::{join, Reason, RECORD_BYTES};
+use super::{fault, Fault};
+use crate::layout::*;
+use crate::outline::{natural, Record, Sort, Stated, What};
+use crate::{join, Reason, Unit, RECORD_BYTES};
 
 /// 6 where every column is inside its own range.
-pub fn rule(bytes: &[u8], named: &Named) -> Vec<Fault> {
+pub fn rule(bytes: &[u8], named: &Record) -> Vec<Fault> {
     let Some(layout) = named.layout else { return Vec::new() };
     let number = |name| natural(layout, name, named.bytes);
     match layout.name {
@@ -44,7 +43,7 @@ pub fn rule(bytes: &[u8], named: &Named) -> Vec<Fault> {
 }
 
 /// 8: the columns of the data rule that do not go together.
-pub fn data_rule(named: &Named) -> Vec<Fault> {
+pub fn data_rule(named: &Record) -> Vec<Fault> {
     let What::Entry(sort) = named.what else { return Vec::new() };
     let stated = Stated::of(sort, named.bytes);
     let number = |name| natural(sort.layout(), name, named.bytes);
@@ -98,12 +97,12 @@ fn element_rule(n: u8, kind: u64, stated: &Stated) -> Vec<Fault> {
 }
 
 /// 9: the fractions that do not go with their wholes in record 2, by the proved joining.
-pub fn fractions(bytes: &[u8], named: &Named) -> Vec<Fault> {
+pub fn fractions(bytes: &[u8], named: &Record) -> Vec<Fault> {
     let b = bytes.get(RECORD_BYTES..2 * RECORD_BYTES).unwrap_or(&[]);
     let unit = natural(&SHEET_B, "unit", b);
     let wrong = |column: &Column| {
         let (whole, fraction) = (SHEET_B.value(column.name, b)?, column.value(named.bytes)?);
-        let refused = join(unit, whole, fraction).err().filter(|refusal| refusal.reason == Reason::Fraction);
+        let refused = join(Unit::from(unit), whole, fraction).err().filter(|refusal| refusal.reason == Reason::Fraction);
         refused.map(|_| {
             fault(column.name, format!("is too large or of opposite sign to the whole {whole} in record 2 (unit {unit})"))
         })

@@ -1,14 +1,17 @@
 //! Headers and items: their sorts, and what an item states of its data. Only for showing and explaining; the library judges.
 
-use zvaigulta::layout::*;
+use crate::layout::*;
 
 /// What a record is, where a header or an item is due.
 #[derive(Clone, Copy, Debug, PartialEq, Eq)]
 pub enum Sort {
+    /// A header, of a layer or a group.
     Header,
-    /// 1 to 8.
+    /// An element, E1 to E8.
     Element(u8),
+    /// A grid of heights.
     Grid,
+    /// A triangle net.
     Net,
 }
 
@@ -28,6 +31,7 @@ impl Sort {
         }
     }
 
+    /// The layout of its own record.
     pub fn layout(self) -> &'static Layout {
         match self {
             Sort::Header => &HEADER,
