@@ -7,17 +7,18 @@ use Prim.Native.Nat.{ℕ, _≤_}
 use Prim.Native.String.{String}
 use native.Mathlib.Omega.{arith}
 use lib.IntN.{ℤ}
-use lib.ListN.{length}
+use lib.Dec.{leb}
+use lib.ListN.{length, getD}
 use borrow.Author.Tests.{le-leb}
 use Rattle.format.specs.Text.{bytes, begins}
-use Rattle.format.specs.Basics.{given, refused, first, unless}
+use Rattle.format.specs.Basics.{Answer, given, refused, first, unless}
 use Rattle.format.specs.Column.{fits}
 use Rattle.format.specs.Shape.{TooLarge, RightWidth}
 use Rattle.format.specs.Corner.{isUnit, fractionOk, millimetres, join}
 use Rattle.format.specs.Record.{RecordType, H, E1, E2, E3, E4, E5, E6, E7, E8, G, T, other, typeOf, countIndex, countName, viewAs, view, headerView, elementView, gridView, netView, otherView}
 use Rattle.format.specs.Layout.{numberAt, header}
-use Rattle.format.specs.Judge.{judgeSheet, judgeIndex}
-use Rattle.format.specs.Program.{lineOf, line, printed}
+use Rattle.format.specs.Judge.{Counts, judgeSheet, judgeIndex}
+use Rattle.format.specs.Program.{lineOf, judgeInput, line, printed, unread}
 use Rattle.format.specs.Checks.{Check, FirstOf, AnswersFirst, OneOf, Starts, joinChecks, TypeMeans, countOf}
 use Rattle.format.proofs.ColumnAlone.{Fitting, small, large, fitting}
 use Rattle.format.proofs.ChecksOrder.{Says, Decides, says-and, decides-says, check-first, check-end, values-first, refusal-first}
@@ -83,6 +84,24 @@ input-index input l s = rw (le-leb (length input) 65520 l) (ap (λ (x : List ℕ
 pub input-sheet : (input : List ℕ) → length input ≤ 65520 → (Starts "I " input → ⊥) → printed input ≡ lineOf (judgeSheet (length input) input) ++ 10 ∷ []
 unfolding printed line
 input-sheet input l n = rw (le-leb (length input) 65520 l) (ap (λ (x : List ℕ). x ++ 10 ∷ []) ((judged-as (begins "I " input) input (starts-decides "I " input two-bytes-I)) .1 n))
+
+-- every line begins with another letter than the line of a failed read
+unread-elsewhere : (letter : ℕ) (rest : List ℕ) → (letter ≡ 110 → ⊥) → unread ≡ letter ∷ rest → ⊥
+unfolding unread bytes
+unread-elsewhere letter rest n e = n (sym (ap (λ (l : List ℕ). getD l 0 0) e))
+
+answered-elsewhere : (a : Answer Counts) → unread ≡ lineOf a ++ 10 ∷ [] → ⊥
+unfolding bytes
+answered-elsewhere (given c) e = unread-elsewhere 97 _ (λ q. absurd (omega (arith, q))) e
+answered-elsewhere (refused n r) e = unread-elsewhere 114 _ (λ q. absurd (omega (arith, q))) e
+
+pub unread-not-printed : (input : List ℕ) → unread ≡ printed input → ⊥
+unfolding printed line bytes
+unread-not-printed input e = go (leb (length input) 65520) e
+  where
+    go : (b : Bool) → unread ≡ cond b (lineOf (judgeInput input)) (bytes "too long") ++ 10 ∷ [] → ⊥
+    go true e = answered-elsewhere (judgeInput input) e
+    go false e = unread-elsewhere 116 _ (λ q. absurd (omega (arith, q))) e
 
 -- ---- The count of a header that a record belongs to
 own-count : (t : RecordType) (h r : List ℕ) → typeOf h ≡ H → (view h) .count (countIndex ((viewAs t r) .kind)) ≡ numberAt header (countOf t) h

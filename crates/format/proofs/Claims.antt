@@ -10,7 +10,7 @@ use borrow.Author.Tests.{lt-leb, le-leb}
 use Rattle.format.specs.Text.{bytes}
 use Rattle.format.specs.Basics.{given, refused, none, chunks}
 use Rattle.format.specs.Record.{View, isHead, nothing}
-use Rattle.format.specs.Program.{lineOf, line, printed, lineTo, reportTo}
+use Rattle.format.specs.Program.{lineOf, line, printed, lineTo, reportTo, unread}
 use Rattle.format.specs.Column.{readAlone, writeAlone}
 use Rattle.format.specs.Corner.{Corner, join, split}
 use Rattle.format.specs.Judge.{File, fileOf, headersAndItems, countUnder, walk, accepted, judge, judgeSheet, judgeIndex}
@@ -29,7 +29,7 @@ use Rattle.format.proofs.Corners.{split-only, split-joins, split-answer
 use Rattle.format.proofs.Run.{sound, demand3}
 use Rattle.format.proofs.AcceptedSheet as Accepted
 use Rattle.format.proofs.AcceptedSheet.{accepted-by}
-use Rattle.format.proofs.ChecksAlone.{input-index, input-sheet}
+use Rattle.format.proofs.ChecksAlone.{input-index, input-sheet, unread-not-printed}
 
 -- what was written reads as that number, for every width and number
 pub written-reads : (column : List ℕ) (z : ℤ) (n : ℕ) → (writeAlone column z) .answer ≡ given n → readAlone ((writeAlone column z) .bytes) ≡ given z
@@ -89,6 +89,10 @@ printed-sheet = input-sheet
 pub too-long : (input : List ℕ) → 65520 < length input → printed input ≡ bytes "too long" ++ 10 ∷ []
 unfolding printed line
 too-long input h = rw (lt-leb (length input) 65520 h)
+
+-- what is printed where reading failed is printed for no input: it cannot be taken for an answer
+pub unread-no-answer : (input : List ℕ) → unread ≡ printed input → ⊥
+unread-no-answer = unread-not-printed
 
 -- the same in a lent buffer: 15 at record 0 where it is shorter than the line, and it is as it was; else the line, and the bytes behind it stay
 pub report-15 : (input out : List ℕ) → length out < length (printed input) → reportTo input out ≡ record { answer = refused 15 0; bytes = out }

@@ -36,3 +36,10 @@ lineTo line out =
 
 unfoldable pub reportTo : (input out : List ℕ) → Outcome ℕ
 reportTo input out = lineTo (printed input) out
+
+-- a read that fails is no end of the input: what was read is judged neither accepted nor refused, and the line says so
+unfoldable pub unread : List ℕ
+unread = bytes "not judged: read error" ++ (10 ∷ [])
+
+unfoldable pub unreadTo : (out : List ℕ) → Outcome ℕ
+unreadTo out = lineTo unread out

@@ -1,25 +1,20 @@
 -- What callers of `report` cite: the bytes that it answers stand in the lent buffer, and 65 bytes are always room enough. Assumes nothing.
-use mathlib.Core.Path.{_≡_, refl, ap, sym}
+use mathlib.Core.Path.{_≡_, refl, ap}
 use mathlib.Core.Bool.{Bool, true, false, cond}
 use mathlib.Core.List.{List, [], _∷_, _++_}
 use Prim.Native.Nat.{ℕ, zero, suc, _+_, _/_, _%_, _≤_}
 use native.Mathlib.Omega.{arith}
 use borrow.Author.Tests.{le-leb}
 use lib.Dec.{leb, ltb}
-use lib.ListN.{length, take, drop, length-append}
-use lib.Seq.{length-take-le}
+use lib.ListN.{length, drop, length-append}
 use Rattle.format.specs.Basics.{Answer, Outcome, given, refused}
 use Rattle.format.specs.Text.{bytes}
 use Rattle.format.specs.Column.{digitsIn, digits}
 use Rattle.format.specs.Judge.{Counts}
-use Rattle.format.specs.Answers.{writtenAnswer}
-use Rattle.format.specs.Program.{judgeInput, lineOf, line, printed}
-use Rattle.format.specs.declared.Written.{Written}
-use Rattle.format.specs.declared.Written.the-variants as Written
-use Rattle.format.specs.Program.{lineTo, reportTo}
+use Rattle.format.specs.Program.{judgeInput, lineOf, line, printed, lineTo, reportTo}
 
 -- a line that is answered stands in the buffer whole
-line-inside : (line out out′ : List ℕ) (n : ℕ) → record { answer = given n; bytes = out′ } ≡ lineTo line out → n ≤ length out′
+pub line-inside : (line out out′ : List ℕ) (n : ℕ) → record { answer = given n; bytes = out′ } ≡ lineTo line out → n ≤ length out′
 unfolding lineTo
 line-inside line out out′ n e = go (leb (length line) (length out)) refl
   where
@@ -33,14 +28,6 @@ line-inside line out out′ n e = go (leb (length line) (length out)) refl
         let p : given n ≡ refused 15 0 = ap (λ (o : Outcome ℕ). o .answer) (rw h at e) in
         let x : _≡_ {A = ℕ} 0 1 = cc in
         absurd (omega arith)
-
-module _ (input out out′ : List ℕ) (r : Written) (n : ℕ) (e : r ≡ Written.Bytes n) (p : record { answer = writtenAnswer r; bytes = out′ } ≡ reportTo input out) where
-  pub written-inside : n ≤ length out′
-  unfolding writtenAnswer reportTo
-  written-inside = line-inside (printed input) out out′ n (rw e at p)
-
-  pub written-length : n ≡ length (take n out′)
-  written-length = sym (length-take-le n out′ written-inside)
 
 -- ---- a line is never longer than 65 bytes, so a buffer of that length always has room
 

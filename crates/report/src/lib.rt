@@ -7,7 +7,7 @@ ghost use Rattle.format.specs.Column.{digits};
 ghost use Rattle.format.specs.Text.{begins};
 ghost use Rattle.format.specs.Answers.{judgedAnswer, writtenAnswer};
 ghost use Rattle.format.specs.Program.{judgeInput};
-ghost use Rattle.format.specs.Program.{lineTo, reportTo};
+ghost use Rattle.format.specs.Program.{lineTo, reportTo, unreadTo};
 ghost use Rattle.files.specs.Buffers.{putAt};
 ghost use Rattle.report.specs.Steps.{numberLine, lineFor};
 use format::Judged;
@@ -141,4 +141,11 @@ pub fn report(input: &[u8], out: &mut [u8]) -> Written
     }
     let judged = judge_input(input);
     put_answer(out, judged)
+}
+
+// Puts the line that the program prints where its input could not be read to the end at the start of a buffer, if it has room there.
+pub fn report_unread(out: &mut [u8]) -> Written
+    ensures { λ r. ⌜ record { answer = writtenAnswer r; bytes = now (out .exit) } ≡ unreadTo (now (out .entry)) ⌝ }
+{
+    put_text_line(out, b"not judged: read error\n")
 }
