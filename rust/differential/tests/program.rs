@@ -1,22 +1,14 @@
 //! The built program, as `target/bin/dm` and by the script `./dm`, prints the line that the reference has for its input.
 
+mod support;
+
 use reference::random::Random;
 use reference::{sheets, RECORD};
 use std::fs;
 use std::io::Write;
-use std::path::{Path, PathBuf};
+use std::path::Path;
 use std::process::{Command, Output, Stdio};
-
-fn root() -> PathBuf {
-    Path::new(env!("CARGO_MANIFEST_DIR")).join("../..")
-}
-
-/// The built program. The script would build it where it is missing, which takes minutes: that is no part of a test.
-fn built() -> PathBuf {
-    let program = root().join("target/bin/dm");
-    assert!(program.exists(), "target/bin/dm is missing: run `rt check dm` at the repository's root first");
-    program
-}
+use support::{built, example, preloaded, printed, root};
 
 /// Runs a command with these pieces on its standard input, some milliseconds apart.
 fn run(command: &mut Command, pieces: Vec<Vec<u8>>) -> Output {
@@ -33,28 +25,20 @@ fn run(command: &mut Command, pieces: Vec<Vec<u8>>) -> Output {
     done
 }
 
-fn printed(done: &Output) -> (Option<i32>, String, String) {
-    let text = |bytes: &[u8]| String::from_utf8(bytes.to_vec()).expect("text");
-    (done.status.code(), text(&done.stdout), text(&done.stderr))
-}
-
-/// The program, the script with a file and the script with standard input all print the reference's line, which is this one.
+/// The program, the script with a file and the script with standard input all print the reference's line, which is this one. The script's exit
+/// status tells whether it says accepted.
 fn prints(name: &str, input: &[u8], line: &str) {
     let expected = (Some(0), reference::program(input) + "\n", String::new());
     assert_eq!(expected.1, format!("{line}\n"), "{name}: the reference");
+    let by_script = (Some(if line.starts_with("accepted") { 0 } else { 1 }), expected.1.clone(), String::new());
     let program = built();
     let file = Path::new(env!("CARGO_TARGET_TMPDIR")).join(format!("program_{name}"));
     fs::write(&file, input).expect("a file");
     assert_eq!(printed(&run(&mut Command::new(&program), vec![input.to_vec()])), expected, "{name}: target/bin/dm");
     let mut script = Command::new("./dm");
     script.current_dir(root());
-    assert_eq!(printed(&run(&mut script, vec![input.to_vec()])), expected, "{name}: ./dm");
-    assert_eq!(printed(&run(script.arg(&file), Vec::new())), expected, "{name}: ./dm FILE");
-}
-
-/// The example of document 01, which the program is stored with.
-fn example() -> Vec<u8> {
-    fs::read(root().join("crates/dm/stdin")).expect("crates/dm/stdin")
+    assert_eq!(printed(&run(&mut script, vec![input.to_vec()])), by_script, "{name}: ./dm");
+    assert_eq!(printed(&run(script.arg(&file), Vec::new())), by_script, "{name}: ./dm FILE");
 }
 
 #[test]
@@ -114,12 +98,15 @@ fn input_in_pieces() {
     assert_eq!(printed(&done), (Some(0), "accepted 9 records 1 items\n".to_string(), String::new()));
 }
 
+/// A read that fails is no end of the input: whatever was read before it, the program prints a line that is no answer. Each read gives one record here;
+/// the first nine are the whole sheet, and the tenth finds its end.
 #[test]
-fn a_missing_file_and_two_files() {
-    built();
-    let mut script = Command::new("./dm");
-    let missing = printed(&run(script.current_dir(root()).arg("no such file"), Vec::new()));
-    assert!(missing.0 != Some(0) && missing.1.is_empty() && missing.2.contains("no such file"), "{missing:?}");
-    let two = printed(&run(Command::new("./dm").current_dir(root()).args(["crates/dm/stdin", "crates/dm/stdin"]), Vec::new()));
-    assert_eq!(two, (Some(2), String::new(), "usage: dm [FILE]\n".to_string()));
+fn a_failed_read_is_no_end() {
+    for nth in 1..=11 {
+        let sheet = fs::File::open(root().join("crates/dm/stdin")).expect("the stored sheet");
+        let mut command = Command::new(built());
+        let done = preloaded(command.stdin(sheet), "failing_read", &nth.to_string()).output().expect("it ends");
+        let expected = if nth <= 10 { "not judged: read error\n" } else { "accepted 9 records 1 items\n" };
+        assert_eq!(printed(&done), (Some(0), expected.to_string(), String::new()), "read {nth}");
+    }
 }

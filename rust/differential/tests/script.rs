@@ -1,0 +1,128 @@
+//! The script `./dm`: its exit status where there is an answer and where there is none, and when it builds anew.
+
+mod support;
+
+use std::fs::{self, File};
+use std::os::unix::fs::{symlink, PermissionsExt};
+use std::path::{Path, PathBuf};
+use std::process::{Command, Stdio};
+use std::time::{Duration, SystemTime};
+use support::{built, example, preloaded, printed, root};
+
+type Printed = (Option<i32>, String, String);
+
+/// The script on words, with standard input closed to it.
+fn dm(words: &[&str]) -> Printed {
+    built();
+    printed(&Command::new("./dm").current_dir(root()).args(words).stdin(Stdio::null()).output().expect("it ends"))
+}
+
+/// No answer: status 2, nothing printed, and a reason that has these words.
+fn no_answer(seen: Printed, words: &str) {
+    assert_eq!((seen.0, seen.1.as_str()), (Some(2), ""), "{seen:?}");
+    assert!(seen.2.contains(words), "{seen:?}");
+}
+
+/// An empty folder for a test.
+fn folder(name: &str) -> PathBuf {
+    let folder = Path::new(env!("CARGO_TARGET_TMPDIR")).join(format!("script_{name}_{}", std::process::id()));
+    let _ = fs::remove_dir_all(&folder);
+    fs::create_dir_all(&folder).expect("a folder");
+    folder
+}
+
+fn executable(path: &Path, text: &str) {
+    fs::write(path, text).expect("a file");
+    fs::set_permissions(path, fs::Permissions::from_mode(0o755)).expect("its permissions");
+}
+
+#[test]
+fn where_no_answer_comes() {
+    no_answer(dm(&["no such file"]), "no such file: there is no such file");
+    no_answer(dm(&["crates"]), "crates: it is a folder");
+    no_answer(dm(&["crates/dm/stdin", "crates/dm/stdin"]), "usage: dm [FILE]");
+}
+
+/// Root may read every file: as root the test asks for another user.
+#[test]
+fn a_file_that_may_not_be_read() {
+    use std::os::unix::fs::MetadataExt;
+    use std::os::unix::process::CommandExt;
+    let secret = folder("secret").join("secret.dm");
+    fs::write(&secret, example()).expect("a file");
+    fs::set_permissions(&secret, fs::Permissions::from_mode(0o000)).expect("its permissions");
+    built();
+    let mut command = Command::new("./dm");
+    command.current_dir(root()).arg(&secret);
+    if fs::metadata(&secret).expect("it is there").uid() == 0 {
+        command.uid(65_534).gid(65_534);
+    }
+    no_answer(printed(&command.output().expect("it ends")), "it may not be read");
+}
+
+/// A folder, or a tape that fails, as standard input: the program's own line, and status 2.
+#[test]
+fn an_input_that_cannot_be_read() {
+    built();
+    let unread = (Some(2), "not judged: read error\n".to_string(), String::new());
+    let here = File::open(root()).expect("the root");
+    assert_eq!(printed(&Command::new("./dm").current_dir(root()).stdin(here).output().expect("it ends")), unread);
+    let mut command = Command::new("./dm");
+    let failing = preloaded(command.current_dir(root()).arg("crates/dm/stdin"), "failing_read", "10");
+    assert_eq!(printed(&failing.output().expect("it ends")), unread);
+}
+
+#[test]
+fn an_output_that_is_full_or_closed() {
+    built();
+    for output in [">/dev/full", ">&-"] {
+        for words in ["crates/dm/stdin", "--help"] {
+            let script = format!("./dm {words} {output}");
+            let done = Command::new("sh").args(["-c", &script]).current_dir(root()).output().expect("it ends");
+            assert_eq!(done.status.code(), Some(2), "{script}: {}", String::from_utf8_lossy(&done.stderr));
+        }
+    }
+}
+
+#[test]
+fn help_and_a_link_to_it() {
+    let help = dm(&["--help"]);
+    assert_eq!((help.0, help.2.as_str()), (Some(0), ""));
+    assert!(help.1.starts_with("usage: dm [FILE]") && help.1.contains("Exit status: 0 accepted; 1 refused"), "{}", help.1);
+    assert_eq!(dm(&["-h"]), help);
+    let link = folder("link").join("judge");
+    symlink(root().join("dm").canonicalize().expect("the script"), &link).expect("a link");
+    let sheet = root().join("crates/dm/stdin");
+    let done = Command::new(&link).current_dir("/").arg(sheet.canonicalize().expect("the sheet")).output().expect("it ends");
+    assert_eq!(printed(&done), (Some(0), "accepted 9 records 1 items\n".to_string(), String::new()));
+}
+
+/// In a tree of its own, with a program that prints a line and a builder that counts its calls: built where it is missing and where a source is newer, once.
+#[test]
+fn built_anew_when_a_source_is_newer() {
+    let tree = folder("tree");
+    fs::create_dir_all(tree.join("crates/dm/src")).expect("a folder");
+    fs::create_dir_all(tree.join("bin")).expect("a folder");
+    fs::copy(root().join("dm"), tree.join("dm")).expect("the script");
+    fs::write(tree.join("crates/dm/src/main.rt"), "first").expect("a source");
+    fs::write(tree.join("crates.txt"), "dm:").expect("a source");
+    executable(
+        &tree.join("bin/rt"),
+        "#!/bin/sh\necho \"$@\" >>calls\nmkdir -p target/bin\nprintf '#!/bin/sh\\necho too long\\n' >target/bin/dm\nchmod +x target/bin/dm\n",
+    );
+    let path = format!("{}:{}", tree.join("bin").display(), std::env::var("PATH").expect("a PATH"));
+    let ran = || printed(&Command::new(tree.join("dm")).env("PATH", &path).stdin(Stdio::null()).output().expect("it ends"));
+    let calls = || fs::read_to_string(tree.join("calls")).unwrap_or_default().lines().count();
+    for (round, expected) in [1, 1, 2, 2].into_iter().enumerate() {
+        if round == 2 {
+            // The program becomes older than the sources.
+            let program = File::options().write(true).open(tree.join("target/bin/dm")).expect("the program");
+            program.set_modified(SystemTime::now() - Duration::from_secs(1_000)).expect("its time");
+        }
+        let seen = ran();
+        assert_eq!((seen.0, seen.1.as_str(), calls()), (Some(1), "too long\n", expected), "round {round}: {}", seen.2);
+    }
+    executable(&tree.join("bin/rt"), "#!/bin/sh\nexit 1\n");
+    fs::remove_file(tree.join("target/bin/dm")).expect("the program");
+    no_answer(ran(), "it could not be built");
+}
