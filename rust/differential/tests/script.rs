@@ -23,12 +23,24 @@ fn no_answer(seen: Printed, words: &str) {
     assert!(seen.2.contains(words), "{seen:?}");
 }
 
-/// An empty folder for a test.
-fn folder(name: &str) -> PathBuf {
-    let folder = Path::new(env!("CARGO_TARGET_TMPDIR")).join(format!("script_{name}_{}", std::process::id()));
-    let _ = fs::remove_dir_all(&folder);
-    fs::create_dir_all(&folder).expect("a folder");
-    folder
+/// A folder for a test, removed behind it. It lies where every user may look.
+struct Folder(PathBuf);
+
+impl Folder {
+    fn new(name: &str) -> Folder {
+        let folder = std::env::temp_dir().join(format!("dm_script_{name}_{}", std::process::id()));
+        let _ = fs::remove_dir_all(&folder);
+        fs::create_dir_all(folder.join("crates/dm/src")).expect("a folder");
+        fs::create_dir_all(folder.join("target/bin")).expect("a folder");
+        fs::copy(root().join("dm"), folder.join("dm")).expect("the script");
+        Folder(folder)
+    }
+}
+
+impl Drop for Folder {
+    fn drop(&mut self) {
+        let _ = fs::remove_dir_all(&self.0);
+    }
 }
 
 fn executable(path: &Path, text: &str) {
@@ -48,12 +60,15 @@ fn where_no_answer_comes() {
 fn a_file_that_may_not_be_read() {
     use std::os::unix::fs::MetadataExt;
     use std::os::unix::process::CommandExt;
-    let secret = folder("secret").join("secret.dm");
+    let folder = Folder::new("secret");
+    fs::copy(built(), folder.0.join("target/bin/dm")).expect("the program");
+    fs::write(folder.0.join("crates.txt"), "").expect("a file");
+    File::open(folder.0.join("crates.txt")).and_then(|f| f.set_modified(SystemTime::UNIX_EPOCH)).expect("its time");
+    let secret = folder.0.join("secret.dm");
     fs::write(&secret, example()).expect("a file");
     fs::set_permissions(&secret, fs::Permissions::from_mode(0o000)).expect("its permissions");
-    built();
-    let mut command = Command::new("./dm");
-    command.current_dir(root()).arg(&secret);
+    let mut command = Command::new(folder.0.join("dm"));
+    command.current_dir("/").arg(&secret);
     if fs::metadata(&secret).expect("it is there").uid() == 0 {
         command.uid(65_534).gid(65_534);
     }
@@ -90,7 +105,8 @@ fn help_and_a_link_to_it() {
     assert_eq!((help.0, help.2.as_str()), (Some(0), ""));
     assert!(help.1.starts_with("usage: dm [FILE]") && help.1.contains("Exit status: 0 accepted; 1 refused"), "{}", help.1);
     assert_eq!(dm(&["-h"]), help);
-    let link = folder("link").join("judge");
+    let folder = Folder::new("link");
+    let link = folder.0.join("judge");
     symlink(root().join("dm").canonicalize().expect("the script"), &link).expect("a link");
     let sheet = root().join("crates/dm/stdin");
     let done = Command::new(&link).current_dir("/").arg(sheet.canonicalize().expect("the sheet")).output().expect("it ends");
@@ -100,15 +116,14 @@ fn help_and_a_link_to_it() {
 /// In a tree of its own, with a program that prints a line and a builder that counts its calls: built where it is missing and where a source is newer, once.
 #[test]
 fn built_anew_when_a_source_is_newer() {
-    let tree = folder("tree");
-    fs::create_dir_all(tree.join("crates/dm/src")).expect("a folder");
+    let folder = Folder::new("tree");
+    let tree = &folder.0;
     fs::create_dir_all(tree.join("bin")).expect("a folder");
-    fs::copy(root().join("dm"), tree.join("dm")).expect("the script");
     fs::write(tree.join("crates/dm/src/main.rt"), "first").expect("a source");
     fs::write(tree.join("crates.txt"), "dm:").expect("a source");
     executable(
         &tree.join("bin/rt"),
-        "#!/bin/sh\necho \"$@\" >>calls\nmkdir -p target/bin\nprintf '#!/bin/sh\\necho too long\\n' >target/bin/dm\nchmod +x target/bin/dm\n",
+        "#!/bin/sh\necho \"$@\" >>calls\nprintf '#!/bin/sh\\necho too long\\n' >target/bin/dm\nchmod +x target/bin/dm\n",
     );
     let path = format!("{}:{}", tree.join("bin").display(), std::env::var("PATH").expect("a PATH"));
     let ran = || printed(&Command::new(tree.join("dm")).env("PATH", &path).stdin(Stdio::null()).output().expect("it ends"));
