@@ -30,6 +30,7 @@ pub mod layout;
 pub mod outline;
 mod raw;
 mod refusal;
+mod sheet;
 pub mod text;
 mod unit;
 
@@ -39,6 +40,7 @@ pub use calls::{
 };
 pub use kind::FileKind;
 pub use refusal::{Reason, Refusal};
+pub use sheet::{Item, Sheet};
 pub use unit::Unit;
 
 /// Bytes of a record.
