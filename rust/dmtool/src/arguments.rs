@@ -10,6 +10,10 @@ pub struct Arguments {
     pub words: Vec<OsString>,
     /// `-o OTHER`.
     pub output: Option<OsString>,
+    /// `--force`: `-o OTHER` may replace another file.
+    pub force: bool,
+    /// `--no-lock`: a file is replaced without its lock.
+    pub no_lock: bool,
     /// `--help` or `-h`.
     pub help: bool,
 }
@@ -23,6 +27,8 @@ impl Arguments {
             match word.to_string_lossy().as_ref() {
                 "--" => found.words.extend(rest.by_ref().cloned()),
                 "--help" | "-h" => found.help = true,
+                "--force" if with_output => found.force = true,
+                "--no-lock" if with_output => found.no_lock = true,
                 "-o" | "--output" if with_output => {
                     let other = rest.next().ok_or_else(|| Failure::Usage("-o needs a file name behind it".to_string()))?;
                     found.output = Some(other.clone());
@@ -35,7 +41,14 @@ impl Arguments {
                 _ => found.words.push(word.clone()),
             }
         }
-        Ok(found)
+        found.checked()
+    }
+
+    fn checked(self) -> Result<Arguments, Failure> {
+        if self.force && self.output.is_none() && !self.help {
+            return Err(Failure::Usage("--force goes with -o OTHER: it lets the result replace another file".to_string()));
+        }
+        Ok(self)
     }
 
     /// The words, as many as a subcommand takes; `usage` names them.

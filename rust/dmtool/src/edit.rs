@@ -2,16 +2,18 @@
 
 use crate::arguments::{record_number, Arguments};
 use crate::failure::{Done, Failure, FINE};
-use crate::{files, replace};
+use crate::files;
+use crate::replace::Job;
 use std::ffi::OsStr;
 use std::io::Write;
-use zvaigulta::{judge_sheet, RECORD_BYTES};
+use zvaigulta::layout::SHEET_B;
+use zvaigulta::RECORD_BYTES;
 
-/// A place: a record number, or `end` for one past the last record.
-fn place(word: &OsStr, sheet: &[u8]) -> Result<usize, Failure> {
+/// A place for an insertion: a record number, or none for `end`.
+fn place(word: &OsStr) -> Result<Option<usize>, Failure> {
     match word {
-        end if end == "end" => Ok(sheet.len() / RECORD_BYTES + 1),
-        number => record_number(number, "PLACE"),
+        end if end == "end" => Ok(None),
+        number => record_number(number, "PLACE").map(Some),
     }
 }
 
@@ -24,48 +26,51 @@ fn target<'a>(arguments: &'a Arguments, path: &'a OsStr) -> Result<&'a OsStr, Fa
     }
 }
 
-/// Inserts the block before the record at the place.
+/// Inserts the block before the record at the place. The block is read first, so that nobody waits for the sheet while the
+/// block comes through a pipe.
 pub fn insert(arguments: &Arguments, out: &mut impl Write) -> Done {
-    let [path, at, block_path] = arguments.exactly("insert FILE PLACE BLOCKFILE [-o OTHER]")?;
-    let target = target(arguments, path)?;
+    let [path, at, block_path] = arguments.exactly("insert FILE PLACE BLOCKFILE [-o OTHER [--force]] [--no-lock]")?;
+    let (to, at) = (target(arguments, path)?, place(at)?);
     if path == "-" && block_path == "-" {
         return Err(Failure::Usage("only one of FILE and BLOCKFILE can be standard input".to_string()));
     }
-    let seen = replace::Seen::of(target);
-    let mut buffer = files::read(path)?;
-    let used = buffer.len();
-    let place = place(at, &buffer)?;
     let block = files::read(block_path)?;
-    buffer.resize(used + block.len(), b' ');
-    let new = zvaigulta::insert(&mut buffer, used, place, &block).map_err(|r| files::refused(path, r))?;
-    buffer.truncate(new);
+    let job = Job::open(arguments, path, to)?;
+    let used = job.bytes.len();
+    let place = at.unwrap_or(used / RECORD_BYTES + 1);
+    let mut sheet = Vec::with_capacity(used + block.len());
+    sheet.extend_from_slice(&job.bytes);
+    sheet.resize(used + block.len(), b' ');
+    let new = zvaigulta::insert(&mut sheet, used, place, &block).map_err(|r| files::refused(path, r))?;
+    sheet.truncate(new);
     let done = format!("inserted {} records at record {place}", block.len() / RECORD_BYTES);
-    finish(target, &seen, &buffer, &done, out)
+    finish(job, to, &sheet, &done, out)
 }
 
 /// Removes the item at the place.
 pub fn remove(arguments: &Arguments, out: &mut impl Write) -> Done {
-    let [path, at] = arguments.exactly("remove FILE PLACE [-o OTHER]")?;
-    let target = target(arguments, path)?;
-    let seen = replace::Seen::of(target);
-    let mut buffer = files::read(path)?;
-    let used = buffer.len();
-    let place = record_number(at, "PLACE")?;
-    let new = zvaigulta::remove(&mut buffer, used, place).map_err(|r| files::refused(path, r))?;
-    buffer.truncate(new);
+    let [path, at] = arguments.exactly("remove FILE PLACE [-o OTHER [--force]] [--no-lock]")?;
+    let (to, place) = (target(arguments, path)?, record_number(at, "PLACE")?);
+    let job = Job::open(arguments, path, to)?;
+    let used = job.bytes.len();
+    let mut sheet = job.bytes.clone();
+    let new = zvaigulta::remove(&mut sheet, used, place).map_err(|r| files::refused(path, r))?;
+    sheet.truncate(new);
     let done = format!("removed {} records at record {place}", (used - new) / RECORD_BYTES);
-    finish(target, &seen, &buffer, &done, out)
+    finish(job, to, &sheet, &done, out)
 }
 
-/// Judges the result once more, writes it and says what was done.
-fn finish(target: &OsStr, seen: &replace::Seen, sheet: &[u8], done: &str, out: &mut impl Write) -> Done {
-    let counts = judge_sheet(sheet, sheet.len()).map_err(|r| files::refused(target, r))?;
-    replace::deliver(target, seen, sheet, out)?;
-    if target == "-" {
+/// Puts the sheet where it goes and says what was done. Its items are the element count of record 2, which an accepted edit
+/// leaves exact.
+fn finish(job: Job, to: &OsStr, sheet: &[u8], done: &str, out: &mut impl Write) -> Done {
+    let silent = job.is_to_output();
+    job.deliver(sheet, out)?;
+    if silent {
         return Ok(FINE);
     }
-    let name = files::name(target);
-    let said = writeln!(out, "{name}: {done}, now {} records {} items", counts.records, counts.items).and_then(|()| out.flush());
+    let items = sheet.get(RECORD_BYTES..).and_then(|rest| SHEET_B.value("element count", rest)).unwrap_or_default();
+    let (name, records) = (files::name(to), sheet.len() / RECORD_BYTES);
+    let said = writeln!(out, "{name}: {done}, now {records} records {items} items").and_then(|()| out.flush());
     said.map_err(|e| Failure::File(format!("{name}: {done}; only this could not be printed: {e}")))?;
     Ok(FINE)
 }

@@ -2,32 +2,59 @@
 
 use crate::failure::Failure;
 use std::ffi::OsStr;
-use std::fs::File;
-use std::io::{self, Read};
+use std::fs::{self, File};
+use std::io::{self, ErrorKind, Read};
 use zvaigulta::text::shown;
 use zvaigulta::{Counts, FileKind, Refusal, MOST_RECORDS, RECORD_BYTES};
 
 /// One record more than a file may have. A longer file answers as this much of it does: it is refused by its length.
-const LONGEST: u64 = ((MOST_RECORDS + 1) * RECORD_BYTES) as u64;
+pub const LONGEST: u64 = ((MOST_RECORDS + 1) * RECORD_BYTES) as u64;
 
-fn take_all(from: impl Read, into: &mut Vec<u8>) -> io::Result<usize> {
+/// Reads as much as a file may have into a buffer.
+pub fn take_all(from: impl Read, into: &mut Vec<u8>) -> io::Result<usize> {
     into.clear();
     from.take(LONGEST).read_to_end(into)
 }
 
-fn advice(error: &io::Error) -> String {
-    match error.kind() {
-        io::ErrorKind::NotFound => "there is no such file; check the name and the folder".to_string(),
-        io::ErrorKind::PermissionDenied => "it may not be read; ask its owner for the right to".to_string(),
-        io::ErrorKind::IsADirectory => "it is a folder; name the files in it".to_string(),
+/// Where a link leads, if a path is a link that leads to no file.
+pub fn leads_nowhere(path: &OsStr) -> Option<String> {
+    let nothing = fs::metadata(path).is_err_and(|e| e.kind() == ErrorKind::NotFound);
+    let to = fs::read_link(path).ok().filter(|_| nothing)?;
+    Some(format!("it is a link to {}, where no file is", name(to.as_os_str())))
+}
+
+/// The failure of a read: why, and what to do.
+pub fn unread(path: &OsStr, error: &io::Error) -> Failure {
+    let why = match (error.kind(), leads_nowhere(path)) {
+        (ErrorKind::NotFound, Some(link)) => format!("{link}; check the link"),
+        (ErrorKind::NotFound, None) => "there is no such file; check the name and the folder".to_string(),
+        (ErrorKind::PermissionDenied, _) => "it may not be read; ask its owner for the right to".to_string(),
+        (ErrorKind::IsADirectory, _) => "it is a folder; name the files in it".to_string(),
         _ => format!("it cannot be read: {error}; try again or copy it to another place"),
-    }
+    };
+    Failure::File(format!("{}: {why}", name(path)))
+}
+
+/// The failure of a write that left everything as it was: why, and what to do.
+pub fn unwritten(path: &OsStr, error: &io::Error) -> Failure {
+    let why = match error.kind() {
+        ErrorKind::PermissionDenied => "no new file may be made in its folder; ask for the right to",
+        ErrorKind::ReadOnlyFilesystem => "its disk is mounted read-only",
+        ErrorKind::StorageFull | ErrorKind::QuotaExceeded => "the disk is full; make room",
+        ErrorKind::NotFound => "there is no such folder; make it first",
+        ErrorKind::NotADirectory => "a part of its path is no folder; check the path",
+        _ => &error.to_string(),
+    };
+    Failure::File(format!(
+        "{}: it could not be written: {why}; what stood there is unchanged. Name another place by -o",
+        name(path)
+    ))
 }
 
 /// Reads a file, or standard input for `-`, into a buffer.
 pub fn read_into(path: &OsStr, into: &mut Vec<u8>) -> Result<(), Failure> {
     let done = if path == "-" { take_all(io::stdin().lock(), into) } else { File::open(path).and_then(|f| take_all(f, into)) };
-    done.map(|_| ()).map_err(|e| Failure::File(format!("{}: {}", name(path), advice(&e))))
+    done.map(|_| ()).map_err(|e| unread(path, &e))
 }
 
 /// Reads a file, or standard input for `-`.

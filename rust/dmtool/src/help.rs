@@ -54,22 +54,49 @@ marks behind a ?. Blank columns and empty texts are left out. Behind a refusal t
 Exit status: 0 shown, whatever the judgement; 2 wrong words, or the file cannot be read or has no record FROM.
 ";
 
-const INSERT: &str = "\
-Usage: dmtool insert FILE PLACE BLOCKFILE [-o OTHER]
+/// What insert, remove and normal say of a file that is replaced.
+macro_rules! replacing {
+    () => {
+        "
+A file is replaced whole or not at all: the result is written beside it, synced to the disk and renamed over it, with owner and
+permissions kept. It is locked meanwhile, so that two edits at once are done one after the other. A file that you may not write,
+that is marked read-only or that has several names (hard links) stays as it is.
 
-Puts the item in BLOCKFILE (an element, grid or net with its data records) into the sheet before the record PLACE; 'end' is one past the last
-record. The header above and the sheet's counts are brought up to date. The result replaces FILE, or OTHER, whole or not at all: it is written beside
-it, synced and renamed, with the permissions kept; a read-only file is left alone. -o - is standard output.
+  -o OTHER     writes the result to OTHER and leaves FILE; - is standard output. OTHER must not exist yet, unless it is FILE
+               itself, a device or a pipe
+  --force      lets -o replace an OTHER that exists
+  --no-lock    replaces a file without its lock, for shares that have no locks; only where nobody else edits it
+
+"
+    };
+}
+
+const INSERT: &str = concat!(
+    "\
+Usage: dmtool insert FILE PLACE BLOCKFILE [-o OTHER [--force]] [--no-lock]
+
+Puts the item in BLOCKFILE (an element, grid or net with its data records) into the sheet before the record PLACE; 'end' is one
+past the last record. The header above and the sheet's counts are brought up to date. The result replaces FILE, unless -o names
+another place.
+",
+    replacing!(),
+    "\
 Exit status: 0 done; 1 refused, and no file is changed; 2 wrong words, or a file cannot be read or written.
-";
+"
+);
 
-const REMOVE: &str = "\
-Usage: dmtool remove FILE PLACE [-o OTHER]
+const REMOVE: &str = concat!(
+    "\
+Usage: dmtool remove FILE PLACE [-o OTHER [--force]] [--no-lock]
 
-Takes the item that starts at the record PLACE, with its data records, out of the sheet. The header above and the sheet's counts are brought up to
-date. The result replaces FILE, or OTHER, whole or not at all, as with insert. -o - is standard output.
+Takes the item that starts at the record PLACE, with its data records, out of the sheet. The header above and the sheet's counts
+are brought up to date. The result replaces FILE, unless -o names another place.
+",
+    replacing!(),
+    "\
 Exit status: 0 done; 1 refused, and no file is changed; 2 wrong words, or a file cannot be read or written.
-";
+"
+);
 
 const UP: &str = "\
 Usage: dmtool up FILE RECORD
@@ -79,13 +106,18 @@ item.
 Exit status: 0 answered; 1 the sheet is refused, or the record is none of its layers'; 2 wrong words, or the file cannot be read.
 ";
 
-const NORMAL: &str = "\
-Usage: dmtool normal FILE [-o OTHER]
+const NORMAL: &str = concat!(
+    "\
+Usage: dmtool normal FILE [-o OTHER [--force]] [--no-lock]
 
-Writes the file with every judged integer in written form (shortest digits, spaces in front) to standard output, or to OTHER, which is replaced
-whole or not at all and may be FILE itself. Nothing is written where the file is refused.
-Exit status: 0 done; 1 refused; 2 wrong words, or a file cannot be read or written.
-";
+Writes the file with every judged integer in written form (shortest digits, spaces in front) to standard output, or to the place
+that -o names, which may be FILE itself. Nothing is written where the file is refused.
+",
+    replacing!(),
+    "\
+Exit status: 0 done; 1 refused, and no file is changed; 2 wrong words, or a file cannot be read or written.
+"
+);
 
 const BATCH: &str = "\
 Usage: dmtool batch

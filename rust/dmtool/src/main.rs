@@ -1,17 +1,23 @@
 //! `dmtool`: judges, explains, shows and edits digital mapping files by the proved library. docs/TOOL.md shows each subcommand.
 
+#![deny(unsafe_code)]
+
 mod arguments;
 mod batch;
+mod beside;
 mod edit;
 mod explain;
 mod failure;
 mod files;
+mod held;
 mod help;
 mod judge;
+mod lock;
 mod normal;
 mod progress;
 mod replace;
 mod show;
+mod system;
 mod up;
 mod words;
 

@@ -1,106 +1,123 @@
-//! A result put in place of a file whole or not at all: written beside it, synced, then renamed over it.
+//! Where the result of a subcommand goes: over the file that was read, to a new file, over another by `--force`, to a device or
+//! a pipe, or to standard output.
 
-use crate::failure::{output_failed, Done, Failure, FINE};
-use crate::files::name;
+use crate::arguments::Arguments;
+use crate::beside;
+use crate::failure::{output_failed, Failure};
+use crate::files::{self, name};
+use crate::held::{self, Held};
 use std::ffi::OsStr;
 use std::fs::{self, File, Metadata, OpenOptions};
-use std::io::{self, Write};
-use std::os::unix::fs::{fchown, MetadataExt, OpenOptionsExt};
-use std::path::{Path, PathBuf};
+use std::io::{self, ErrorKind, Write};
+use std::os::fd::AsFd;
+use std::path::Path;
 
-/// A file as it stood before it was read, to notice that somebody else wrote it since.
-pub struct Seen(Option<(u64, u64, i64, i64)>);
-
-fn looked_at(path: &OsStr) -> Option<(u64, u64, i64, i64)> {
-    let found = if path == "-" { None } else { fs::metadata(path).ok() };
-    found.map(|m| (m.ino(), m.size(), m.mtime(), m.mtime_nsec()))
+/// A file that was read, and where its result goes.
+pub struct Job<'a> {
+    /// The bytes that were read.
+    pub bytes: Vec<u8>,
+    path: &'a OsStr,
+    to: &'a OsStr,
+    target: Target,
+    no_lock: bool,
 }
 
-impl Seen {
-    pub fn of(path: &OsStr) -> Seen {
-        Seen(looked_at(path))
-    }
-
-    /// Fails where the file is no longer as it was seen.
-    fn still(&self, path: &OsStr) -> Result<(), Failure> {
-        if self.0 == looked_at(path) {
-            return Ok(());
-        }
-        Err(Failure::File(format!("{}: somebody else wrote it meanwhile; nothing was changed, try again", name(path))))
-    }
+enum Target {
+    /// Standard output.
+    Output,
+    /// A device or a pipe, which cannot be replaced and is written as it is.
+    Device,
+    /// A name that nothing has yet.
+    New,
+    /// Another file than the one that was read, by `--force`.
+    Other,
+    /// The file that was read.
+    Same(Box<Held>),
 }
 
-/// Puts bytes into a file that is still as it was seen, or onto standard output for `-`.
-pub fn deliver(target: &OsStr, seen: &Seen, bytes: &[u8], out: &mut impl Write) -> Done {
-    if target == "-" {
-        out.write_all(bytes).map_err(output_failed)?;
-        return Ok(FINE);
+impl<'a> Job<'a> {
+    /// Reads the file of a path, under its lock where the result is to replace it.
+    pub fn open(arguments: &Arguments, path: &'a OsStr, to: &'a OsStr) -> Result<Job<'a>, Failure> {
+        let no_lock = arguments.no_lock;
+        let (bytes, target) = if path != "-" && held::same(path, to) {
+            let held = Held::take(to, no_lock)?;
+            (held.read()?, Target::Same(Box::new(held)))
+        } else {
+            let target = Target::of(path, to, arguments.force)?;
+            (files::read(path)?, target)
+        };
+        Ok(Job { bytes, path, to, target, no_lock })
     }
-    seen.still(target)?;
-    let failed = |e: io::Error| {
-        Failure::File(format!(
-            "{}: it could not be written: {e}; what stood there is unchanged. Name another place by -o",
-            name(target)
-        ))
-    };
-    replace(Path::new(target), bytes).map_err(failed)?;
-    Ok(FINE)
-}
 
-/// The file that a path leads to, and what is there now. A link is followed, so that it stays a link.
-fn destination(path: &Path) -> io::Result<(PathBuf, Option<Metadata>)> {
-    match fs::canonicalize(path) {
-        Ok(real) => fs::metadata(&real).map(|found| (real, Some(found))),
-        Err(e) if e.kind() == io::ErrorKind::NotFound => Ok((path.to_path_buf(), None)),
-        Err(e) => Err(e),
+    /// Whether the result goes to standard output, where nothing else may stand.
+    pub fn is_to_output(&self) -> bool {
+        matches!(self.target, Target::Output)
     }
-}
 
-fn replace(path: &Path, bytes: &[u8]) -> io::Result<()> {
-    let (path, found) = destination(path)?;
-    if let Some(found) = &found {
-        if !found.is_file() {
-            // A device or a pipe cannot be replaced, and nothing in it can be lost.
-            return OpenOptions::new().write(true).open(&path)?.write_all(bytes);
-        }
-        if found.permissions().readonly() {
-            return Err(io::Error::new(io::ErrorKind::PermissionDenied, "it is marked read-only"));
+    /// Puts the result where it goes; into a file whole or not at all.
+    pub fn deliver(self, result: &[u8], out: &mut impl Write) -> Result<(), Failure> {
+        let to = self.to;
+        match self.target {
+            Target::Output => out.write_all(result).map_err(output_failed),
+            Target::Device => write_device(to, result)
+                .map_err(|e| Failure::File(format!("{}: it could not be written: {e}; name another place by -o", name(to)))),
+            Target::New => beside::put_new(Path::new(to), result).map_err(|e| match e.kind() {
+                ErrorKind::AlreadyExists => exists(self.path, to),
+                _ => files::unwritten(to, &e),
+            }),
+            Target::Other => Held::take(to, self.no_lock)?.replace(result, None),
+            Target::Same(held) => held.replace(result, Some(&self.bytes)),
         }
     }
-    let folder = path.parent().filter(|f| !f.as_os_str().is_empty()).unwrap_or(Path::new("."));
-    let (beside, file) = create_beside(folder, found.is_some())?;
-    let done = fill(file, bytes, found.as_ref()).and_then(|()| fs::rename(&beside, &path));
-    if done.is_err() {
-        let _ = fs::remove_file(&beside);
-        return done;
-    }
-    // The new name is on the disk once its folder is; where a folder cannot be synced, the name is still in place.
-    let _ = File::open(folder).and_then(|f| f.sync_all());
-    Ok(())
 }
 
-/// A new file in a folder. One that is to take another's permissions is nobody else's to read until it has them.
-fn create_beside(folder: &Path, private: bool) -> io::Result<(PathBuf, File)> {
-    let mode = if private { 0o600 } else { 0o666 };
-    let mut last = io::Error::other("no free name for the new file");
-    for n in 0..100 {
-        let beside = folder.join(format!(".dmtool-{}-{n}.tmp", std::process::id()));
-        match OpenOptions::new().write(true).create_new(true).mode(mode).open(&beside) {
-            Ok(file) => return Ok((beside, file)),
-            Err(e) if e.kind() == io::ErrorKind::AlreadyExists => last = e,
-            Err(e) => return Err(e),
+impl Target {
+    /// Where `-o` leads, if not to the file that was read.
+    fn of(path: &OsStr, to: &OsStr, force: bool) -> Result<Target, Failure> {
+        let found = match (to == "-", fs::metadata(to)) {
+            (true, _) => return Ok(Target::Output),
+            (_, Ok(found)) => found,
+            (_, Err(e)) if e.kind() == ErrorKind::NotFound => return new(to),
+            (_, Err(e)) => return Err(files::unwritten(to, &e)),
+        };
+        match () {
+            () if found.is_dir() => Err(Failure::File(format!("{}: it is a folder; name a file in it", name(to)))),
+            () if is_output(&found) => Ok(Target::Output),
+            () if !found.is_file() => Ok(Target::Device),
+            () if force => Ok(Target::Other),
+            () => Err(exists(path, to)),
         }
     }
-    Err(last)
 }
 
-/// Writes the bytes, gives the file the owner and permissions of the one that it replaces, and waits until it is on the disk.
-fn fill(mut file: File, bytes: &[u8], like: Option<&Metadata>) -> io::Result<()> {
-    file.write_all(bytes)?;
-    if let Some(like) = like {
-        // Only a privileged user may give a file away; for another the file becomes their own, as with any editor.
-        let _ = fchown(&file, Some(like.uid()), Some(like.gid()));
-        file.set_permissions(like.permissions())?;
+/// A name that leads to no file: nothing has it, or it is a link, which a new file would replace.
+fn new(to: &OsStr) -> Result<Target, Failure> {
+    match files::leads_nowhere(to) {
+        None => Ok(Target::New),
+        Some(link) => {
+            Err(Failure::File(format!("{}: {link}; nothing was written. Remove the link, or name another place by -o", name(to))))
+        }
     }
-    file.sync_all()
+}
+
+fn exists(path: &OsStr, to: &OsStr) -> Failure {
+    let (path, to) = (name(path), name(to));
+    Failure::File(format!(
+        "{path}: its result was not written to {to}, which exists already; name a new file by -o, or add --force to replace {to}"
+    ))
+}
+
+/// Whether a file is what standard output goes to, as with `-o /dev/stdout`.
+fn is_output(found: &Metadata) -> bool {
+    let output = io::stdout().as_fd().try_clone_to_owned().and_then(|fd| File::from(fd).metadata());
+    output.is_ok_and(|output| held::identity(&output) == held::identity(found))
+}
+
+fn write_device(path: &OsStr, bytes: &[u8]) -> io::Result<()> {
+    let mut device = OpenOptions::new().write(true).open(path)?;
+    if device.metadata()?.is_file() {
+        // It was none a moment ago.
+        return Err(ErrorKind::AlreadyExists.into());
+    }
+    device.write_all(bytes)
 }

@@ -27,7 +27,7 @@ fn help_for_the_tool_and_each_subcommand() {
 fn wrong_words_say_what_to_do() {
     let f = Folder::new("wrong_words");
     f.put("good.dm", &good());
-    let wrong: [&[&str]; 15] = [
+    let wrong: [&[&str]; 21] = [
         &[],
         &["rename"],
         &["judge"],
@@ -41,6 +41,12 @@ fn wrong_words_say_what_to_do() {
         &["insert", "-", "7", "-", "-o", "x"],
         &["remove", "good.dm", "-o"],
         &["remove", "-", "7"],
+        &["remove", "good.dm", "7", "--force"],
+        &["normal", "good.dm", "--force"],
+        &["remove", "good.dm", "7", "--nolock"],
+        &["judge", "good.dm", "--no-lock"],
+        &["show", "good.dm", "--force"],
+        &["insert", "good.dm", "seven", "missing.dm"],
         &["up", "good.dm", "18446744073709551616"],
         &["batch", "good.dm"],
     ];

@@ -1,6 +1,8 @@
 //! What the tests of the tool share: a folder for each test, the tool run as a user runs it, and files to run it on.
 #![allow(dead_code)]
 
+pub mod fault;
+
 use reference::random::Random;
 use reference::{sheets, RECORD};
 use std::fs;
@@ -27,12 +29,25 @@ impl Ran {
     }
 }
 
-/// A folder of a test's own, empty at its start.
+/// A folder of a test's own, empty at its start, and gone at its end unless the test fails.
 pub struct Folder(pub PathBuf);
+
+impl Drop for Folder {
+    fn drop(&mut self) {
+        if !std::thread::panicking() {
+            let _ = fs::remove_dir_all(&self.0);
+        }
+    }
+}
 
 impl Folder {
     pub fn new(name: &str) -> Folder {
-        let path = Path::new(env!("CARGO_TARGET_TMPDIR")).join(name);
+        Folder::below(Path::new(env!("CARGO_TARGET_TMPDIR")), name)
+    }
+
+    /// A folder below another, with the process in its name, so that the same test may run twice at once.
+    pub fn below(parent: &Path, name: &str) -> Folder {
+        let path = parent.join(format!("{name}.{}", std::process::id()));
         let _ = fs::remove_dir_all(&path);
         fs::create_dir_all(&path).expect("a folder");
         Folder(path)
@@ -55,9 +70,16 @@ impl Folder {
         names
     }
 
+    /// The tool, to be run in the folder.
+    pub fn tool(&self, words: &[&str]) -> Command {
+        let mut tool = Command::new(env!("CARGO_BIN_EXE_dmtool"));
+        tool.args(words).current_dir(&self.0);
+        tool
+    }
+
     /// Runs the tool in the folder, with these bytes on its standard input.
     pub fn run_on(&self, input: &[u8], words: &[&str]) -> Ran {
-        run(Command::new(env!("CARGO_BIN_EXE_dmtool")).args(words).current_dir(&self.0), input)
+        run(&mut self.tool(words), input)
     }
 
     pub fn run(&self, words: &[&str]) -> Ran {
