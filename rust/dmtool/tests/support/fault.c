@@ -72,6 +72,11 @@ int linkat(int old_folder, const char *old, int new_folder, const char *new, int
     return fault("linkat") ? -1 : REAL(linkat)(old_folder, old, new_folder, new, flags);
 }
 
+int unlink(const char *path)
+{
+    return fault("unlink") ? -1 : REAL(unlink)(path);
+}
+
 int open64(const char *path, int flags, ...)
 {
     va_list rest;
