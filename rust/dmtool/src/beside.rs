@@ -4,12 +4,12 @@
 //! and for the moment before it takes another's place, it is called `.NAME.dmtool-PROCESS-N.tmp` beside the file NAME;
 //! [`clear`] removes such as were left behind.
 
-use crate::system;
+use crate::{owner, system};
 use std::ffi::{OsStr, OsString};
-use std::fs::{self, File, Metadata, OpenOptions};
+use std::fs::{self, File, OpenOptions};
 use std::io::{self, Write};
 use std::os::unix::ffi::{OsStrExt, OsStringExt};
-use std::os::unix::fs::{fchown, MetadataExt, OpenOptionsExt, PermissionsExt};
+use std::os::unix::fs::OpenOptionsExt;
 use std::path::{Path, PathBuf};
 
 /// The most bytes of a file's name that go into the name of one beside it: with the rest it stays below 255, the most that a
@@ -28,16 +28,16 @@ impl Drop for Beside {
 
 impl Beside {
     /// A file of these bytes beside a target, on the disk, with the owner and permissions of the target.
-    pub fn new(target: &Path, bytes: &[u8], like: &Metadata) -> io::Result<Beside> {
+    pub fn new(target: &Path, bytes: &[u8], old: &File) -> io::Result<Beside> {
         if let Some(file) = unnamed(target, 0o600) {
-            fill(&file, bytes, Some(like))?;
+            fill(&file, bytes, Some(old))?;
             // Some shares have files without a name but cannot give them one.
             if let Ok((beside, ())) = first_free(target, |name| system::link(&file, name)) {
                 return Ok(beside);
             }
         }
         let (beside, file) = named(target, 0o600)?;
-        fill(&file, bytes, Some(like))?;
+        fill(&file, bytes, Some(old))?;
         Ok(beside)
     }
 
@@ -138,30 +138,12 @@ fn unnamed(target: &Path, mode: u32) -> Option<File> {
 }
 
 /// Writes the bytes, gives the file the owner and permissions of the one that it is to replace, and waits until it is on disk.
-fn fill(mut file: &File, bytes: &[u8], like: Option<&Metadata>) -> io::Result<()> {
+fn fill(mut file: &File, bytes: &[u8], old: Option<&File>) -> io::Result<()> {
     file.write_all(bytes)?;
-    if let Some(like) = like {
-        own(file, like)?;
+    if let Some(old) = old {
+        owner::keep(file, old)?;
     }
     file.sync_all()
-}
-
-fn owner(of: &Metadata) -> (u32, u32, u32) {
-    (of.uid(), of.gid(), of.mode() & 0o7777)
-}
-
-/// Gives a file another's owner, group and permissions, or fails. Only a privileged user may give a file away; permissions come
-/// last, since a new owner takes some of them away.
-fn own(file: &File, like: &Metadata) -> io::Result<()> {
-    let given = fchown(file, Some(like.uid()), Some(like.gid()));
-    let given = given.and_then(|()| file.set_permissions(fs::Permissions::from_mode(like.mode() & 0o7777)));
-    if given.is_ok() && owner(&file.metadata()?) == owner(like) {
-        return Ok(());
-    }
-    let (user, group, mode) = owner(like);
-    Err(io::Error::other(format!(
-        "its owner and permissions (user {user}, group {group}, mode {mode:04o}) could not be kept; let its owner do it"
-    )))
 }
 
 /// A new name is on the disk once its folder is; where a folder cannot be synced, the name is still in place.

@@ -83,19 +83,29 @@ impl Held {
     /// Replaces it by these bytes, if it is still as it was seen and, where they were read, still has the bytes `old`.
     pub fn replace(self, new: &[u8], old: Option<&[u8]>) -> Result<(), Failure> {
         let unwritten = |e: io::Error| files::unwritten(&self.path, &e);
-        let beside = Beside::new(&self.real, new, &self.seen).map_err(unwritten)?;
-        let still = self.is_still(old).map_err(unwritten)?;
-        if !still {
-            let name = files::name(&self.path);
-            return Err(Failure::File(format!("{name}: somebody else wrote it meanwhile; nothing was changed, try again")));
+        let beside = Beside::new(&self.real, new, &self.file).map_err(unwritten)?;
+        if !self.is_still(old).map_err(unwritten)? {
+            return Err(self.meanwhile());
         }
-        beside.take_place(&self.real).map_err(unwritten)
+        beside.take_place(&self.real).map_err(|e| match e.kind() {
+            // What was written beside it is gone: an editor who has the lock that this one goes without cleared it.
+            io::ErrorKind::NotFound => self.meanwhile(),
+            _ => unwritten(e),
+        })
+    }
+
+    fn meanwhile(&self) -> Failure {
+        let name = files::name(&self.path);
+        Failure::File(format!("{name}: somebody else wrote it meanwhile; nothing was changed, try again"))
     }
 
     /// Whether the path still leads to the file, with the same bytes: for whoever writes it without asking for its lock.
     fn is_still(&self, old: Option<&[u8]>) -> io::Result<bool> {
         let before = self.file.metadata()?;
-        let bytes = old.map_or(Ok(true), |old| holds(&self.file, old))?;
+        let bytes = match old {
+            None => true,
+            Some(old) => old.len() as u64 == before.size() && starts_with(&self.file, old)?,
+        };
         let Ok(now) = fs::symlink_metadata(&self.real) else {
             return Ok(false);
         };
@@ -105,8 +115,8 @@ impl Held {
     }
 }
 
-/// Whether a file holds these bytes. Its length is asked elsewhere.
-fn holds(file: &File, bytes: &[u8]) -> io::Result<bool> {
+/// Whether a file starts with these bytes.
+fn starts_with(file: &File, bytes: &[u8]) -> io::Result<bool> {
     let mut part = [0; 1 << 16];
     let mut at = 0;
     while let Some(rest) = bytes.get(at..).filter(|rest| !rest.is_empty()) {

@@ -2,7 +2,7 @@
 
 use crate::failure::complain;
 use std::fs::{self, File, Metadata, TryLockError};
-use std::io;
+use std::io::{self, Read};
 use std::os::unix::fs::MetadataExt;
 use std::sync::mpsc::{self, RecvTimeoutError};
 use std::thread;
@@ -17,21 +17,20 @@ const MOST_SHOWN: usize = 200;
 /// One edit's waiting for a file, which may be for several editors one after another.
 pub struct Waiting {
     name: String,
+    /// When it started to wait, or said so last.
     since: Instant,
-    said: bool,
 }
 
 impl Waiting {
     pub fn new(name: String) -> Waiting {
-        Waiting { name, since: Instant::now(), said: false }
+        Waiting { name, since: Instant::now() }
     }
 
-    /// Locks a file for this process alone, until it is closed. Says once on standard error, after a second, whom it waits for.
+    /// Locks a file for this process alone, until it is closed. Says on standard error, after a second, whom it waits for.
     pub fn lock(&mut self, file: &File) -> io::Result<()> {
         match file.try_lock() {
             Ok(()) => Ok(()),
             Err(TryLockError::Error(e)) if e.kind() != io::ErrorKind::Interrupted => Err(e),
-            Err(_) if self.said => locked(file),
             Err(_) => self.lock_and_say(file),
         }
     }
@@ -55,7 +54,9 @@ impl Waiting {
             drop(locking);
             (done, watcher.is_ok_and(|w| w.join().unwrap_or(false)))
         });
-        self.said = said;
+        if said {
+            self.since = Instant::now();
+        }
         done
     }
 }
@@ -70,11 +71,12 @@ fn locked(file: &File) -> io::Result<()> {
 }
 
 const OTHER: &str = "another program";
+/// How often the list of locks is looked at, where it does not show the one that is waited for.
+const MOST_LOOKS: usize = 20;
 
 /// Who holds the lock of a file: the process by number and command line, where the system tells.
 fn holder(found: &Metadata) -> String {
-    let locks = fs::read_to_string("/proc/locks").unwrap_or_default();
-    let Some(process) = holding(&locks, found.dev(), found.ino()) else {
+    let Some(process) = (0..MOST_LOOKS).find_map(|_| holding(&locks().ok()?, found.dev(), found.ino())) else {
         return OTHER.to_string();
     };
     let words = fs::read(format!("/proc/{process}/cmdline")).unwrap_or_default();
@@ -84,6 +86,13 @@ fn holder(found: &Metadata) -> String {
         true => format!("process {process}"),
         false => format!("process {process} ({})", shown(cut.chars())),
     }
+}
+
+/// The system's list of locks. It is asked for in few large parts: between two of them a lock that ends can hide another.
+fn locks() -> io::Result<String> {
+    let mut text = String::with_capacity(1 << 16);
+    File::open("/proc/locks")?.read_to_string(&mut text)?;
+    Ok(text)
 }
 
 /// The process that holds the lock of a file by the system's list of locks, a line each: `1: FLOCK  ADVISORY  WRITE 4711

@@ -14,6 +14,7 @@ mod help;
 mod judge;
 mod lock;
 mod normal;
+mod owner;
 mod progress;
 mod replace;
 mod show;

@@ -39,7 +39,7 @@ impl<'a> Job<'a> {
     /// Reads the file of a path, under its lock where the result is to replace it.
     pub fn open(arguments: &Arguments, path: &'a OsStr, to: &'a OsStr) -> Result<Job<'a>, Failure> {
         let no_lock = arguments.no_lock;
-        let (bytes, target) = if path != "-" && held::same(path, to) {
+        let (bytes, target) = if path != "-" && to != "-" && held::same(path, to) {
             let held = Held::take(to, no_lock)?;
             (held.read()?, Target::Same(Box::new(held)))
         } else {

@@ -1,7 +1,7 @@
-//! Two calls of Linux that the standard library lacks, and two flags for opening a file. The tool's only unsafe code.
+//! The calls of Linux that the standard library lacks, and two flags for opening a file. The tool's only unsafe code.
 #![allow(unsafe_code)]
 
-use std::ffi::{c_char, c_int, c_uint, CString};
+use std::ffi::{c_char, c_int, c_uint, c_void, CStr, CString};
 use std::fs::File;
 use std::io;
 use std::os::fd::AsRawFd;
@@ -20,7 +20,14 @@ const RENAME_NOREPLACE: c_uint = 1;
 extern "C" {
     fn linkat(old_folder: c_int, old: *const c_char, new_folder: c_int, new: *const c_char, flags: c_int) -> c_int;
     fn renameat2(old_folder: c_int, old: *const c_char, new_folder: c_int, new: *const c_char, flags: c_uint) -> c_int;
+    fn flistxattr(file: c_int, names: *mut c_char, size: usize) -> isize;
+    fn fgetxattr(file: c_int, name: *const c_char, value: *mut c_void, size: usize) -> isize;
+    fn fsetxattr(file: c_int, name: *const c_char, value: *const c_void, size: usize, flags: c_int) -> c_int;
+    fn fremovexattr(file: c_int, name: *const c_char) -> c_int;
 }
+
+/// The most bytes of an attribute's value, and of all names of a file's attributes together.
+const MOST_BYTES: usize = 1 << 16;
 
 fn c_path(path: &Path) -> io::Result<CString> {
     CString::new(path.as_os_str().as_bytes()).map_err(|_| io::Error::from(io::ErrorKind::InvalidInput))
@@ -50,4 +57,40 @@ pub fn rename_to_new(old: &Path, new: &Path) -> io::Result<()> {
     let (old, new) = (c_path(old)?, c_path(new)?);
     // SAFETY: both are texts with an end mark that live until the call has returned; the call keeps neither.
     done(unsafe { renameat2(AT_FDCWD, old.as_ptr(), AT_FDCWD, new.as_ptr(), RENAME_NOREPLACE) })
+}
+
+/// The start of a buffer that a call filled, by its answer.
+fn filled(mut buffer: Vec<u8>, answer: isize) -> io::Result<Vec<u8>> {
+    let length = usize::try_from(answer).map_err(|_| io::Error::last_os_error())?;
+    buffer.truncate(length);
+    Ok(buffer)
+}
+
+/// The names of a file's attributes, each with an end mark.
+pub fn attribute_names(file: &File) -> io::Result<Vec<u8>> {
+    let mut buffer = vec![0; MOST_BYTES];
+    // SAFETY: the call writes at most as many bytes as it is told that the buffer has.
+    let answer = unsafe { flistxattr(file.as_raw_fd(), buffer.as_mut_ptr().cast(), buffer.len()) };
+    filled(buffer, answer)
+}
+
+/// The value of an attribute.
+pub fn attribute(file: &File, name: &CStr) -> io::Result<Vec<u8>> {
+    let mut buffer = vec![0; MOST_BYTES];
+    // SAFETY: the name has an end mark and lives until the call has returned, which writes at most as many bytes as it is told
+    // that the buffer has.
+    let answer = unsafe { fgetxattr(file.as_raw_fd(), name.as_ptr(), buffer.as_mut_ptr().cast(), buffer.len()) };
+    filled(buffer, answer)
+}
+
+/// Gives a file an attribute.
+pub fn set_attribute(file: &File, name: &CStr, value: &[u8]) -> io::Result<()> {
+    // SAFETY: the name has an end mark; the call reads as many bytes of the value as it has, and keeps neither.
+    done(unsafe { fsetxattr(file.as_raw_fd(), name.as_ptr(), value.as_ptr().cast(), value.len(), 0) })
+}
+
+/// Takes an attribute from a file.
+pub fn remove_attribute(file: &File, name: &CStr) -> io::Result<()> {
+    // SAFETY: the name has an end mark and lives until the call has returned.
+    done(unsafe { fremovexattr(file.as_raw_fd(), name.as_ptr()) })
 }

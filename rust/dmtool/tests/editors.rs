@@ -185,6 +185,16 @@ fn another_writer_is_noticed() {
     }
 }
 
+/// An editor without the lock whose new file was cleared by one with it.
+#[test]
+fn a_new_file_that_is_gone_is_noticed() {
+    let (f, faults) = (Folder::new("new_gone"), Faults::new("new_gone"));
+    f.put("sheet.dm", &good());
+    let ran = faults.run(&f, "rename run", "rm .sheet.dm.dmtool-*.tmp", &["remove", "sheet.dm", "7", "--no-lock"]);
+    assert_eq!((ran.status, f.get("sheet.dm")), (Some(2), good()));
+    assert!(ran.err.contains("somebody else wrote it meanwhile; nothing was changed, try again"), "{}", ran.err);
+}
+
 /// So it is with who takes the sheet away, protects it or gives it a second name meanwhile.
 #[test]
 fn other_changes_meanwhile_are_noticed() {

@@ -201,6 +201,18 @@ fn devices_pipes_and_standard_output() {
     assert!(f.get("sheet.dm") == good());
 }
 
+/// A file that is called - is not standard output.
+#[test]
+fn a_file_called_as_standard_output() {
+    let f = Folder::new("dash");
+    f.put("-", &good()).put("sheet.dm", &good());
+    assert!(f.run(&["normal", "./-"]).out == good());
+    assert!(f.run(&["remove", "./-", "7", "-o", "-"]).out == removed());
+    assert!(f.run(&["remove", "sheet.dm", "7", "-o", "-"]).out == removed() && f.get("-") == good());
+    assert_eq!(f.run(&["remove", "./-", "7"]).status, Some(0));
+    assert_eq!((f.names(), f.get("-")), (vec!["-".to_string(), "sheet.dm".to_string()], removed()));
+}
+
 /// The name of the file beside is longer than the file's own; a name may have 255 bytes.
 #[test]
 fn the_longest_names() {

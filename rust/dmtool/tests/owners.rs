@@ -2,12 +2,13 @@
 
 mod support;
 
+use std::ffi::CStr;
 use std::fs::{self, Permissions};
 use std::os::unix::fs::{chown, MetadataExt, PermissionsExt};
 use std::os::unix::process::CommandExt;
 use std::process::Command;
 use support::fault::Faults;
-use support::{good, run, Folder, Ran};
+use support::{attributes, good, run, Folder, Ran};
 
 /// The number of the user `nobody`, as whom a privileged user runs what a plain user is to run.
 const PLAIN: u32 = 65534;
@@ -129,6 +130,46 @@ fn a_read_only_file_and_a_closed_folder() {
     }
     mode(&f, "sheet.dm", 0o444);
     refused(&f, &["normal", "town.dm", "-o", "sheet.dm", "--force"], "sheet.dm: it is marked read-only");
+}
+
+/// An access list: the owner, one more user, the group, what these two may have at most, the others; each with a kind, what it
+/// may, and a number.
+fn access_list(user: u32) -> Vec<u8> {
+    let none = u32::MAX;
+    let entries: [(u16, u16, u32); 5] = [(1, 6, none), (2, 6, user), (4, 4, none), (0x10, 6, none), (0x20, 4, none)];
+    let entries = entries.map(|(kind, may, who)| [&kind.to_le_bytes()[..], &may.to_le_bytes(), &who.to_le_bytes()].concat());
+    [&2u32.to_le_bytes()[..], &entries.concat()].concat()
+}
+
+/// Who else may use a file, and what users noted with it, is kept; what a folder gives each new file is not added. A file
+/// system that knows no attributes has none to lose.
+#[test]
+fn attributes_stay() {
+    const LIST: &CStr = c"system.posix_acl_access";
+    const FOLDERS: &CStr = c"system.posix_acl_default";
+    const NOTE: &CStr = c"user.note";
+    let f = Folder::new("attributes");
+    let sheet = f.0.join("sheet.dm");
+    for (name, value) in [(LIST, access_list(PLAIN)), (NOTE, b"checked by Sato".to_vec()), (NOTE, b"".to_vec())] {
+        let _ = fs::remove_file(&sheet);
+        f.put("sheet.dm", &good());
+        match attributes::set(&sheet, name, &value) {
+            Err(e) if e.kind() == std::io::ErrorKind::Unsupported => continue,
+            done => done.unwrap(),
+        }
+        let before = owner(&f, "sheet.dm");
+        assert_eq!(f.run(&["remove", "sheet.dm", "7"]).status, Some(0));
+        assert_eq!((attributes::get(&sheet, name), owner(&f, "sheet.dm")), (Some(value), before), "{name:?}");
+    }
+    let _ = fs::remove_file(&sheet);
+    f.put("sheet.dm", &good());
+    mode(&f, "sheet.dm", 0o600);
+    match attributes::set(&f.0, FOLDERS, &access_list(PLAIN)) {
+        Err(e) if e.kind() == std::io::ErrorKind::Unsupported => return,
+        done => done.unwrap(),
+    }
+    assert_eq!(f.run(&["remove", "sheet.dm", "7"]).status, Some(0));
+    assert_eq!((attributes::get(&sheet, LIST), owner(&f, "sheet.dm").2), (None, 0o600));
 }
 
 /// A disk that is mounted read-only, full, or over its quota, in words.

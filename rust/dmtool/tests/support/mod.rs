@@ -1,6 +1,7 @@
 //! What the tests of the tool share: a folder for each test, the tool run as a user runs it, and files to run it on.
 #![allow(dead_code)]
 
+pub mod attributes;
 pub mod fault;
 
 use reference::random::Random;
