@@ -2,12 +2,11 @@
 
 use crate::arguments::{record_number, Arguments};
 use crate::failure::{Done, Failure, FINE};
-use crate::files;
 use crate::replace::Job;
+use crate::{explain, files};
 use std::ffi::OsStr;
 use std::io::Write;
-use zvaigulta::layout::SHEET_B;
-use zvaigulta::RECORD_BYTES;
+use zvaigulta::{Counts, Sheet, RECORD_BYTES};
 
 /// A place for an insertion: a record number, or none for `end`.
 fn place(word: &OsStr) -> Result<Option<usize>, Failure> {
@@ -38,13 +37,12 @@ pub fn insert(arguments: &Arguments, out: &mut impl Write) -> Done {
     let job = Job::open(arguments, path, to)?;
     let used = job.bytes.len();
     let place = at.unwrap_or(used / RECORD_BYTES + 1);
-    let mut sheet = Vec::with_capacity(used + block.len());
-    sheet.extend_from_slice(&job.bytes);
-    sheet.resize(used + block.len(), b' ');
-    let new = zvaigulta::insert(&mut sheet, used, place, &block).map_err(|r| files::refused(path, r))?;
-    sheet.truncate(new);
+    let mut copy = Vec::with_capacity(used + block.len());
+    copy.extend_from_slice(&job.bytes);
+    let mut sheet = Sheet::from(copy);
+    let counts = sheet.insert(place, &block).map_err(|r| explain::insertion(path, &job.bytes, place, &block, r))?;
     let done = format!("inserted {} records at record {place}", block.len() / RECORD_BYTES);
-    finish(job, to, &sheet, &done, out)
+    finish(job, to, &sheet, counts, &done, out)
 }
 
 /// Removes the item at the place.
@@ -52,25 +50,22 @@ pub fn remove(arguments: &Arguments, out: &mut impl Write) -> Done {
     let [path, at] = arguments.exactly("remove FILE PLACE [-o OTHER [--force]] [--no-lock]")?;
     let (to, place) = (target(arguments, path)?, record_number(at, "PLACE")?);
     let job = Job::open(arguments, path, to)?;
-    let used = job.bytes.len();
-    let mut sheet = job.bytes.clone();
-    let new = zvaigulta::remove(&mut sheet, used, place).map_err(|r| files::refused(path, r))?;
-    sheet.truncate(new);
-    let done = format!("removed {} records at record {place}", (used - new) / RECORD_BYTES);
-    finish(job, to, &sheet, &done, out)
+    let mut sheet = Sheet::from(job.bytes.clone());
+    let counts = sheet.remove(place).map_err(|r| explain::removal(path, &job.bytes, place, r))?;
+    let removed = job.bytes.len() - sheet.as_bytes().len();
+    let done = format!("removed {} records at record {place}", removed / RECORD_BYTES);
+    finish(job, to, &sheet, counts, &done, out)
 }
 
-/// Puts the sheet where it goes and says what was done. Its items are the element count of record 2, which an accepted edit
-/// leaves exact.
-fn finish(job: Job, to: &OsStr, sheet: &[u8], done: &str, out: &mut impl Write) -> Done {
+/// Puts the sheet where it goes and says what was done.
+fn finish(job: Job, to: &OsStr, sheet: &Sheet, counts: Counts, done: &str, out: &mut impl Write) -> Done {
     let silent = job.is_to_output();
-    job.deliver(sheet, out)?;
+    job.deliver(sheet.as_bytes(), out)?;
     if silent {
         return Ok(FINE);
     }
-    let items = sheet.get(RECORD_BYTES..).and_then(|rest| SHEET_B.value("element count", rest)).unwrap_or_default();
-    let (name, records) = (files::name(to), sheet.len() / RECORD_BYTES);
-    let said = writeln!(out, "{name}: {done}, now {records} records {items} items").and_then(|()| out.flush());
+    let name = files::name(to);
+    let said = writeln!(out, "{name}: {done}, now {} records {} items", counts.records, counts.items).and_then(|()| out.flush());
     said.map_err(|e| Failure::File(format!("{name}: {done}; only this could not be printed: {e}")))?;
     Ok(FINE)
 }

@@ -6,6 +6,7 @@ use crate::{files, progress};
 use std::ffi::OsStr;
 use std::io::Write;
 use std::time::Instant;
+use zvaigulta::explain;
 
 /// Judges every file of the list, whatever became of those before it. The exit status is the worst of theirs.
 pub fn run(arguments: &Arguments, out: &mut impl Write) -> Done {
@@ -38,7 +39,7 @@ fn one(path: &OsStr, buffer: &mut Vec<u8>, out: &mut impl Write) -> Done {
     files::read_into(path, buffer)?;
     let (line, status) = match files::judge(buffer) {
         Ok(counts) => (counts.to_string(), FINE),
-        Err(refusal) => (refusal.to_string(), REFUSED),
+        Err(refusal) => (explain::line(buffer, refusal), REFUSED),
     };
     writeln!(out, "{}: {line}", files::name(path)).map_err(output_failed)?;
     Ok(status)

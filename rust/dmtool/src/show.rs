@@ -7,7 +7,7 @@ use std::io::Write;
 use zvaigulta::layout::{Column, Content};
 use zvaigulta::outline::{Outline, Record};
 use zvaigulta::text::{quoted, quoted_short};
-use zvaigulta::RECORD_BYTES;
+use zvaigulta::{explain, RECORD_BYTES};
 
 /// Prints the file's judgement, then a line for each record from FROM to TO.
 pub fn run(arguments: &Arguments, out: &mut impl Write) -> Done {
@@ -25,7 +25,7 @@ pub fn run(arguments: &Arguments, out: &mut impl Write) -> Done {
     if from > records.max(1) {
         return Err(Failure::File(format!("{}: it has {records} records; give a FROM up to that", files::name(path))));
     }
-    let judged = files::judge(&bytes).map_or_else(|refusal| refusal.to_string(), |counts| counts.to_string());
+    let judged = files::judge(&bytes).map_or_else(|refusal| explain::line(&bytes, refusal), |counts| counts.to_string());
     writeln!(out, "{}: {judged}", files::name(path)).map_err(output_failed)?;
     let shown = Outline::of(&bytes).skip(from - 1).take_while(|named| named.number <= to);
     for named in shown {

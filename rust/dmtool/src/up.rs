@@ -2,7 +2,7 @@
 
 use crate::arguments::{record_number, Arguments};
 use crate::failure::{output_failed, Done, FINE};
-use crate::files;
+use crate::{explain, files};
 use std::io::Write;
 use zvaigulta::way_up;
 
@@ -11,7 +11,7 @@ pub fn run(arguments: &Arguments, out: &mut impl Write) -> Done {
     let [path, record] = arguments.exactly("up FILE RECORD")?;
     let record = record_number(record, "RECORD")?;
     let bytes = files::read(path)?;
-    let way = way_up(&bytes, bytes.len(), record).map_err(|r| files::refused(path, r))?;
+    let way = way_up(&bytes, bytes.len(), record).map_err(|r| explain::way_up(path, &bytes, record, r))?;
     let mut passed = Vec::new();
     let mut next = way.header;
     // Each header stands before the record below it, so this ends; a level is at most 9, so eight headers are passed at most.

@@ -5,8 +5,7 @@ mod support;
 use reference::RECORD;
 use support::{block, damaged, good, large, Folder};
 
-const EMPTY: &str =
-    "empty.dm: refused 1: the length is 0, above the buffer, not a multiple of 84 bytes, or above 200,000 records";
+const EMPTY: &str = "empty.dm: refused 1: the file is empty";
 const DAMAGED: &str = "damaged.dm: refused 10 at record 6: a count differs from what the file holds";
 const MISSING: &str = "dmtool: missing.dm: there is no such file; check the name and the folder\n";
 
@@ -53,7 +52,7 @@ fn judge_any_bytes_and_standard_input() {
     f.put("ragged", &good()[1..]).put("short", b"I ").put("zeros", &[0; RECORD]);
     let ran = f.run(&["judge", "ragged", "short", "zeros"]);
     let answers: Vec<String> = ran.text().lines().map(|l| l.split(' ').take(5).collect::<Vec<_>>().join(" ")).collect();
-    assert_eq!(answers, ["ragged: refused 1: the length", "short: refused 1: the length", "zeros: refused 2 at record"]);
+    assert_eq!(answers, ["ragged: refused 1: the length,", "short: refused 1: the length,", "zeros: refused 2 at record"]);
     assert_eq!((ran.status, ran.err.as_str()), (Some(1), ""));
     // a file of 4 GB, of which only as much is read as a file may have
     std::fs::File::create(f.0.join("huge")).unwrap().set_len(84 * 50_000_000).unwrap();
@@ -70,12 +69,15 @@ fn explain() {
     let text = ran.text();
     let marked: Vec<&str> = text.lines().filter(|line| line.starts_with('>')).collect();
     assert_eq!(text.lines().next(), Some(DAMAGED));
-    assert_eq!(text.lines().nth(1), Some("record 6: layer header, level 1"));
+    let records = "the sheet states 9 records (5 of the sheet part and 4 behind it), and as many are there";
+    assert_eq!(text.lines().nth(1), Some(records));
+    assert_eq!(text.lines().nth(2), Some("record 6: layer header, level 1"));
     assert_eq!(marked, [r#"> bytes 19-23  total         "    2"  states 2, the counts behind it add up to 1"#]);
     let columns = zvaigulta::layout::HEADER.columns.iter().filter(|c| !c.name.is_empty());
     assert!(columns.clone().all(|c| text.contains(&format!("  {}  ", c.name))), "{text}");
-    assert_eq!(text.lines().count(), 2 + columns.count());
-    assert_eq!(f.run(&["explain", "empty.dm"]).seen(), (Some(1), format!("{EMPTY}\nthe file is empty\n"), true));
+    assert_eq!(text.lines().count(), 3 + columns.count());
+    let empty = format!("{EMPTY}\ncopy the file again from where it came\n");
+    assert_eq!(f.run(&["explain", "empty.dm"]).seen(), (Some(1), empty, true));
     let missing = f.run(&["explain", "missing.dm"]);
     assert_eq!((missing.status, missing.text(), missing.err.as_str()), (Some(2), String::new(), MISSING));
 }

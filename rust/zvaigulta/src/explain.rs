@@ -1,154 +1,178 @@
-//! Which columns of a refused record are at fault, and why. The library has judged; here its answer is put into words.
+//! What is wrong with a refused file, block or edit, and what to look at next. The library has judged; here its answer is put into words.
+//!
+//! ```
+//! use zvaigulta::{explain::explain, judge_sheet, EXAMPLE};
+//!
+//! // The second data record of the line at record 7 is gone.
+//! let sheet = &EXAMPLE[..8 * 84];
+//! let explained = explain(sheet, judge_sheet(sheet, sheet.len()).unwrap_err());
+//! let fault = &explained.faults[0];
+//! assert_eq!((fault.record, fault.column), (7, "records"));
+//! assert_eq!(fault.words, "states 2 data records, the file ends after 1");
+//! assert_eq!(
+//!     explained.notes[0],
+//!     "the sheet states 9 records (5 of the sheet part and 4 behind it), 8 are there: 1 is missing"
+//! );
+//! ```
 
+mod block;
+mod body;
 mod counts;
+mod data;
+mod due;
+mod edits;
+mod first;
+mod form;
 mod joined;
+mod length;
+mod lost;
+mod near;
+mod own;
+mod shift;
 
-use crate::layout::{Column, Content};
-use crate::outline::{part, Outline, Record, Sort, Stated, What};
-use crate::text::quoted;
-use crate::{FileKind, Reason, Refusal, MOST_RECORDS, RECORD_BYTES};
+pub use block::block;
+pub use edits::{insertion, removal, way_up};
 
-/// A column at fault, and why.
-#[derive(Debug)]
+use crate::layout::{INDEX_A, SHEET_A, SHEET_B, SHEET_D};
+use crate::outline::{Outline, Record, Sort};
+use crate::text::with_article;
+use crate::{Reason, Refusal};
+
+/// A column at fault, and why. Where columns of two records do not go together, each of them is one.
+#[derive(Clone, Debug, PartialEq, Eq)]
+#[non_exhaustive]
 pub struct Fault {
-    /// The column's name.
+    /// The record's number, from 1.
+    pub record: usize,
+    /// The column's name, one of the record's layout; `type` in a record whose layout is unknown.
     pub column: &'static str,
-    /// What is wrong with it.
+    /// What is wrong with it, or what it has to do with a column that is wrong.
     pub words: String,
 }
 
 /// Shorthand for a fault.
-fn fault(column: &'static str, words: String) -> Fault {
-    Fault { column, words }
+fn fault(record: usize, column: &'static str, words: String) -> Fault {
+    Fault { record, column, words }
 }
 
-/// The columns at fault in the refused record, and what else there is to say.
-#[derive(Debug, Default)]
+/// The columns at fault, and what else there is to say.
+#[derive(Clone, Debug, Default, PartialEq, Eq)]
+#[non_exhaustive]
 pub struct Explanation {
-    /// The columns at fault.
+    /// The columns at fault; no column twice.
     pub faults: Vec<Fault>,
-    /// What else there is to say, a line each.
+    /// What else there is to say, a line each; what to look at first stands first.
     pub notes: Vec<String>,
 }
 
-/// Explains a refusal of a file by the judge.
+/// Explains a refusal of a file by the judge. It reads the file a few times at most.
 pub fn explain(bytes: &[u8], refusal: Refusal) -> Explanation {
-    let named = refusal.record.and_then(|record| Outline::of(bytes).nth(record - 1));
+    let mut told = Explanation::default();
+    let named = refusal.record.and_then(|record| Outline::of(bytes).nth(record.checked_sub(1)?));
     let Some(named) = named else {
-        return Explanation { faults: Vec::new(), notes: vec![length(bytes)] };
+        length::explain(bytes, &mut told);
+        return told;
     };
-    let mut notes = Vec::new();
-    let faults = match refusal.reason {
-        Reason::FileType => vec![fault("type", "a sheet starts with \"M \", an index with \"I \"".to_string())],
-        Reason::MissingRecord => missing(bytes, &named, &mut notes),
-        Reason::RecordType => record_type(bytes, &named, &mut notes),
-        Reason::Malformed => named.judged_columns().iter().filter_map(|column| malformed(column, named.bytes)).collect(),
-        Reason::OutsideRange => outside(bytes, &named),
-        Reason::Level => vec![level(bytes, &named)],
-        Reason::DataRule => joined::data_rule(&named),
-        Reason::Fraction => joined::fractions(bytes, &named),
-        Reason::Count => counts::differing(bytes, &named),
-        _ => Vec::new(),
-    };
-    Explanation { faults, notes }
+    at_record(bytes, &named, refusal.reason, &mut told);
+    // Another form of file is the one reason; what else is seen follows from it.
+    if let Some(form) = form::of(bytes, Some(named.number)) {
+        one_reason(&mut told, named.number, form);
+    }
+    told
 }
 
-/// Why a length is refused.
-fn length(bytes: &[u8]) -> String {
-    let lines = |chunk: &[u8]| chunk.ends_with(b"\r\n");
-    match bytes.len() {
-        0 => "the file is empty".to_string(),
-        n if n > MOST_RECORDS * RECORD_BYTES => format!("the file has more than {MOST_RECORDS} records of {RECORD_BYTES} bytes"),
-        n if n % 86 == 0 && bytes.chunks(86).all(lines) => {
-            "every record ends in carriage return and line feed, 86 bytes in all; a record here is 84 bytes, without a line end"
-                .to_string()
-        }
-        n => format!("the file has {} records of {RECORD_BYTES} bytes and {} bytes more", n / RECORD_BYTES, n % RECORD_BYTES),
+/// A refusal in one line, as it displays itself, but for two: of the four reasons of 1 the one that holds, and of a file that is a block that
+/// it is one.
+///
+/// ```
+/// use zvaigulta::{explain, judge_sheet, EXAMPLE};
+///
+/// let refusal = judge_sheet(EXAMPLE, 100).unwrap_err();
+/// assert_eq!(explain::line(&EXAMPLE[..100], refusal), "refused 1: the length, 100 bytes, is not a multiple of 84");
+/// let refusal = judge_sheet(EXAMPLE, 8 * 84).unwrap_err();
+/// assert_eq!(explain::line(&EXAMPLE[..8 * 84], refusal), refusal.to_string());
+/// ```
+pub fn line(bytes: &[u8], refusal: Refusal) -> String {
+    match refusal.reason {
+        Reason::Length => format!("refused {}: {}", refusal.number(), length::reason(bytes.len())),
+        Reason::FileType => block(bytes).map_or_else(|| refusal.to_string(), |block| format!("{refusal}; {block}")),
+        _ => refusal.to_string(),
     }
 }
 
-/// 3: an item's data, or a record of the sheet part or the index.
-fn missing(bytes: &[u8], named: &Record, notes: &mut Vec<String>) -> Vec<Fault> {
-    let there = bytes.len() / RECORD_BYTES;
-    if let What::Entry(sort) = named.what {
-        let stated = Stated::of(sort, named.bytes).records;
-        let words = format!("{stated} data records are stated, the file ends after {}", there.saturating_sub(named.number));
-        return vec![fault("records", words)];
-    }
-    let due = part(bytes);
-    let next = due.get(there).map_or("", |layout| layout.name);
-    notes.push(format!("the file ends after {there} records, where the next of them, {next}, is due"));
-    let stating: &[&str] = match FileKind::of(bytes) {
-        FileKind::Sheet => &["revisions"],
-        FileKind::Index => &["b records", "c records"],
-    };
-    let words = format!("at least {} records are needed by what is stated", due.len());
-    stating.iter().map(|column| fault(column, words.clone())).collect()
+/// One reason for all that is seen: no other is said, and no other record than the refused one blamed.
+fn one_reason(told: &mut Explanation, refused: usize, reason: String) {
+    told.notes = vec![reason];
+    told.faults.retain(|fault| fault.record == refused);
 }
 
-/// 4: also what stands before the record, whose count may be the wrong one.
-fn record_type(bytes: &[u8], named: &Record, notes: &mut Vec<String>) -> Vec<Fault> {
-    let before = Outline::of(bytes).take(named.number - 1).filter(|n| matches!(n.what, What::Entry(_))).last();
-    if let Some(Record { what: What::Entry(sort), bytes, number, .. }) = before {
-        let records = Stated::of(sort, bytes).records;
-        notes.push(format!("before it stands the {} at record {number}, which states {records} data records", sort.name()));
+/// Explains a refusal that names a record.
+fn at_record(bytes: &[u8], named: &Record, reason: Reason, told: &mut Explanation) {
+    match reason {
+        Reason::FileType => first::explain(bytes, named, told),
+        Reason::MissingRecord => due::missing(bytes, named, told),
+        Reason::RecordType => due::record_type(bytes, named, told),
+        Reason::Malformed => due::malformed(bytes, named, told),
+        Reason::OutsideRange => outside(bytes, named, told),
+        Reason::Level => level(bytes, named, told),
+        Reason::DataRule => data::rule(bytes, named, told),
+        Reason::Fraction => told.faults.extend(joined::fractions(bytes, named)),
+        Reason::Count => counts::differing(bytes, named, told),
+        _ => {}
     }
-    let kind = named.bytes.get(..2).unwrap_or(&[]);
-    vec![fault("type", format!("{} is none of \"H \", \"E1\" to \"E8\", \"G \", \"T \"", quoted(kind)))]
+    if !matches!(reason, Reason::RecordType | Reason::Malformed | Reason::OutsideRange | Reason::Level | Reason::DataRule) {
+        return;
+    }
+    match shift::words(bytes, named.number) {
+        Some(words) => one_reason(told, named.number, words),
+        None => told.notes.extend(records_differ(bytes, named)),
+    }
 }
 
-/// 5: why a column is malformed, if it is.
-fn malformed(column: &Column, record: &[u8]) -> Option<Fault> {
-    let bytes = column.bytes(record);
-    let spaces = bytes.iter().take_while(|byte| **byte == b' ').count();
-    let words = match bytes.get(spaces..).unwrap_or(&[]) {
-        [] => "malformed: all spaces",
-        [.., b' '] => "malformed: a space behind the number",
-        text if text.contains(&b'+') => "malformed: a plus sign",
-        [b'-', zeros @ .., b'0'] if zeros.iter().all(|byte| *byte == b'0') => "malformed: a minus before zeros only",
-        _ => "malformed: not spaces, at most one minus, then digits",
-    };
-    column.is_malformed(record).then(|| fault(column.name, words.to_string()))
+/// How many records the file states and has, where that differs and the refused record does not decide it.
+fn records_differ(bytes: &[u8], named: &Record) -> Option<String> {
+    let decides = [&INDEX_A, &SHEET_A, &SHEET_B, &SHEET_D].iter().any(|layout| named.layout == Some(layout));
+    let records = counts::Records::of(bytes).filter(|records| !decides && records.missing() + records.too_many() > 0);
+    records.map(|records| records.words())
 }
 
 /// 6: columns outside their own range, else the rule that joins several columns.
-fn outside(bytes: &[u8], named: &Record) -> Vec<Fault> {
-    let own = |column: &Column| match (column.content, column.value(named.bytes)) {
-        (Content::Integer(allowed), Some(n)) if !allowed.holds(n) => {
-            Some(fault(column.name, format!("is {n}, must be {allowed}")))
-        }
-        _ => None,
-    };
-    let faults: Vec<Fault> = named.judged_columns().iter().filter_map(own).collect();
-    if faults.is_empty() {
-        joined::rule(bytes, named)
-    } else {
-        faults
-    }
+fn outside(bytes: &[u8], named: &Record, told: &mut Explanation) {
+    let own = own::outside(named);
+    told.faults = if own.is_empty() { joined::rule(bytes, named) } else { own };
 }
 
-/// 7: the levels that a record may have where it stands.
-fn level(bytes: &[u8], named: &Record) -> Fault {
-    let (sort, least, most) = match named.what {
-        What::Entry(Sort::Header) => ("a header", 1, 8),
+/// 7: the levels that a record may have where it stands, and the header or item that says so.
+fn level(bytes: &[u8], named: &Record, told: &mut Explanation) {
+    let (sort, least, most) = match named.sort() {
+        Some(Sort::Header) => ("a header", 1, 8),
         _ => ("an item", 2, 9),
     };
-    let open = Outline::of(bytes).take(named.number - 1).fold(0, |open, before| match (before.what, before.level) {
-        (What::Entry(Sort::Header), Some(level)) => level,
-        (What::Entry(_), Some(level)) => level - 1,
-        _ => open,
+    let level = named.level.unwrap_or(0);
+    if level < least || most < level {
+        told.faults.push(fault(named.number, "level", format!("is {level}, the level of {sort} is {least} to {most}")));
+        return;
+    }
+    let before = Outline::of(bytes).take(named.number - 1).filter(|record| record.sort().is_some()).last();
+    let open = before.map_or(0, |before| before.level.unwrap_or(0) - i64::from(before.sort() != Some(Sort::Header)));
+    let by = before.map_or("no layer header stands before it".to_string(), |before| {
+        format!("record {} before it is {}", before.number, with_article(&before.title()))
     });
-    let words = match named.level {
-        Some(level) if least <= level && level <= most => format!("is {level}, may be at most {} here", open + 1),
-        _ => format!("the level of {sort} is {least} to {most}"),
-    };
-    fault("level", words)
+    told.faults.push(fault(named.number, "level", format!("is {level}, may be at most {} here: {by}", open + 1)));
+    if let Some(before) = before {
+        told.faults.push(fault(
+            before.number,
+            "level",
+            format!("is {}: behind it a level may be at most {}", before.level.unwrap_or(0), open + 1),
+        ));
+    }
+    told.notes.push(format!("the level is wrong, or a header of level {} is missing before record {}", level - 1, named.number));
 }
 
 #[cfg(test)]
 mod tests {
     use super::*;
-    use crate::Counts;
+    use crate::{Counts, FileKind};
     use reference::random::Random;
     use reference::sheets;
     use std::collections::BTreeMap;
@@ -157,59 +181,44 @@ mod tests {
         FileKind::of(bytes).judge(bytes, bytes.len())
     }
 
-    /// Every refusal of a damaged file is explained: columns of the record's own layout, each named once; without a record, a note.
+    /// A damaged twin of a sheet or an index: damaged as the other tests do it, or with bytes lost, added or changed at the end.
+    fn damaged(r: &mut Random, n: usize) -> Vec<u8> {
+        let file = if n.is_multiple_of(4) { sheets::index(r) } else { sheets::sheet(r, n % 5) };
+        let mut file = if r.once_in(8) { file } else { sheets::damaged(r, &file) };
+        let at = r.below(file.len() + 1);
+        match r.below(24) {
+            0 => drop(file.drain(at..(at + 1 + r.below(3)).min(file.len()))),
+            1 => drop(file.splice(at..at, (0..1 + r.below(3)).map(|_| *r.pick(b" 0\n\0\x1aH")).collect::<Vec<u8>>())),
+            2 => file.extend(std::iter::repeat_n(*r.pick(b" \0\x1a\n"), 1 + r.below(100))),
+            3 => file.truncate(at),
+            _ => {}
+        }
+        file
+    }
+
+    /// Every refusal of a damaged file is explained: a column is marked, or a note says why; every column named stands in its record's own
+    /// layout, and is named once.
     #[test]
     fn every_refusal_is_explained() {
         let mut r = Random(12);
         let mut seen = BTreeMap::new();
         for n in 0..30_000 {
-            let file = if n % 4 == 0 { sheets::index(&mut r) } else { sheets::sheet(&mut r, n % 5) };
-            let file = sheets::damaged(&mut r, &file);
+            let file = damaged(&mut r, n);
             let Err(refusal) = judge(&file) else { continue };
             *seen.entry(refusal.number()).or_insert(0) += 1;
             let explained = explain(&file, refusal);
-            assert_eq!(refusal.record.is_none(), explained.faults.is_empty(), "case {n}: {refusal}: {explained:?}");
             assert!(refusal.record.is_some() || !explained.notes.is_empty(), "case {n}: {refusal}");
-            let named = Outline::of(&file).nth(refusal.record.unwrap_or(1) - 1);
+            let marked = |record| explained.faults.iter().any(|fault| fault.record == record);
+            assert!(refusal.record.is_none_or(marked), "case {n}: {refusal}: {explained:?}");
+            assert!(explained.notes.iter().all(|note| !note.is_empty() && !note.contains("record 0")), "case {n}: {explained:?}");
             for fault in &explained.faults {
-                assert_eq!(explained.faults.iter().filter(|f| f.column == fault.column).count(), 1, "case {n}: {explained:?}");
-                let layout = named.and_then(|named| named.layout);
-                assert!(layout.is_none_or(|l| l.column(fault.column).is_some()), "case {n}: {refusal}: {explained:?}");
+                let same = explained.faults.iter().filter(|other| (other.record, other.column) == (fault.record, fault.column));
+                assert_eq!(same.count(), 1, "case {n}: {refusal}: {explained:?}");
+                let named = Outline::of(&file).nth(fault.record - 1).expect("a record of the file");
+                let known = named.layout.map_or(fault.column == "type", |layout| layout.column(fault.column).is_some());
+                assert!(known, "case {n}: {refusal}: {explained:?}");
             }
         }
-        assert!((1..=10).all(|n| seen.contains_key(&n)), "{seen:?}");
-    }
-
-    /// The words for each number, on a sheet with one thing changed.
-    #[test]
-    fn the_words_for_each_refusal() {
-        let at = |record: usize, start: usize| (record - 1) * RECORD_BYTES + start;
-        let cases: [(usize, &[u8], u64, &str, &str); 16] = [
-            (at(1, 0), b"XX", 2, "type", "a sheet starts with"),
-            (at(1, 30), b" 2500", 6, "unit", "is 1, must be 10 for level 2500"),
-            (at(1, 67), b"2", 6, "version", "is 2, must be 1"),
-            (at(2, 31), b"     7", 10, "element count", "states 7, the file holds 1"),
-            (at(2, 37), b"      7", 10, "record count", "states 7, the file holds 4"),
-            (at(4, 9), b"3", 6, "f records", "is 3, must be 0 or, for 0 courses, 0"),
-            (at(5, 40), b"  56", 9, "lower left X", "opposite sign to the whole -1234"),
-            (at(6, 18), b"    2", 10, "total", "states 2, the counts behind it add up to 1"),
-            (at(6, 48), b"    1", 10, "point", "states 1, the file holds 0"),
-            (at(6, 16), b" 9", 7, "level", "the level of a header is 1 to 8"),
-            (at(7, 16), b" 3", 7, "level", "is 3, may be at most 2 here"),
-            (at(7, 27), b"   6", 8, "records", "is 2, must be 1 for data kind 2 and count 6"),
-            (at(7, 2), b"2 01", 5, "class", "malformed: not spaces"),
-            (at(7, 2), b"+101", 5, "class", "malformed: a plus sign"),
-            (at(8, 7), b"     -0", 5, "Y 1", "malformed: a minus before zeros only"),
-            (at(7, 31), b"   3", 8, "records", "is 3, must be 2"),
-        ];
-        for (start, bytes, number, column, words) in cases {
-            let mut sheet = crate::EXAMPLE.to_vec();
-            sheet[start..start + bytes.len()].copy_from_slice(bytes);
-            let refusal = judge(&sheet).unwrap_err();
-            assert_eq!(refusal.number(), number, "{column}: {refusal}");
-            let explained = explain(&sheet, refusal);
-            let fault = explained.faults.iter().find(|fault| fault.column == column);
-            assert!(fault.is_some_and(|fault| fault.words.contains(words)), "{refusal}: {explained:?}");
-        }
+        assert!((1..=10).all(|n| seen.get(&n).is_some_and(|count| *count > 20)), "{seen:?}");
     }
 }

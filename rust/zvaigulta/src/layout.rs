@@ -140,6 +140,11 @@ impl Layout {
     pub fn value(&self, name: &str, record: &[u8]) -> Option<i64> {
         self.column(name)?.value(record)
     }
+
+    /// Whether every column of a record is well formed and inside its own range or list. The type is text and has no say.
+    pub fn fits(&self, record: &[u8]) -> bool {
+        !self.columns.iter().any(|column| column.is_malformed(record) || column.is_outside(record))
+    }
 }
 
 /// The nineteen layouts, in the order of document 01.

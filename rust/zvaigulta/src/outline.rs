@@ -50,6 +50,14 @@ impl Record<'_> {
         all.get(..self.judged).unwrap_or(all)
     }
 
+    /// Its sort, where it is a header or an item.
+    pub fn sort(&self) -> Option<Sort> {
+        match self.what {
+            Entry(sort) => Some(sort),
+            _ => None,
+        }
+    }
+
     /// In words: `layer header, level 1`.
     pub fn title(&self) -> String {
         let name = match (self.what, self.layout) {
@@ -69,12 +77,17 @@ impl Record<'_> {
     }
 }
 
-fn record(bytes: &[u8], number: usize) -> &[u8] {
-    bytes.chunks(RECORD_BYTES).nth(number - 1).unwrap_or(&[])
+/// The bytes of a record by its number, from 1; none where the file has no such record.
+pub(crate) fn record(bytes: &[u8], number: usize) -> &[u8] {
+    number.checked_sub(1).and_then(|place| bytes.chunks(RECORD_BYTES).nth(place)).unwrap_or(&[])
 }
 
-/// The records that are due in the sheet part: a, b, c, then d, e and the f records, revisions + 1 times.
+/// The records that are due in the sheet part: a, b, c, then d, e and the f records, revisions + 1 times. A file that starts with a header or
+/// an item has none.
 fn sheet_part(bytes: &[u8]) -> Vec<&'static Layout> {
+    if Sort::of(bytes).is_some() {
+        return Vec::new();
+    }
     let mut due = vec![&SHEET_A, &SHEET_B, &SHEET_C];
     for _ in 0..=natural(&SHEET_A, "revisions", record(bytes, 1)) {
         due.extend([&SHEET_D, &SHEET_E]);

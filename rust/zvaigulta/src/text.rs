@@ -24,3 +24,14 @@ pub fn quoted_short(bytes: &[u8]) -> String {
     let end = bytes.iter().rposition(|b| *b != b' ').map_or(0, |n| n + 1);
     quoted(bytes.get(..end).unwrap_or(bytes))
 }
+
+/// A name with its article: `a point E5`, `an area E1`.
+pub(crate) fn with_article(name: &str) -> String {
+    let article = if name.starts_with(['a', 'e', 'i', 'o', 'u']) { "an" } else { "a" };
+    format!("{article} {name}")
+}
+
+/// A number of things: `1 data record`, `2 data records`.
+pub(crate) fn number_of(count: u64, thing: &str) -> String {
+    format!("{count} {thing}{}", if count == 1 { "" } else { "s" })
+}

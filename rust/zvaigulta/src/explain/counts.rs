@@ -1,53 +1,147 @@
-//! 10: what a header, the sheet or an index states, against what the file holds.
+//! 10: what the sheet, its headers or an index state, against what the file holds.
 
-use super::{fault, Fault};
+use super::body::Body;
+use super::{fault, form, lost, Explanation, Fault};
 use crate::layout::{Layout, HEADER, INDEX_A, SHEET_B};
-use crate::outline::{natural, part, Outline, Record, Sort, What, COUNTS};
-use crate::RECORD_BYTES;
+use crate::outline::{natural, part, record, Record, Sort, COUNTS};
+use crate::{FileKind, RECORD_BYTES};
 
-/// The counts that differ.
-pub fn differing(bytes: &[u8], named: &Record) -> Vec<Fault> {
-    let records = bytes.len() / RECORD_BYTES;
-    match (named.what, named.layout) {
-        (What::Entry(Sort::Header), _) => header(bytes, named),
-        (_, Some(layout)) if *layout == INDEX_A => {
-            let words = format!("the file has {records} records, {} are stated", part(bytes).len());
-            ["b records", "c records"].map(|column| fault(column, words.clone())).into()
-        }
-        _ => {
-            let items = Outline::of(bytes).filter(|n| matches!(n.what, What::Entry(sort) if sort != Sort::Header)).count();
-            let body = records.saturating_sub(part(bytes).len());
-            let both = [stated(&SHEET_B, "element count", named, items), stated(&SHEET_B, "record count", named, body)];
-            both.into_iter().flatten().collect()
-        }
+/// The most columns that are listed.
+const MOST_LISTED: usize = 60;
+
+/// How many records a file states, and how many are there.
+pub struct Records {
+    kind: FileKind,
+    /// Those of the sheet part; of an index all.
+    part: u64,
+    /// Those behind the sheet part.
+    behind: u64,
+    there: u64,
+}
+
+impl Records {
+    /// Of a file; of a sheet only where its record count can be read.
+    pub fn of(bytes: &[u8]) -> Option<Records> {
+        let kind = FileKind::of(bytes);
+        let behind = match kind {
+            FileKind::Sheet => SHEET_B.value("record count", record(bytes, 2))?,
+            FileKind::Index => 0,
+        };
+        let (part, there) = (part(bytes).len() as u64, (bytes.len() / RECORD_BYTES) as u64);
+        u64::try_from(behind).ok().map(|behind| Records { kind, part, behind, there })
     }
+
+    fn stated(&self) -> u64 {
+        self.part + self.behind
+    }
+
+    /// How many are missing; 0 where there are enough.
+    pub fn missing(&self) -> u64 {
+        self.stated().saturating_sub(self.there)
+    }
+
+    /// How many are too many; 0 where there are not.
+    pub fn too_many(&self) -> u64 {
+        self.there.saturating_sub(self.stated())
+    }
+
+    /// In words.
+    pub fn words(&self) -> String {
+        let parts = format!("{} of the sheet part and {} behind it", self.part, self.behind);
+        let states = match self.kind {
+            FileKind::Sheet => format!("the sheet states {} records ({parts})", self.stated()),
+            FileKind::Index => format!("the index states {} records", self.stated()),
+        };
+        let differ = match (self.missing(), self.too_many()) {
+            (0, 0) => return format!("{states}, and as many are there"),
+            (0, 1) => "1 is too many".to_string(),
+            (0, n) => format!("{n} are too many"),
+            (1, _) => "1 is missing".to_string(),
+            (n, _) => format!("{n} are missing"),
+        };
+        format!("{states}, {} are there: {differ}", self.there)
+    }
+}
+
+/// Every count that differs, and what that may mean.
+pub fn differing(bytes: &[u8], named: &Record, told: &mut Explanation) {
+    told.notes.extend(Records::of(bytes).map(|records| records.words()));
+    match FileKind::of(bytes) {
+        FileKind::Sheet => sheet(bytes, told),
+        FileKind::Index => index(bytes, named, told),
+    }
+}
+
+/// The left-over records of an index.
+fn index(bytes: &[u8], named: &Record, told: &mut Explanation) {
+    let (due, there) = (part(bytes).len(), bytes.len() / RECORD_BYTES);
+    for column in ["b records", "c records"] {
+        let words =
+            format!("states {}; {due} records are due in all, the file has {there}", natural(&INDEX_A, column, named.bytes));
+        told.faults.push(fault(named.number, column, words));
+    }
+    let left = if due + 1 == there { format!("record {there}") } else { format!("records {} to {there}", due + 1) };
+    let look = format!("look at {left}, behind what is stated: take out what does not belong there, or mend the counts");
+    told.notes.push(form::blank_end(bytes, due + 1).unwrap_or(look));
+}
+
+/// The counts of a sheet and of all its headers.
+fn sheet(bytes: &[u8], told: &mut Explanation) {
+    let body = Body::of(bytes);
+    let mut faults = sheet_counts(bytes, &body);
+    let headers = body.entries.iter().zip(&body.held).filter(|(entry, _)| entry.sort() == Some(Sort::Header));
+    faults.extend(headers.flat_map(|(header, held)| header_counts(header, held)));
+    told.notes.extend(lost::found(bytes, &body));
+    let more = Records::of(bytes).is_some_and(|records| records.too_many() > 0);
+    if faults.iter().any(|differs| differs.short) && !more {
+        told.notes.push(
+            "a count that is short by one often means a lost record: find it in the original before you change the count"
+                .to_string(),
+        );
+    }
+    if faults.len() > MOST_LISTED {
+        told.notes.push(format!("{MOST_LISTED} columns are listed here, and {} more differ", faults.len() - MOST_LISTED));
+    }
+    told.faults.extend(faults.into_iter().take(MOST_LISTED).map(|differs| differs.fault));
+}
+
+/// A column that differs, and whether the file holds less than it states.
+struct Differs {
+    fault: Fault,
+    short: bool,
 }
 
 /// A count that is stated otherwise than it is found.
-fn stated(layout: &Layout, column: &'static str, named: &Record, found: usize) -> Option<Fault> {
+fn stated(layout: &Layout, column: &'static str, named: &Record, found: usize) -> Option<Differs> {
     let states = natural(layout, column, named.bytes);
-    (states != found as u64).then(|| fault(column, format!("states {states}, the file holds {found}")))
+    let most = 10u64.pow(layout.column(column).map_or(0, |column| column.width as u32)) - 1;
+    let words = match found as u64 {
+        found if found > most => format!("states {states}, the file holds {found}; at most {most} can be stated here"),
+        found => format!("states {states}, the file holds {found}"),
+    };
+    (states != found as u64).then(|| Differs { fault: fault(named.number, column, words), short: (found as u64) < states })
 }
 
-/// A header's counts: what stands one level below it, before the next header or item of its own level or above.
-fn header(bytes: &[u8], named: &Record) -> Vec<Fault> {
-    let own = named.level.unwrap_or(0);
-    let mut found = [0; COUNTS.len()];
-    for below in Outline::of(bytes).skip(named.number) {
-        let (What::Entry(sort), Some(level)) = (below.what, below.level) else { continue };
-        if level <= own {
-            break;
-        }
-        if level == own + 1 {
-            found[sort.count()] += 1;
-        }
-    }
-    let mut faults: Vec<Fault> =
-        COUNTS.iter().zip(found).filter_map(|(column, count)| stated(&HEADER, column, named, count)).collect();
-    let sum: u64 = COUNTS.iter().map(|column| natural(&HEADER, column, named.bytes)).sum();
-    let total = natural(&HEADER, "total", named.bytes);
-    if total != sum {
-        faults.push(fault("total", format!("states {total}, the counts behind it add up to {sum}")));
-    }
-    faults
+/// The two counts of record b.
+fn sheet_counts(bytes: &[u8], body: &Body) -> Vec<Differs> {
+    let Some(b) = crate::outline::Outline::of(bytes).nth(1) else { return Vec::new() };
+    let records = (bytes.len() / RECORD_BYTES).saturating_sub(part(bytes).len());
+    let both = [stated(&SHEET_B, "element count", &b, body.items()), stated(&SHEET_B, "record count", &b, records)];
+    both.into_iter().flatten().collect()
+}
+
+/// A header's counts: what stands one level below it, by kind, and the sum of these.
+fn header_counts(header: &Record, held: &[usize; COUNTS.len()]) -> Vec<Differs> {
+    let total = natural(&HEADER, "total", header.bytes);
+    let sum: u64 = COUNTS.iter().map(|column| natural(&HEADER, column, header.bytes)).sum();
+    let all = held.iter().sum::<usize>() as u64;
+    let words = match (total == sum, sum == all) {
+        (true, true) => None,
+        (true, false) => Some(format!("states {total}, the file holds {all}")),
+        (false, true) => Some(format!("states {total}, the counts behind it add up to {sum}")),
+        (false, false) => Some(format!("states {total}, the counts behind it add up to {sum}, the file holds {all}")),
+    };
+    let total = words.map(|words| Differs { fault: fault(header.number, "total", words), short: all < total.min(sum) });
+    let kinds = COUNTS.iter().zip(held).filter_map(|(column, found)| stated(&HEADER, column, header, *found));
+    total.into_iter().chain(kinds).collect()
 }

@@ -50,7 +50,17 @@ impl Sort {
         }
     }
 
-    /// In words.
+    /// The type of its own record, without a space: `H`, `E5`, `G`, `T`.
+    pub fn kind(self) -> String {
+        match self {
+            Sort::Header => "H".to_string(),
+            Sort::Element(n) => format!("E{n}"),
+            Sort::Grid => "G".to_string(),
+            Sort::Net => "T".to_string(),
+        }
+    }
+
+    /// In words: `header`, `point E5`, `grid`, `net`.
     pub fn name(self) -> String {
         match self {
             Sort::Header => "header".to_string(),
@@ -109,6 +119,11 @@ impl Stated {
             5 => Stated::points(&DATA_ATTRIBUTE, records, count, 1, 0),
             _ => Stated { layout: None, records, needed: 0, count, a_record: 1, columns: 0 },
         }
+    }
+
+    /// How many of its units stand in the data records before the n-th, from 0, and in so many columns of that one.
+    pub(crate) fn units(&self, nth: u64, columns: usize) -> u64 {
+        nth.saturating_mul(self.a_record) + columns.checked_div(self.columns).unwrap_or(0) as u64
     }
 
     /// How many columns of the n-th data record, from 0, are judged: those of used points; of a note or an attribute all.

@@ -1,0 +1,210 @@
+//! 3, 4 and 5: a record that is not what is due where it stands, and the column before it that may say so wrongly.
+
+use super::counts::Records;
+use super::{fault, form, near, own, Explanation, Fault};
+use crate::layout::*;
+use crate::outline::{natural, part, record, Outline, Record, Sort, Stated, What};
+use crate::text::{number_of, quoted, with_article};
+use crate::{FileKind, RECORD_BYTES};
+
+/// 3: an item's data, or a record of the sheet part or the index.
+pub fn missing(bytes: &[u8], named: &Record, told: &mut Explanation) {
+    told.notes.extend(Records::of(bytes).map(|records| records.words()));
+    match named.sort() {
+        Some(sort) => missing_data(bytes, named, sort, told),
+        None => missing_part(bytes, told),
+    }
+}
+
+fn missing_data(bytes: &[u8], named: &Record, sort: Sort, told: &mut Explanation) {
+    let there = (bytes.len() / RECORD_BYTES).saturating_sub(named.number);
+    let stated = number_of(Stated::of(sort, named.bytes).records, "data record");
+    told.faults.push(fault(named.number, "records", format!("states {stated}, the file ends after {there}")));
+    match near::hidden(bytes, named) {
+        Some(hidden) => lost_data(named, hidden, told),
+        None => told.notes.push(format!(
+            "the {} at record {} states {stated} and has {there}: the end of the file is lost, or the count is wrong",
+            sort.name(),
+            named.number
+        )),
+    }
+}
+
+/// The column that states how many records of a sheet part or an index there are, and the record that is due next.
+fn missing_part(bytes: &[u8], told: &mut Explanation) {
+    let due = part(bytes);
+    let there = bytes.len() / RECORD_BYTES;
+    let next = due.get(there).map_or("", |layout| layout.name);
+    told.notes.push(format!("the file ends after record {there}, where {next} is due as record {}", there + 1));
+    let a = record(bytes, 1);
+    match FileKind::of(bytes) {
+        FileKind::Sheet => {
+            let revisions = natural(&SHEET_A, "revisions", a);
+            let words = format!("states {revisions}: the sheet part has {} records, the file {there}", due.len());
+            told.faults.push(fault(1, "revisions", words));
+            told.faults.extend(due.get(there).filter(|layout| **layout == &SHEET_F).and_then(|_| f_records(bytes, &due, there)));
+        }
+        FileKind::Index => told.faults.extend(["b records", "c records"].map(|column| {
+            let states = natural(&INDEX_A, column, a);
+            fault(1, column, format!("states {states}; {} records are due in all, the file has {there}", due.len()))
+        })),
+    }
+}
+
+/// The f records that the last d record before a place states.
+fn f_records(bytes: &[u8], due: &[&Layout], before: usize) -> Option<Fault> {
+    let d = due.get(..before.min(due.len()))?.iter().rposition(|layout| *layout == &SHEET_D)? + 1;
+    let states = natural(&SHEET_D, "f records", record(bytes, d));
+    Some(fault(d, "f records", format!("states {states}")))
+}
+
+/// An item among whose data a header or item stands: one of its data records may be lost.
+fn lost_data(item: &Record, (number, sort): (usize, Sort), told: &mut Explanation) {
+    let Some(of) = item.sort() else { return };
+    let stated = number_of(Stated::of(of, item.bytes).records, "data record");
+    let before = number - item.number - 1;
+    told.faults.retain(|fault| (fault.record, fault.column) != (item.number, "records"));
+    told.faults.push(fault(item.number, "records", format!("states {stated}, {before} before record {number}")));
+    told.notes.push(format!(
+        "record {number} starts {}, but record {} states {stated}, and has {before} before it: \
+         a data record of the {} may be lost; find it in the original before you change the count",
+        sort.kind(),
+        item.number,
+        of.name()
+    ));
+}
+
+/// 4: what the record seems to be, and which count before it may be wrong.
+pub fn record_type(bytes: &[u8], named: &Record, told: &mut Explanation) {
+    let kind = quoted(named.bytes.get(..2).unwrap_or(&[]));
+    told.faults.push(fault(named.number, "type", format!("is {kind}, none of \"H \", \"E1\" to \"E8\", \"G \", \"T \"")));
+    if let Some(blank) = form::blank_end(bytes, named.number) {
+        told.notes.push(blank);
+    } else if !longer_part(bytes, named, told) && !type_alone(named, told) {
+        item_before(bytes, named, told);
+    }
+}
+
+/// A sheet part that is longer than stated.
+fn longer_part(bytes: &[u8], named: &Record, told: &mut Explanation) -> bool {
+    let due = part(bytes);
+    let number = named.number;
+    if number != due.len() + 1 {
+        return false;
+    }
+    let further = SHEET_D.fits(named.bytes) && SHEET_E.fits(record(bytes, number + 1));
+    let (wrong, what) = if further {
+        let revisions = natural(&SHEET_A, "revisions", record(bytes, 1));
+        let words = format!("states {revisions}, so the sheet part ends before record {number}");
+        (fault(1, "revisions", words), "d, with an e behind it")
+    } else {
+        let Some(f) = f_records(bytes, &due, due.len()).filter(|_| SHEET_F.fits(named.bytes)) else { return false };
+        (Fault { words: format!("{}, so the sheet part ends before record {number}", f.words), ..f }, "f")
+    };
+    told.notes.push(format!(
+        "record {number} is no header but reads as sheet {what}: the sheet part is longer than record {} states",
+        wrong.record
+    ));
+    told.faults.push(wrong);
+    true
+}
+
+/// A record that is right but for its type.
+fn type_alone(named: &Record, told: &mut Explanation) -> bool {
+    let layouts = [&HEADER, &ELEMENT, &GRID_HEADER, &NET_HEADER];
+    let Some(layout) = layouts.into_iter().find(|layout| layout.fits(named.bytes)) else { return false };
+    told.notes.push(format!("the other columns read as {}'s: only the type seems wrong", with_article(layout.name)));
+    true
+}
+
+/// The header or item before the record, whose count may be wrong.
+fn item_before(bytes: &[u8], named: &Record, told: &mut Explanation) {
+    let before = Outline::of(bytes).take(named.number - 1).filter(|record| record.sort().is_some()).last();
+    let Some((item, sort)) = before.and_then(|item| Some((item, item.sort()?))) else { return };
+    if let Some(hidden) = near::hidden(bytes, &item) {
+        return lost_data(&item, hidden, told);
+    }
+    let stated = Stated::of(sort, item.bytes).records;
+    let until = near::next(bytes, named.number - 1)
+        .map_or("to the end of the file".to_string(), |(number, sort)| format!("before the {} at record {number}", sort.name()));
+    let follow = number_of(near::following(bytes, &item) as u64, "record");
+    let states = format!("states {}, {follow} stand {until}", number_of(stated, "data record"));
+    told.notes.push(format!("the {} at record {} {states}", sort.name(), item.number));
+    let again = near::repeated(bytes, item.number + 1, named.number);
+    told.notes.extend(again.map(|again| format!("record {again} is the same as record {} before it", again - 1)));
+    if sort != Sort::Header {
+        told.faults.push(fault(item.number, "records", states));
+    }
+    if let Sort::Element(_) = sort {
+        let count = natural(&ELEMENT, "data count", item.bytes);
+        told.faults.push(fault(item.number, "data count", format!("is {count}: needs {}", number_of(stated, "data record"))));
+    }
+}
+
+/// 5: the malformed columns, and whether another record is due here.
+pub fn malformed(bytes: &[u8], named: &Record, told: &mut Explanation) {
+    told.faults.extend(own::malformed(named));
+    match named.what {
+        What::Data { item } => {
+            let Some(item) = Outline::of(bytes).nth(item - 1) else { return };
+            match near::hidden(bytes, &item) {
+                Some(hidden) => lost_data(&item, hidden, told),
+                None => short_data(named, &item, told),
+            }
+        }
+        What::Part => other_part(bytes, named, told),
+        _ => {}
+    }
+}
+
+/// Data that ends before the last point or height that its item states: nothing but spaces from there on.
+fn short_data(named: &Record, item: &Record, told: &mut Explanation) {
+    let Some(sort) = item.sort() else { return };
+    let columns = named.judged_columns();
+    let blank = columns.iter().rev().take_while(|column| column.is_spaces(named.bytes)).count();
+    let stated = Stated::of(sort, item.bytes);
+    let last = (named.number - item.number) as u64 == stated.records;
+    if !last || blank == 0 || blank != told.faults.len() {
+        return;
+    }
+    let found = stated.units(stated.records - 1, columns.len() - blank);
+    let stating: &[&str] = match sort {
+        Sort::Grid => &["rows", "columns"],
+        Sort::Net => &["triangles"],
+        _ => &["data count"],
+    };
+    let (count, unit) = (stated.count, if sort == Sort::Grid { "heights" } else { "points" });
+    let words = format!("{count} {unit} are stated, the data has {found}");
+    told.notes.push(format!("the {} at record {}: {words}; behind them stand spaces alone", sort.name(), item.number));
+    told.faults.extend(stating.iter().map(|column| fault(item.number, column, words.clone())));
+}
+
+/// A record of the sheet part or the index that reads as another one.
+fn other_part(bytes: &[u8], named: &Record, told: &mut Explanation) {
+    let due = named.layout.map_or("", |layout| layout.name);
+    let number = named.number;
+    if near::reads_as(named.bytes) == Some(Sort::Header) {
+        told.notes.push(format!(
+            "record {number} is a header, where {due} is due: the sheet part is shorter than stated, or a record of it is lost"
+        ));
+        let revisions = natural(&SHEET_A, "revisions", record(bytes, 1));
+        if revisions > 0 {
+            told.faults.push(fault(1, "revisions", format!("states {revisions}; the first header stands at record {number}")));
+        }
+        let f = named.layout.filter(|layout| **layout == SHEET_F).and_then(|_| f_records(bytes, &part(bytes), number));
+        told.faults.extend(f);
+        return;
+    }
+    let others = [&SHEET_B, &SHEET_D, &SHEET_E, &SHEET_F].into_iter().filter(|_| FileKind::of(bytes) == FileKind::Sheet);
+    if let Some(other) = others.filter(|layout| layout.name != due).find(|layout| layout.fits(named.bytes)) {
+        told.notes.push(format!(
+            "record {number} reads as {}, where {due} is due: a record of the sheet part before it is lost or too many",
+            other.name
+        ));
+    }
+    if told.notes.is_empty() && told.faults.len() > 2 {
+        told.notes.push(format!(
+            "record {number} does not read as {due}: a record may be lost or too many before it, or this one is damaged"
+        ));
+    }
+}

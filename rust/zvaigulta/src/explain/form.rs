@@ -1,0 +1,114 @@
+//! Files in another form than records of 84 bytes end to end: text with line ends or a byte order mark, EBCDIC, padding.
+
+use super::near;
+use crate::outline::{part, Sort};
+use crate::text::{number_of, quoted};
+use crate::{FileKind, MOST_RECORDS, RECORD_BYTES};
+
+/// The form that is recognised, and what to do about it. `refused` is the refused record, if the refusal names one.
+pub fn of(bytes: &[u8], refused: Option<usize>) -> Option<String> {
+    start(bytes).or_else(|| lines(bytes)).or_else(|| spaces_lost(bytes)).or_else(|| tail(bytes, refused))
+}
+
+/// By the first bytes.
+fn start(bytes: &[u8]) -> Option<String> {
+    let (seen, advice) = match bytes {
+        [0xef, 0xbb, 0xbf, ..] => ("the file starts with a byte order mark (EF BB BF)", "save it as plain text without the mark"),
+        [0xff, 0xfe, ..] | [0xfe, 0xff, ..] => (
+            "the file starts with the byte order mark of UTF-16, two bytes for each letter",
+            "save it with one byte for each letter",
+        ),
+        [b'M' | b'I', 0, b' ', 0, ..] | [0, b'M' | b'I', 0, b' ', ..] => {
+            ("the file is in UTF-16, two bytes for each letter", "save it with one byte for each letter")
+        }
+        [0xd4, 0x40, ..] => ("the file is in EBCDIC: it starts with \"M \" in that code", "have it translated to ASCII"),
+        [0xc9, 0x40, ..] => ("the file is in EBCDIC: it starts with \"I \" in that code", "have it translated to ASCII"),
+        _ => return None,
+    };
+    Some(format!("{seen}; {advice}"))
+}
+
+/// The line ends that text files have.
+const LINE_ENDS: [(&[u8], &str); 3] =
+    [(b"\r\n", "carriage return and line feed (CR LF)"), (b"\n", "a line feed (LF)"), (b"\r", "a carriage return (CR)")];
+
+/// Records with a line end behind each, but for the last perhaps.
+fn lines(bytes: &[u8]) -> Option<String> {
+    LINE_ENDS.iter().find_map(|(end, name)| {
+        let stride = RECORD_BYTES + end.len();
+        let ended = bytes.chunks(stride).take_while(|line| line.get(RECORD_BYTES..) == Some(*end)).count();
+        let rest = bytes.len() - (ended * stride).min(bytes.len());
+        let all = format!("every record ends in {name}, {stride} bytes in all");
+        let what = match rest {
+            _ if ended == 0 => return None,
+            0 => all,
+            RECORD_BYTES => format!("every record but the last ends in {name}, {stride} bytes in all"),
+            // A file that is too long is read in part; its last line is then cut off.
+            1..RECORD_BYTES if bytes.len() > MOST_RECORDS * RECORD_BYTES => all,
+            _ if ended > 1 => format!("records 1 to {ended} end in {name}, record {} does not", ended + 1),
+            _ => return None,
+        };
+        Some(format!("{what}; a record is {RECORD_BYTES} bytes without a line end: take the line ends out"))
+    })
+}
+
+/// Lines that lost the spaces at their ends.
+fn spaces_lost(bytes: &[u8]) -> Option<String> {
+    let mut lines: Vec<&[u8]> = bytes.split(|byte| *byte == b'\n').map(|line| line.strip_suffix(b"\r").unwrap_or(line)).collect();
+    if lines.last().is_some_and(|line| line.is_empty()) {
+        lines.pop();
+    }
+    let short = lines.iter().position(|line| line.len() < RECORD_BYTES)?;
+    let ours = bytes.starts_with(b"M ") || bytes.starts_with(b"I ") || Sort::of(bytes).is_some();
+    if !ours || lines.len() < 2 || lines.iter().any(|line| line.len() > RECORD_BYTES) {
+        return None;
+    }
+    let has = lines.get(short).map_or(0, |line| line.len());
+    Some(format!(
+        "the file is text in lines, and spaces at their ends are lost: line {} has {}; \
+         fill each line with spaces up to {RECORD_BYTES} and take the line ends out",
+        short + 1,
+        number_of(has as u64, "byte")
+    ))
+}
+
+/// Bytes at the end that are no text: a fill of NUL, an end-of-file mark, a line end.
+fn tail(bytes: &[u8], refused: Option<usize>) -> Option<String> {
+    let kept = bytes.iter().rposition(|byte| !matches!(byte, 0 | 0x1a | b'\r' | b'\n')).map_or(0, |last| last + 1);
+    let fill = bytes.get(kept..).filter(|fill| !fill.is_empty())?;
+    let (record, byte) = (kept / RECORD_BYTES + 1, kept % RECORD_BYTES + 1);
+    // Free text may end so as well: the refusal must be one of these bytes', or of records that an index does not state.
+    let blamed = refused.is_none_or(|refused| record <= refused || part(bytes).len() < record && refused == 1);
+    let what = named(fill);
+    match byte {
+        _ if !blamed => None,
+        _ if kept == 0 => Some(format!("the file holds nothing but {what}")),
+        1 if accepted(bytes.get(..kept)?) => Some(format!("behind the last record: {what}; without that the file is accepted")),
+        1 => Some(format!("from record {record} on: nothing but {what}")),
+        _ if fill.len() > 1 => Some(format!("from byte {byte} of record {record} on: nothing but {what}; that part is lost")),
+        _ => None,
+    }
+}
+
+/// Fill bytes in words.
+fn named(fill: &[u8]) -> String {
+    let count = fill.len() as u64;
+    match fill {
+        [0x1a] => "an end-of-file mark (the byte 1A)".to_string(),
+        [0x1a, ..] => format!("an end-of-file mark (the byte 1A) and {}", number_of(count - 1, "fill byte")),
+        [b'\r', b'\n'] | [b'\n'] | [b'\r'] => "a line end".to_string(),
+        fill if fill.iter().all(|byte| *byte == 0) => number_of(count, "NUL byte"),
+        fill => format!("{}, {}", number_of(count, "fill byte"), quoted(fill.get(..8).unwrap_or(fill))),
+    }
+}
+
+fn accepted(bytes: &[u8]) -> bool {
+    FileKind::of(bytes).judge(bytes, bytes.len()).is_ok()
+}
+
+/// Records of spaces alone from the refused one to the end.
+pub fn blank_end(bytes: &[u8], refused: usize) -> Option<String> {
+    let last = bytes.len() / RECORD_BYTES;
+    let which = if refused == last { format!("record {last} holds") } else { format!("records {refused} to {last} hold") };
+    near::filled(bytes, refused, b' ').then(|| format!("{which} spaces alone, to the end of the file: a fill; take it out"))
+}

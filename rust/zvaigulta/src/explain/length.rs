@@ -1,0 +1,69 @@
+//! 1: why a length is refused, and the first record that breaks.
+
+use super::counts::Records;
+use super::{at_record, first, form, shift, Explanation};
+use crate::outline::Outline;
+use crate::text::{number_of, quoted};
+use crate::{FileKind, Reason, Refusal, MOST_RECORDS, RECORD_BYTES};
+
+/// The one of the four reasons that a length is refused for.
+pub fn reason(length: usize) -> String {
+    match length {
+        0 => "the file is empty".to_string(),
+        n if n > MOST_RECORDS * RECORD_BYTES => format!("the file has more than 200,000 records of {RECORD_BYTES} bytes"),
+        n if n % RECORD_BYTES == 0 => "the length that was given is above the buffer".to_string(),
+        n => format!("the length, {}, is not a multiple of {RECORD_BYTES}", number_of(n as u64, "byte")),
+    }
+}
+
+/// What is behind it, and the columns of the first record that breaks.
+pub fn explain(bytes: &[u8], told: &mut Explanation) {
+    match (form::of(bytes, None), bytes.len()) {
+        (Some(form), _) => told.notes.push(form),
+        (_, 0) => told.notes.push("copy the file again from where it came".to_string()),
+        (_, n) if n > MOST_RECORDS * RECORD_BYTES => told.notes.push("divide the sheet into two".to_string()),
+        (_, n) if n % RECORD_BYTES == 0 => told.notes.push("give the length of the file in its buffer".to_string()),
+        (_, n) if n < RECORD_BYTES => {
+            told.notes.push("the file is shorter than one record: copy it again from where it came".to_string())
+        }
+        _ => odd(bytes, told),
+    }
+}
+
+/// Whole records, and some bytes more.
+fn odd(bytes: &[u8], told: &mut Explanation) {
+    let records = bytes.len() / RECORD_BYTES;
+    let (whole, rest) = bytes.split_at(records * RECORD_BYTES);
+    let more = number_of(rest.len() as u64, "byte");
+    match FileKind::of(whole).judge(whole, whole.len()) {
+        Ok(_) => told.notes.push(format!(
+            "the {records} whole records are accepted, but {more} more stand behind them: {}; take them out",
+            quoted(rest)
+        )),
+        Err(refusal) => broken(bytes, whole, refusal, told),
+    }
+}
+
+/// Whole records that are refused themselves.
+fn broken(bytes: &[u8], whole: &[u8], refusal: Refusal, told: &mut Explanation) {
+    let (records, odd) = (whole.len() / RECORD_BYTES, bytes.len() % RECORD_BYTES);
+    let Some(named) = refusal.record.and_then(|record| Outline::of(whole).nth(record.checked_sub(1)?)) else { return };
+    let short = Records::of(whole).filter(|records| records.missing() > 0);
+    match (refusal.reason, short) {
+        (Reason::FileType, _) => first::explain(bytes, &named, told),
+        (Reason::MissingRecord | Reason::Count, Some(short)) => {
+            let only = format!("record {} has only {odd} of its {RECORD_BYTES} bytes", records + 1);
+            let cut = || format!("{only}: the file is cut off, or bytes of that record are lost; {}", short.words());
+            told.notes.push(shift::words(bytes, records + 1).unwrap_or_else(cut));
+        }
+        _ => {
+            let mut inner = Explanation::default();
+            at_record(whole, &named, refusal.reason, &mut inner);
+            told.faults.extend(inner.faults.into_iter().filter(|fault| fault.record == named.number));
+            let first = format!("record {} is the first that breaks ({})", named.number, refusal.reason);
+            let more = number_of(odd as u64, "byte");
+            let plain = || format!("the file has {records} records of {RECORD_BYTES} bytes and {more} more; {first}");
+            told.notes.push(shift::words(bytes, named.number).unwrap_or_else(plain));
+        }
+    }
+}

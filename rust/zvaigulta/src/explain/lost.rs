@@ -1,0 +1,134 @@
+//! Where a record may be lost, or stand twice, in a sheet whose counts differ.
+
+use super::body::Body;
+use super::counts::Records;
+use super::near;
+use crate::layout::{HEADER, SHEET_B};
+use crate::outline::{natural, record, Record, Sort, Stated};
+use crate::text::{number_of, with_article};
+use crate::RECORD_BYTES;
+use std::collections::BTreeMap;
+
+/// The most places that are named for one reason.
+const MOST_PLACES: usize = 3;
+
+/// What is seen of lost and repeated records, a line each.
+pub fn found(bytes: &[u8], body: &Body) -> Vec<String> {
+    let records = Records::of(bytes);
+    let missing = records.as_ref().is_some_and(|records| records.missing() > 0);
+    if records.is_some_and(|records| records.too_many() > 0) {
+        return repeated(bytes, body);
+    }
+    let hidden: Vec<String> = body.entries.iter().filter_map(|item| hidden(bytes, item)).take(MOST_PLACES).collect();
+    if missing && !hidden.is_empty() {
+        return hidden;
+    }
+    let stated = SHEET_B.value("element count", record(bytes, 2)).and_then(|count| usize::try_from(count).ok());
+    let items = body.items();
+    let all = format!("all {items} items that the sheet states are there: no item is missing, but a header or data");
+    let mut notes: Vec<String> = (missing && stated == Some(items)).then_some(all).into_iter().collect();
+    notes.extend(headers(body, missing));
+    notes
+}
+
+/// A header or item that is taken as data of an item before it.
+fn hidden(bytes: &[u8], item: &Record) -> Option<String> {
+    let (number, sort) = near::hidden(bytes, item)?;
+    let of = item.sort()?;
+    let records = number_of(Stated::of(of, item.bytes).records, "data record");
+    let taken = format!("is taken as data of the {} at record {}, which states {records}", of.name(), item.number);
+    Some(format!("record {number} reads as {}, but {taken}: one of them may be lost", with_article(&sort.name())))
+}
+
+/// Items and headers that are the same as those directly before them.
+fn repeated(bytes: &[u8], body: &Body) -> Vec<String> {
+    let last = bytes.len() / RECORD_BYTES;
+    let ends = body.entries.iter().skip(1).map(|next| next.number - 1).chain([last]);
+    let spans: Vec<(usize, usize)> = body.entries.iter().map(|entry| entry.number).zip(ends).collect();
+    let span = |(from, to): (usize, usize)| bytes.get((from - 1) * RECORD_BYTES..to * RECORD_BYTES);
+    let same = spans.windows(2).filter(|pair| matches!(pair, [one, two] if span(*one) == span(*two)));
+    let words = |pair: &[(usize, usize)]| match pair {
+        [(from, _), (again, to)] if again == to => format!("record {again} is the same as record {from} before it"),
+        [(from, one), (again, to)] => format!("records {again} to {to} are the same as records {from} to {one} before them"),
+        _ => String::new(),
+    };
+    same.take(MOST_PLACES).map(words).collect()
+}
+
+/// Where a header may be missing: by the totals, where records are missing, and by the class codes of a layer whose total differs or where
+/// records are missing.
+fn headers(body: &Body, missing: bool) -> Vec<String> {
+    let mut seen: BTreeMap<usize, Vec<String>> = BTreeMap::new();
+    let totals = by_total(body).into_iter().filter(|_| missing);
+    let classes = layers(body).into_iter().filter(|layer| missing || layer.differs).filter_map(|layer| layer.words());
+    for (record, words) in totals.chain(classes) {
+        seen.entry(record).or_default().push(words);
+    }
+    let note =
+        |(record, why): (usize, Vec<String>)| format!("a header may be missing before record {record}: {}", why.join(", and "));
+    seen.into_iter().map(note).take(MOST_PLACES).collect()
+}
+
+/// The first record below each header that is more than it states, and why it is named.
+fn by_total(body: &Body) -> Vec<(usize, String)> {
+    let mut seen = vec![0; body.entries.len()];
+    let mut found = Vec::new();
+    for (entry, above) in body.entries.iter().zip(&body.above) {
+        let Some((place, header)) = above.and_then(|place| Some((place, body.entries.get(place)?))) else { continue };
+        let total = natural(&HEADER, "total", header.bytes);
+        if seen[place] == total {
+            let held: usize = body.held[place].iter().sum();
+            found.push((entry.number, format!("record {} states {total} below it and holds {held}", header.number)));
+        }
+        seen[place] += 1;
+    }
+    found
+}
+
+/// A layer's class codes.
+struct Layer {
+    header: usize,
+    class: u64,
+    /// Whether the header's total is not what it holds.
+    differs: bool,
+    /// From which record on the class codes begin otherwise than the header's, and how.
+    other: Option<(usize, u64)>,
+    /// Whether they change once more.
+    mixed: bool,
+}
+
+impl Layer {
+    /// One more header or item of the layer.
+    fn step(&mut self, record: usize, class: u64) {
+        let hundreds = class / 100;
+        match self.other {
+            None if hundreds == self.class / 100 => {}
+            None => self.other = Some((record, hundreds)),
+            Some((_, other)) => self.mixed |= hundreds != other,
+        }
+    }
+
+    /// The record from which on another layer's items seem to stand here, and why.
+    fn words(&self) -> Option<(usize, String)> {
+        let (record, hundreds) = self.other.filter(|_| !self.mixed)?;
+        let under = format!("under the layer header at record {} of class {}", self.header, self.class);
+        Some((record, format!("from record {record} on the class codes are {hundreds:02}xx, {under}")))
+    }
+}
+
+/// The layers with their class codes.
+fn layers(body: &Body) -> Vec<Layer> {
+    let mut layers: Vec<Layer> = Vec::new();
+    for (entry, held) in body.entries.iter().zip(&body.held) {
+        let class = entry.layout.map_or(0, |layout| natural(layout, "class", entry.bytes));
+        match layers.last_mut() {
+            Some(layer) if entry.level != Some(1) => layer.step(entry.number, class),
+            _ if entry.sort() == Some(Sort::Header) => {
+                let differs = natural(&HEADER, "total", entry.bytes) != held.iter().sum::<usize>() as u64;
+                layers.push(Layer { header: entry.number, class, differs, other: None, mixed: false });
+            }
+            _ => {}
+        }
+    }
+    layers
+}
