@@ -1,0 +1,548 @@
+//! A sheet and an index damaged in many ways: what the judge answers, what the explanation says, and the columns that it marks.
+
+mod town;
+
+use town::{ended, index, sheet, shifted, twice, with, without};
+use zvaigulta::explain::explain;
+use zvaigulta::FileKind;
+
+/// A damage: its name, the damaged file, the refusal with its record (0 for none), words of the explanation, and columns that it marks.
+type Damage = (&'static str, Vec<u8>, (u64, usize), &'static [&'static str], &'static [(usize, &'static str)]);
+
+/// Records of the body that are lost.
+fn lost() -> Vec<Damage> {
+    vec![
+        (
+            "the second layer header is lost",
+            without(sheet(), 19, 19),
+            (10, 2),
+            &[
+                "the sheet states 28 records (6 of the sheet part and 22 behind it), 27 are there: 1 is missing",
+                "all 8 items that the sheet states are there",
+                "a header may be missing before record 19: record 7 states 3 below it and holds 7",
+                "from record 19 on the class codes are 22xx, under the layer header at record 7 of class 2100",
+                "find it in the original before you change the count",
+                "states 22, the file holds 21",
+            ],
+            &[(2, "record count"), (7, "total"), (7, "line"), (7, "point"), (7, "grid and net")],
+        ),
+        (
+            "the same, and the sheet's record count made to fit",
+            with(without(sheet(), 19, 19), 2, 37, "     21"),
+            (10, 7),
+            &["a header may be missing before record 19", "states 3, the file holds 7"],
+            &[(7, "total"), (7, "line"), (7, "point"), (7, "grid and net")],
+        ),
+        (
+            "the same, and the first layer's counts made to fit",
+            with(without(sheet(), 19, 19), 7, 18, "    7    1    0    2    0    0    1    0    1    02"),
+            (10, 2),
+            &["1 is missing", "a header may be missing before record 19: from record 19 on the class codes are 22xx"],
+            &[(2, "record count")],
+        ),
+        (
+            "the group header is lost",
+            without(sheet(), 13, 13),
+            (7, 13),
+            &[
+                "is 3, may be at most 2 here: record 11 before it is a note E7, level 2",
+                "a header of level 2 is missing before record 13",
+                "1 is missing",
+            ],
+            &[(13, "level"), (11, "level")],
+        ),
+        (
+            "the first layer header is lost",
+            without(sheet(), 7, 7),
+            (7, 7),
+            &["may be at most 1 here: no layer header stands before it", "1 is missing"],
+            &[(7, "level")],
+        ),
+        (
+            "a data record of a line is lost",
+            without(sheet(), 10, 10),
+            (5, 10),
+            &[
+                "record 10 starts E7, but record 8 states 2 data records, and has 1 before it",
+                "a data record of the line E2 may be lost",
+            ],
+            &[(8, "records"), (10, "X 1"), (10, "Y 1")],
+        ),
+        (
+            "the data record of a note is lost",
+            without(sheet(), 12, 12),
+            (5, 12),
+            &["record 12 starts H, but record 11 states 1 data record, and has 0 before it"],
+            &[(11, "records"), (12, "writing direction")],
+        ),
+        (
+            "a data record of an attribute is lost",
+            without(sheet(), 18, 18),
+            (10, 2),
+            &[
+                "record 18 reads as a header, but is taken as data of the attribute E8 at record 16, which states 2 data records",
+                "1 is missing",
+            ],
+            &[(2, "record count"), (7, "total")],
+        ),
+        (
+            "a data record of a grid is lost",
+            without(sheet(), 25, 25),
+            (5, 25),
+            &["record 25 starts T, but record 23 states 2 data records, and has 1 before it"],
+            &[(23, "records"), (25, "height 1")],
+        ),
+        (
+            "a point without data is lost",
+            without(sheet(), 22, 22),
+            (10, 2),
+            &["1 is missing", "a count that is short by one often means a lost record", "states 8, the file holds 7"],
+            &[(2, "element count"), (2, "record count"), (19, "total"), (19, "point")],
+        ),
+        (
+            "a line with its data is lost",
+            without(sheet(), 8, 10),
+            (10, 2),
+            &["3 are missing", "often means a lost record"],
+            &[(2, "element count"), (2, "record count"), (7, "total"), (7, "line")],
+        ),
+        (
+            "the last record is lost",
+            without(sheet(), 28, 28),
+            (3, 26),
+            &["27 are there: 1 is missing", "states 2 data records, the file ends after 1"],
+            &[(26, "records")],
+        ),
+        (
+            "the file ends behind an item's own record",
+            without(sheet(), 9, 28),
+            (3, 8),
+            &["8 are there: 20 are missing", "states 2 data records, the file ends after 0"],
+            &[(8, "records")],
+        ),
+        (
+            "the file ends behind an item",
+            without(sheet(), 23, 28),
+            (10, 2),
+            &["22 are there: 6 are missing", "states 8, the file holds 6"],
+            &[(2, "element count"), (2, "record count"), (19, "total"), (19, "grid and net")],
+        ),
+    ]
+}
+
+/// Records that stand twice.
+fn repeated() -> Vec<Damage> {
+    vec![
+        (
+            "a data record twice",
+            twice(sheet(), 9, 9),
+            (4, 11),
+            &[
+                "the line E2 at record 8 states 2 data records, 3 records stand before the note E7 at record 12",
+                "record 10 is the same as record 9 before it",
+                "29 are there: 1 is too many",
+            ],
+            &[(11, "type"), (8, "records"), (8, "data count")],
+        ),
+        (
+            "a point twice",
+            twice(sheet(), 22, 22),
+            (10, 2),
+            &["record 23 is the same as record 22 before it", "1 is too many"],
+            &[(2, "element count"), (2, "record count"), (19, "total"), (19, "point")],
+        ),
+        (
+            "a line with its data twice",
+            twice(sheet(), 8, 10),
+            (10, 2),
+            &["records 11 to 13 are the same as records 8 to 10 before them", "3 are too many"],
+            &[(2, "element count"), (2, "record count"), (7, "total"), (7, "line")],
+        ),
+        (
+            "a layer header twice",
+            twice(sheet(), 19, 19),
+            (10, 2),
+            &["record 20 is the same as record 19 before it"],
+            &[(2, "record count"), (19, "total")],
+        ),
+        (
+            "the last data record twice",
+            twice(sheet(), 28, 28),
+            (4, 29),
+            &[
+                "the net at record 26 states 2 data records, 3 records stand to the end of the file",
+                "record 29 is the same as record 28 before it",
+            ],
+            &[(29, "type"), (26, "records")],
+        ),
+    ]
+}
+
+/// The sheet part: lost, repeated and wrong records.
+fn parts() -> Vec<Damage> {
+    vec![
+        (
+            "record a is lost",
+            without(sheet(), 1, 1),
+            (2, 1),
+            &["record 1 reads as sheet b: sheet a before it is lost"],
+            &[(1, "type")],
+        ),
+        (
+            "record b is lost",
+            without(sheet(), 2, 2),
+            (5, 2),
+            &["record 2 does not read as sheet b"],
+            &[(2, "lower left X"), (2, "unit")],
+        ),
+        (
+            "record c is lost",
+            without(sheet(), 3, 3),
+            (5, 4),
+            &["record 4 reads as sheet e, where sheet d is due"],
+            &[(4, "courses")],
+        ),
+        (
+            "record d is lost",
+            without(sheet(), 4, 4),
+            (5, 4),
+            &["record 4 reads as sheet e, where sheet d is due"],
+            &[(4, "courses")],
+        ),
+        (
+            "record e is lost",
+            without(sheet(), 5, 5),
+            (5, 5),
+            &["record 5 reads as sheet f, where sheet e is due", "1 is missing"],
+            &[(5, "lower left Y")],
+        ),
+        (
+            "record f is lost",
+            without(sheet(), 6, 6),
+            (5, 6),
+            &["record 6 is a header, where sheet f is due: the sheet part is shorter than stated"],
+            &[(6, "scale 1"), (4, "f records")],
+        ),
+        (
+            "record e twice",
+            twice(sheet(), 5, 5),
+            (5, 6),
+            &["record 6 reads as sheet e, where sheet f is due", "1 is too many"],
+            &[(6, "scale 1")],
+        ),
+        (
+            "record f twice",
+            twice(sheet(), 6, 6),
+            (4, 7),
+            &["record 7 is no header but reads as sheet f: the sheet part is longer than record 4 states"],
+            &[(7, "type"), (4, "f records")],
+        ),
+        (
+            "one revision more than stated",
+            twice(sheet(), 4, 6),
+            (4, 7),
+            &["record 7 is no header but reads as sheet d, with an e behind it: the sheet part is longer than record 1 states"],
+            &[(7, "type"), (1, "revisions")],
+        ),
+        (
+            "one revision less than stated",
+            with(sheet(), 1, 65, " 1"),
+            (5, 7),
+            &["record 7 is a header, where sheet d is due", "states 1; the first header stands at record 7"],
+            &[(7, "courses"), (1, "revisions")],
+        ),
+        (
+            "the file ends in the sheet part",
+            without(sheet(), 5, 28),
+            (3, 1),
+            &["the file ends after record 4, where sheet e is due as record 5", "4 are there: 24 are missing"],
+            &[(1, "revisions")],
+        ),
+        (
+            "the file ends before its f record",
+            without(sheet(), 6, 28),
+            (3, 1),
+            &["where sheet f is due as record 6"],
+            &[(1, "revisions"), (4, "f records")],
+        ),
+        (
+            "the type of record a",
+            with(sheet(), 1, 0, "m "),
+            (2, 1),
+            &["the other columns of record 1 read as a sheet's: only the type seems wrong; it should be \"M \""],
+            &[(1, "type")],
+        ),
+        (
+            "the level of record a",
+            with(sheet(), 1, 30, "  501"),
+            (6, 1),
+            &["is 501, must be one of 500, 1000, 2500, 5000, 10000"],
+            &[(1, "level")],
+        ),
+        (
+            "the unit against the level",
+            with(sheet(), 2, 44, " 10"),
+            (6, 2),
+            &["is 10, must be 1 for level 500 or 1000", "is 500; unit 10 goes with 2500 or 5000"],
+            &[(2, "unit"), (1, "level")],
+        ),
+        ("the version", with(sheet(), 1, 67, "2"), (6, 1), &["is 2, must be 1"], &[(1, "version")]),
+        (
+            "f records against courses",
+            with(sheet(), 4, 9, "2"),
+            (6, 4),
+            &["is 2, must be 0 or, for 2 courses, 1", "is 2; an f record holds three courses"],
+            &[(4, "courses"), (4, "f records")],
+        ),
+        (
+            "a fraction too large",
+            with(sheet(), 5, 44, "1000"),
+            (9, 5),
+            &["is 1000, too large: at most 999 millimetres for unit 1"],
+            &[(5, "lower left Y"), (2, "lower left Y")],
+        ),
+        (
+            "a fraction of opposite sign",
+            with(sheet(), 5, 44, " -50"),
+            (9, 5),
+            &["is -50, of opposite sign to its whole 5678 in record 2"],
+            &[(5, "lower left Y"), (2, "lower left Y")],
+        ),
+        (
+            "a fraction too large in centimetres",
+            with(with(with(sheet(), 1, 30, " 2500"), 2, 44, " 10"), 5, 44, " 100"),
+            (9, 5),
+            &["is 100, too large: at most 99 centimetres for unit 10"],
+            &[(5, "lower left Y")],
+        ),
+    ]
+}
+
+/// Columns of headers, items and data.
+fn columns() -> Vec<Damage> {
+    vec![
+        ("a letter O for a zero", with(sheet(), 9, 13, "O"), (5, 9), &["malformed: \"O\" is no digit"], &[(9, "Y 1")]),
+        ("a plus sign", with(sheet(), 9, 10, "  +5"), (5, 9), &["malformed: a plus sign"], &[(9, "Y 1")]),
+        ("a minus before zeros", with(sheet(), 9, 10, "  -0"), (5, 9), &["malformed: a minus before zeros only"], &[(9, "Y 1")]),
+        ("a space behind a number", with(sheet(), 9, 10, "  5 "), (5, 9), &["malformed: a space behind the number"], &[(9, "Y 1")]),
+        ("a space inside a number", with(sheet(), 9, 10, " 5 5"), (5, 9), &["malformed: a space inside the number"], &[(9, "Y 1")]),
+        ("a class left out", with(sheet(), 8, 2, "    "), (5, 8), &["malformed: all spaces"], &[(8, "class")]),
+        ("a level of an item too deep", with(sheet(), 14, 16, " 5"), (7, 14), &["is 5, may be at most 3 here: record 13 before it is a group header, level 2", "a header of level 4 is missing before record 14"], &[(14, "level"), (13, "level")]),
+        ("a level of a header too deep", with(sheet(), 13, 16, " 3"), (7, 13), &["is 3, may be at most 2 here: record 11 before it is a note E7, level 2"], &[(13, "level"), (11, "level")]),
+        ("a level that no header has", with(sheet(), 7, 16, " 9"), (7, 7), &["is 9, the level of a header is 1 to 8"], &[(7, "level")]),
+        ("a level that no item has", with(sheet(), 22, 16, " 1"), (7, 22), &["is 1, the level of an item is 2 to 9"], &[(22, "level")]),
+        ("a type that is none", with(sheet(), 14, 0, "F5"), (4, 14), &["is \"F5\", none of", "the other columns read as an element's: only the type seems wrong"], &[(14, "type")]),
+        ("the type of a header", with(sheet(), 19, 0, "HX"), (4, 19), &["the other columns read as a header's"], &[(19, "type")]),
+        ("a data count too large", with(sheet(), 8, 27, "  13"), (8, 8), &["is 13: needs 3 data records", "is 2, must be 3 for data kind 2 and count 13", "2 records follow it before the note E7 at record 11; that is what records states, so look at the other columns first"], &[(8, "data count"), (8, "records")]),
+        ("records too large", with(sheet(), 8, 31, "   3"), (8, 8), &["is 3, must be 2", "2 records follow it before the note E7 at record 11; that is what the other columns need, so look at records first"], &[(8, "data count"), (8, "records")]),
+        ("a data count that leaves a data record over", with(sheet(), 8, 27, "   6   1"), (4, 10), &["the line E2 at record 8 states 1 data record, 2 records stand before the note E7 at record 11"], &[(10, "type"), (8, "data count"), (8, "records")]),
+        ("a data count with data that ends before it", with(sheet(), 8, 27, "   9"), (5, 10), &["the line E2 at record 8: 9 points are stated, the data has 7"], &[(10, "X 2"), (8, "data count")]),
+        ("a data kind against the count", with(sheet(), 22, 20, "2"), (8, 22), &["is 2: the data count must be 1 or more", "is 0, must be 1 or more for E5 of data kind 2"], &[(22, "data kind"), (22, "data count")]),
+        ("a count against the data kind", with(sheet(), 22, 27, "   3"), (8, 22), &["is 0: the data count must be 0", "is 3, must be 0 for E5 of data kind 0"], &[(22, "data kind"), (22, "data count")]),
+        ("a data kind that a line has not", with(sheet(), 8, 20, "4"), (8, 8), &["is 4, must be 2 or 3 or 6 for E2"], &[(8, "data kind")]),
+        ("a data kind out of its list", with(sheet(), 8, 20, "7"), (6, 8), &["is 7, must be 0 to 6"], &[(8, "data kind")]),
+        ("rows of a grid", with(sheet(), 23, 18, "   4"), (8, 23), &["4 rows of 7 columns need 3 data records", "2 records follow it before the net at record 26"], &[(23, "rows"), (23, "columns"), (23, "records"), (23, "repeat")]),
+        ("rows of a grid within its records", with(sheet(), 23, 18, "   3"), (5, 25), &["the grid at record 23: 21 heights are stated, the data has 14"], &[(25, "height 3"), (23, "rows"), (23, "columns")]),
+        ("a grid of 1,000 by 1,080", with(sheet(), 23, 18, "10001080"), (8, 23), &["90000 cannot be stated, 89999 is the most: divide the grid"], &[(23, "records"), (23, "repeat")]),
+        ("triangles of a net", with(sheet(), 26, 20, "     3"), (8, 26), &["is 3: needs 3 data records", "is 2, must be 3 for 3 triangles"], &[(26, "triangles"), (26, "records")]),
+        ("a direction of a note", with(sheet(), 12, 1, "    -90"), (6, 12), &["is -90, must be -45 to 45 where the writing direction is 0, across"], &[(12, "direction"), (12, "writing direction")]),
+        ("a writing direction of a note", with(sheet(), 12, 0, "1"), (6, 12), &["is 30, must be -135 to -45 where the writing direction is 1, down"], &[(12, "direction"), (12, "writing direction")]),
+        ("a shift out of its range", with(sheet(), 8, 24, "10"), (6, 8), &["is 10, must be -9 to 9"], &[(8, "shift")]),
+        ("a total", with(sheet(), 7, 18, "    4"), (10, 7), &["states 4, the counts behind it add up to 3", "and as many are there"], &[(7, "total")]),
+        ("a count of lines", with(sheet(), 19, 33, "    2"), (10, 19), &["states 2, the file holds 1", "and as many are there"], &[(19, "total"), (19, "line")]),
+        ("an element count", with(sheet(), 2, 31, "     9"), (10, 2), &["states 9, the file holds 8"], &[(2, "element count")]),
+        ("a record count", with(sheet(), 2, 37, "     23"), (10, 2), &["states 23, the file holds 22", "28 are there: 1 is missing"], &[(2, "record count")]),
+    ]
+}
+
+/// Files in another form.
+fn forms() -> Vec<Damage> {
+    vec![
+        ("a CR LF behind each record", ended(&sheet(), b"\r\n"), (1, 0), &["every record ends in carriage return and line feed (CR LF), 86 bytes in all"], &[]),
+        ("a LF behind each record", ended(&sheet(), b"\n"), (1, 0), &["every record ends in a line feed (LF), 85 bytes in all"], &[]),
+        ("no line end behind the last", shifted(ended(&sheet(), b"\r\n"), 29, 54, 2, b""), (1, 0), &["every record but the last ends in carriage return and line feed"], &[]),
+        ("CR LF, and a length of whole records", ended(&sheet()[..].repeat(3)[..84 * 42], b"\r\n"), (5, 2), &["every record ends in carriage return and line feed"], &[(2, "lower left X")]),
+        ("lines without the spaces at their ends", lines_without_spaces(), (1, 0), &["the file is text in lines, and spaces at their ends are lost: line 1 has 69 bytes"], &[]),
+        ("a byte order mark", [&b"\xef\xbb\xbf"[..], &sheet()].concat(), (1, 0), &["the file starts with a byte order mark (EF BB BF)"], &[]),
+        ("UTF-16 with a mark", [&b"\xff\xfe"[..], &wide()].concat(), (1, 0), &["the byte order mark of UTF-16"], &[]),
+        ("UTF-16 without a mark", wide(), (2, 1), &["the file is in UTF-16"], &[(1, "type")]),
+        ("EBCDIC", ebcdic(), (2, 1), &["the file is in EBCDIC: it starts with \"M \" in that code"], &[(1, "type")]),
+        ("EBCDIC with a byte more", [ebcdic(), vec![0x40]].concat(), (1, 0), &["the file is in EBCDIC"], &[]),
+        ("an end-of-file mark", [sheet(), vec![0x1a]].concat(), (1, 0), &["behind the last record: an end-of-file mark (the byte 1A); without that the file is accepted"], &[]),
+        ("a fill of NUL bytes", [sheet(), vec![0; 40]].concat(), (1, 0), &["behind the last record: 40 NUL bytes; without that the file is accepted"], &[]),
+        ("a fill of NUL bytes, whole records", [sheet(), vec![0; 168]].concat(), (4, 29), &["behind the last record: 168 NUL bytes; without that the file is accepted"], &[(29, "type")]),
+        ("a fill of spaces, whole records", [sheet(), vec![b' '; 168]].concat(), (4, 29), &["records 29 to 30 hold spaces alone, to the end of the file"], &[(29, "type")]),
+        ("NUL bytes for the end of the file", [&sheet()[..2000], &[0; 352]].concat(), (5, 24), &["from byte 69 of record 24 on: nothing but 352 NUL bytes; that part is lost"], &[(24, "height 10")]),
+        ("a line end behind the last record", [sheet(), b"\n".to_vec()].concat(), (1, 0), &["behind the last record: a line end; without that the file is accepted"], &[]),
+        ("text behind the last record", [sheet(), b"end".to_vec()].concat(), (1, 0), &["the 28 whole records are accepted, but 3 bytes more stand behind them: \"end\"; take them out"], &[]),
+        ("the last record is cut", sheet()[..2352 - 40].to_vec(), (1, 0), &["record 28 has only 44 of its 84 bytes: the file is cut off", "27 are there: 1 is missing"], &[]),
+        ("the file is empty", Vec::new(), (1, 0), &["copy the file again"], &[]),
+        ("the file is one word", b"M ".to_vec(), (1, 0), &["the file is shorter than one record"], &[]),
+        ("a text", b"Dear colleague, ".repeat(21), (2, 1), &["this is neither a sheet nor an index"], &[(1, "type")]),
+        ("a byte before the first record", [b"\n".to_vec(), sheet()].concat(), (1, 0), &["before the first record: 1 byte, \"\\x0a\"; take that out"], &[(1, "type")]),
+        ("a block", sheet()[7 * 84..10 * 84].to_vec(), (2, 1), &["this is a block, a line E2 with 2 data records, level 2: use it with insert"], &[(1, "type")]),
+        ("a block without its last record", sheet()[7 * 84..9 * 84].to_vec(), (2, 1), &["the file starts with a line E2; as a block it would be refused: record 1 of the block, records: states 2 data records"], &[(1, "type")]),
+        ("the layers alone", sheet()[6 * 84..].to_vec(), (2, 1), &["the file starts with a header: the records of the sheet part before it are missing"], &[(1, "type")]),
+    ]
+}
+
+/// Bytes lost or too many.
+fn shifts() -> Vec<Damage> {
+    vec![
+        ("a byte too many in data", shifted(sheet(), 15, 20, 0, b"x"), (1, 0), &["the bytes seem to shift at record 16 or shortly before it: from record 16 on the file reads in order 1 byte later, so 1 byte is too many there"], &[(16, "type")]),
+        ("a byte lost in data", shifted(sheet(), 9, 20, 1, b""), (1, 0), &["the bytes seem to shift at record 9 or shortly before it: from record 11 on the file reads in order 1 byte earlier, so 1 byte is lost there"], &[(9, "X 2")]),
+        ("two bytes lost in a header", shifted(sheet(), 19, 20, 2, b""), (1, 0), &["the bytes seem to shift at record 19", "2 bytes earlier, so 2 bytes are lost there"], &[(19, "total")]),
+        ("a line end in the middle", shifted(sheet(), 16, 0, 0, b"\n"), (1, 0), &["from record 16 on the file reads in order 1 byte later", "byte 1 of record 16 is a line end"], &[(16, "type")]),
+        ("a byte lost in free text", shifted(sheet(), 17, 40, 1, b""), (1, 0), &["the bytes seem to shift at record 19 or shortly before it", "1 byte is lost there"], &[(19, "type")]),
+        ("a byte lost in record b", shifted(sheet(), 2, 20, 1, b""), (1, 0), &["the bytes seem to shift at record 2 or shortly before it: from record 7 on"], &[(2, "upper right X")]),
+        ("a byte lost where no item follows", shifted(sheet(), 27, 20, 1, b""), (1, 0), &["the bytes seem to shift at record 27 or shortly before it: from record 28 on"], &[(27, "Z 1")]),
+        ("a byte too many in the last record", shifted(sheet(), 28, 20, 0, b"7"), (1, 0), &["28 records of 84 bytes and 1 byte more; record 28 is the first that breaks (an integer column is malformed)"], &[(28, "X 2")]),
+        ("a byte lost, and one too many later", shifted(shifted(sheet(), 9, 20, 1, b""), 23, 2, 0, b"0"), (5, 9), &["the bytes seem to shift at record 9 or shortly before it: from record 11 on the file reads in order 1 byte earlier"], &[(9, "X 2")]),
+    ]
+}
+
+/// The index.
+fn indexes() -> Vec<Damage> {
+    vec![
+        (
+            "a b record is lost",
+            without(index(), 3, 3),
+            (3, 1),
+            &["the index states 5 records, 4 are there: 1 is missing", "where index c is due as record 5"],
+            &[(1, "b records"), (1, "c records")],
+        ),
+        (
+            "a c record is lost",
+            without(index(), 5, 5),
+            (3, 1),
+            &["the index states 5 records, 4 are there: 1 is missing"],
+            &[(1, "b records"), (1, "c records")],
+        ),
+        (
+            "a b record twice",
+            twice(index(), 3, 3),
+            (5, 4),
+            &["record 4 does not read as index c", "1 is too many"],
+            &[(4, "class used")],
+        ),
+        (
+            "a c record twice",
+            twice(index(), 4, 4),
+            (10, 1),
+            &["the index states 5 records, 6 are there: 1 is too many", "look at record 6"],
+            &[(1, "b records"), (1, "c records")],
+        ),
+        (
+            "a fill of NUL bytes behind the index",
+            [index(), vec![0; 84]].concat(),
+            (10, 1),
+            &["behind the last record: 84 NUL bytes; without that the file is accepted"],
+            &[(1, "c records")],
+        ),
+        (
+            "a fill of spaces behind the index",
+            [index(), vec![b' '; 84]].concat(),
+            (10, 1),
+            &["record 6 holds spaces alone"],
+            &[(1, "c records")],
+        ),
+        (
+            "sheets against b records",
+            with(index(), 1, 34, " 35"),
+            (6, 1),
+            &["is 2, must be 4 for 35 sheets"],
+            &[(1, "sheets"), (1, "b records")],
+        ),
+        (
+            "991 sheets",
+            with(index(), 1, 34, "99199"),
+            (6, 1),
+            &["991 sheets need 100: 100 does not fit two digits, an index lists 990 sheets at most"],
+            &[(1, "sheets"), (1, "b records")],
+        ),
+        ("a system out of its range", with(index(), 1, 2, "20"), (6, 1), &["is 20, must be 1 to 19"], &[(1, "system")]),
+        (
+            "a dimension out of its list",
+            with(index(), 4, 18, "1"),
+            (6, 4),
+            &["is 1, must be one of 0, 2, 3"],
+            &[(4, "dimension")],
+        ),
+        ("a flag that is no digit", with(index(), 4, 9, "y"), (5, 4), &["malformed: \"y\" is no digit"], &[(4, "line used")]),
+        (
+            "the type of the index",
+            with(index(), 1, 0, "J "),
+            (2, 1),
+            &["the other columns of record 1 read as an index's"],
+            &[(1, "type")],
+        ),
+        (
+            "a CR LF behind each record of the index",
+            ended(&index(), b"\r\n"),
+            (1, 0),
+            &["every record ends in carriage return and line feed"],
+            &[],
+        ),
+        (
+            "a byte lost in the index",
+            shifted(index(), 4, 40, 1, b""),
+            (1, 0),
+            &["the bytes seem to shift at record 5 or shortly before it", "1 byte is lost there"],
+            &[],
+        ),
+    ]
+}
+
+/// The sheet in lines without the spaces at their ends.
+fn lines_without_spaces() -> Vec<u8> {
+    let text = String::from_utf8(sheet()).expect("plain text");
+    let records = (0..text.len() / 84).map(|n| text[n * 84..(n + 1) * 84].trim_end().to_string() + "\n");
+    records.collect::<String>().into_bytes()
+}
+
+/// The sheet in UTF-16, the low byte first.
+fn wide() -> Vec<u8> {
+    sheet().iter().flat_map(|byte| [*byte, 0]).collect()
+}
+
+/// The sheet in EBCDIC, as far as its letters matter here: capitals, digits, spaces and minus.
+fn ebcdic() -> Vec<u8> {
+    let code = |byte: u8| match byte {
+        b' ' => 0x40,
+        b'-' => 0x60,
+        b'0'..=b'9' => byte - b'0' + 0xf0,
+        b'A'..=b'I' => byte - b'A' + 0xc1,
+        b'J'..=b'R' => byte - b'J' + 0xd1,
+        b'S'..=b'Z' => byte - b'S' + 0xe2,
+        other => other,
+    };
+    sheet().into_iter().map(code).collect()
+}
+
+/// Every damage is refused as the table says; its explanation has the words and marks the columns, and names no record 0.
+#[test]
+fn every_damage_is_explained() {
+    let all = [lost(), repeated(), parts(), columns(), forms(), shifts(), indexes()].concat();
+    assert!(all.len() >= 110, "{} damages", all.len());
+    for (name, file, (number, record), words, marked) in all {
+        let refusal = FileKind::of(&file).judge(&file, file.len()).expect_err(name);
+        assert_eq!((refusal.number(), refusal.record.unwrap_or(0)), (number, record), "{name}");
+        let explained = explain(&file, refusal);
+        let said: Vec<&str> =
+            explained.faults.iter().map(|fault| &fault.words).chain(&explained.notes).map(String::as_str).collect();
+        for part in words {
+            assert!(said.iter().any(|said| said.contains(part)), "{name}: {part}: {explained:#?}");
+        }
+        let is = |(record, column): (usize, &str)| explained.faults.iter().any(|f| (f.record, f.column) == (record, column));
+        assert!(marked.iter().all(|at| is(*at)), "{name}: {explained:#?}");
+        assert!(number == 1 || marked.iter().any(|(at, _)| *at == record), "{name}: a column of the refused record is asked for");
+        assert!(!words.is_empty() && said.iter().all(|said| !said.contains("record 0")), "{name}: {explained:#?}");
+    }
+}
+
+#[test]
+fn the_undamaged_files_are_accepted() {
+    for file in [sheet(), index()] {
+        FileKind::of(&file).judge(&file, file.len()).expect("accepted");
+    }
+}
