@@ -36,27 +36,27 @@ static void check(const char *what, int right)
 static void columns(void)
 {
     uint8_t column[4] = {'*', '*', '*', '*'};
-    struct zv_number read = zv_read((const uint8_t *)"  12", 4);
-    struct zv_length written = zv_write(column, 4, -12);
-    printf("zv_read \"  12\": %lld\n", (long long)read.value);
-    check("zv_read", read.refusal == ZV_ACCEPTED && read.at == 0 && read.value == 12);
-    check("zv_read malformed", zv_read((const uint8_t *)"12  ", 4).refusal == ZV_MALFORMED);
-    printf("zv_write -12: \"%.4s\"\n", (const char *)column);
-    check("zv_write", written.refusal == ZV_ACCEPTED && written.length == 4 && memcmp(column, " -12", 4) == 0);
-    written = zv_write(column, 4, 12345);
-    check("zv_write too wide", written.refusal == ZV_NUMBER && memcmp(column, " -12", 4) == 0);
+    struct zv_number read = zv_read_column((const uint8_t *)"  12", 4);
+    struct zv_length written = zv_write_column(column, 4, -12);
+    printf("zv_read_column \"  12\": %lld\n", (long long)read.value);
+    check("zv_read_column", read.refusal == ZV_ACCEPTED && read.at == 0 && read.value == 12);
+    check("zv_read_column malformed", zv_read_column((const uint8_t *)"12  ", 4).refusal == ZV_MALFORMED);
+    printf("zv_write_column -12: \"%.4s\"\n", (const char *)column);
+    check("zv_write_column", written.refusal == ZV_ACCEPTED && written.length == 4 && memcmp(column, " -12", 4) == 0);
+    written = zv_write_column(column, 4, 12345);
+    check("zv_write_column too wide", written.refusal == ZV_NUMBER && memcmp(column, " -12", 4) == 0);
 }
 
 static void corners(void)
 {
-    struct zv_number joined = zv_join(10, -1234, -56);
-    struct zv_corner split = zv_split(10, -50);
-    printf("zv_join 10 -1234 -56: %lld mm\n", (long long)joined.value);
-    check("zv_join", joined.refusal == ZV_ACCEPTED && joined.value == -1234560);
-    check("zv_join opposite signs", zv_join(1, 12, -3).refusal == ZV_FRACTION);
-    printf("zv_split 10 -50: %lld and %lld\n", (long long)split.whole, (long long)split.fraction);
-    check("zv_split", split.refusal == ZV_ACCEPTED && split.whole == 0 && split.fraction == -5);
-    check("zv_split no pair", zv_split(10, -55).refusal == ZV_NUMBER);
+    struct zv_number joined = zv_join_corner(10, -1234, -56);
+    struct zv_corner split = zv_split_corner(10, -50);
+    printf("zv_join_corner 10 -1234 -56: %lld mm\n", (long long)joined.value);
+    check("zv_join_corner", joined.refusal == ZV_ACCEPTED && joined.value == -1234560);
+    check("zv_join_corner opposite signs", zv_join_corner(1, 12, -3).refusal == ZV_FRACTION);
+    printf("zv_split_corner 10 -50: %lld and %lld\n", (long long)split.whole, (long long)split.fraction);
+    check("zv_split_corner", split.refusal == ZV_ACCEPTED && split.whole == 0 && split.fraction == -5);
+    check("zv_split_corner no pair", zv_split_corner(10, -55).refusal == ZV_NUMBER);
 }
 
 static void judging(uint8_t *buffer)

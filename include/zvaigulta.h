@@ -125,22 +125,22 @@ struct zv_way {
  * Reads a number column of 1 to 18 bytes: leading spaces, at most one minus, one digit or more to the last byte. Refusals: 16 for another
  * width, 5 for a malformed column.
  */
-struct zv_number zv_read(const uint8_t *column, size_t width);
+struct zv_number zv_read_column(const uint8_t *column, size_t width);
 
 /*
  * Writes a number over a whole column of 1 to 18 bytes: shortest digits, spaces in front. Answers the width. Refusal 16 where the width is
  * not allowed or the number does not fit.
  */
-struct zv_length zv_write(uint8_t *column, size_t width, int64_t value);
+struct zv_length zv_write_column(uint8_t *column, size_t width, int64_t value);
 
 /*
  * Joins whole metres and a fraction to millimetres. The unit is 1 (fraction in millimetres), 10 or 999 (in centimetres). Refusals: 16 for
  * another unit, or a whole or fraction that does not fit its column of 7 or 4; then 9.
  */
-struct zv_number zv_join(uint64_t unit, int64_t whole, int64_t fraction);
+struct zv_number zv_join_corner(uint64_t unit, int64_t whole, int64_t fraction);
 
 /* Splits millimetres into the one corner that joins to them. Refusal 16 where there is none. */
-struct zv_corner zv_split(uint64_t unit, int64_t millimetres);
+struct zv_corner zv_split_corner(uint64_t unit, int64_t millimetres);
 
 /* Judges the first `used` bytes of a buffer as a sheet. Refusals 1 to 10. */
 struct zv_counts zv_judge_sheet(const uint8_t *buffer, size_t length, size_t used);

@@ -114,7 +114,7 @@ fn length(answer: Written) -> ZvLength
 
 // A column read alone.
 #[no_mangle]
-pub extern "C" fn zv_read(column: &[u8]) -> ZvNumber
+pub extern "C" fn zv_read_column(column: &[u8]) -> ZvNumber
     ensures { λ r. ⌜ r ≡ numberOf (readAlone (now (column .entry))) ⌝ }
 {
     number(columns::read(column))
@@ -122,7 +122,7 @@ pub extern "C" fn zv_read(column: &[u8]) -> ZvNumber
 
 // A column written alone: the answer's length is the column's.
 #[no_mangle]
-pub extern "C" fn zv_write(column: &mut [u8], value: i64) -> ZvLength
+pub extern "C" fn zv_write_column(column: &mut [u8], value: i64) -> ZvLength
     ensures { λ r. ⌜ record { result = r; bytes = now (column .exit) } ≡ wroteOf (writeAlone (now (column .entry)) value) ⌝ }
 {
     length(columns::write(column, value))
@@ -130,7 +130,7 @@ pub extern "C" fn zv_write(column: &mut [u8], value: i64) -> ZvLength
 
 // A corner joined to millimetres.
 #[no_mangle]
-pub extern "C" fn zv_join(unit: u64, whole: i64, fraction: i64) -> ZvNumber
+pub extern "C" fn zv_join_corner(unit: u64, whole: i64, fraction: i64) -> ZvNumber
     ensures { λ r. ⌜ r ≡ numberOf (join unit whole fraction) ⌝ }
 {
     number(corners::join(unit, whole, fraction))
@@ -138,7 +138,7 @@ pub extern "C" fn zv_join(unit: u64, whole: i64, fraction: i64) -> ZvNumber
 
 // Millimetres split into a corner.
 #[no_mangle]
-pub extern "C" fn zv_split(unit: u64, millimetres: i64) -> ZvCorner
+pub extern "C" fn zv_split_corner(unit: u64, millimetres: i64) -> ZvCorner
     ensures { λ r. ⌜ r ≡ cornerOf (split unit millimetres) ⌝ }
 {
     corner(corners::split(unit, millimetres))

@@ -42,10 +42,10 @@ pub struct Way {
 }
 
 extern "C" {
-    fn zv_read(column: *const u8, width: usize) -> Number;
-    fn zv_write(column: *mut u8, width: usize, value: i64) -> Length;
-    fn zv_join(unit: u64, whole: i64, fraction: i64) -> Number;
-    fn zv_split(unit: u64, millimetres: i64) -> Corner;
+    fn zv_read_column(column: *const u8, width: usize) -> Number;
+    fn zv_write_column(column: *mut u8, width: usize, value: i64) -> Length;
+    fn zv_join_corner(unit: u64, whole: i64, fraction: i64) -> Number;
+    fn zv_split_corner(unit: u64, millimetres: i64) -> Corner;
     fn zv_judge_sheet(buffer: *const u8, length: usize, used: usize) -> Counts;
     fn zv_judge_index(buffer: *const u8, length: usize, used: usize) -> Counts;
     fn zv_normal_sheet(buffer: *const u8, length: usize, used: usize, second: *mut u8, second_length: usize) -> Length;
@@ -58,22 +58,22 @@ extern "C" {
 
 pub fn read(column: &[u8]) -> Number {
     // SAFETY: the slice lends `width` bytes to read for the call; the library keeps no pointer and has no `requires`.
-    unsafe { zv_read(column.as_ptr(), column.len()) }
+    unsafe { zv_read_column(column.as_ptr(), column.len()) }
 }
 
 pub fn write(column: &mut [u8], value: i64) -> Length {
     // SAFETY: the slice lends `width` bytes to read and write for the call, and nobody else has them; no pointer is kept.
-    unsafe { zv_write(column.as_mut_ptr(), column.len(), value) }
+    unsafe { zv_write_column(column.as_mut_ptr(), column.len(), value) }
 }
 
 pub fn join(unit: u64, whole: i64, fraction: i64) -> Number {
     // SAFETY: numbers alone, and the call answers every one of them.
-    unsafe { zv_join(unit, whole, fraction) }
+    unsafe { zv_join_corner(unit, whole, fraction) }
 }
 
 pub fn split(unit: u64, millimetres: i64) -> Corner {
     // SAFETY: numbers alone, and the call answers every one of them.
-    unsafe { zv_split(unit, millimetres) }
+    unsafe { zv_split_corner(unit, millimetres) }
 }
 
 pub fn judge_sheet(buffer: &[u8], used: usize) -> Counts {

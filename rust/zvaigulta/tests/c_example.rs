@@ -33,10 +33,10 @@ fn the_example_takes_a_sheet_through_every_call() {
     assert_eq!(status, Some(0), "{printed}");
     assert!(printed.ends_with("all as expected\n"), "{printed}");
     for call in [
-        "read",
-        "write",
-        "join",
-        "split",
+        "read_column",
+        "write_column",
+        "join_corner",
+        "split_corner",
         "judge_sheet",
         "judge_index",
         "normal_sheet",

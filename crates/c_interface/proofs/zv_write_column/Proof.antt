@@ -1,8 +1,8 @@
--- `c_interface::zv_write` meets its contract. Assumes nothing.
+-- `c_interface::zv_write_column` meets its contract. Assumes nothing.
 use Rattle.c_interface.proofs.Laws.{column-written}
 use borrow.Author.Needs.{needs}
-use Rattle.c_interface.proofs.zv_write.Statement.{statement}
-use Rattle.c_interface.proofs.zv_write.Tie as tie
+use Rattle.c_interface.proofs.zv_write_column.Statement.{statement}
+use Rattle.c_interface.proofs.zv_write_column.Tie as tie
 
 write-requires : tie.Need-write-requires
 write-requires c κs = search needs
@@ -16,5 +16,5 @@ same-length c = search needs
 returns : tie.Need-returns
 returns c = search (column-written, needs)
 
-pub zv-write-spec : {M : Type 1} → statement M
-zv-write-spec = tie.close (tie.spec write-requires length-requires same-length returns)
+pub zv-write-column-spec : {M : Type 1} → statement M
+zv-write-column-spec = tie.close (tie.spec write-requires length-requires same-length returns)
