@@ -3,7 +3,7 @@
 use crate::arguments::{record_number, Arguments};
 use crate::failure::{Done, Failure, FINE};
 use crate::replace::Job;
-use crate::{explain, files};
+use crate::{explain, files, system};
 use std::ffi::OsStr;
 use std::io::Write;
 use zvaigulta::{Counts, Sheet, RECORD_BYTES};
@@ -37,7 +37,7 @@ pub fn insert(arguments: &Arguments, out: &mut impl Write) -> Done {
     let job = Job::open(arguments, path, to)?;
     let used = job.bytes.len();
     let place = at.unwrap_or(used / RECORD_BYTES + 1);
-    let mut copy = Vec::with_capacity(used + block.len());
+    let mut copy = system::buffer(used + block.len());
     copy.extend_from_slice(&job.bytes);
     let mut sheet = Sheet::from(copy);
     let counts = sheet.insert(place, &block).map_err(|r| explain::insertion(path, &job.bytes, place, &block, r))?;
@@ -50,7 +50,9 @@ pub fn remove(arguments: &Arguments, out: &mut impl Write) -> Done {
     let [path, at] = arguments.exactly("remove FILE PLACE [-o OTHER [--force]] [--no-lock]")?;
     let (to, place) = (target(arguments, path)?, record_number(at, "PLACE")?);
     let job = Job::open(arguments, path, to)?;
-    let mut sheet = Sheet::from(job.bytes.clone());
+    let mut copy = system::buffer(job.bytes.len());
+    copy.extend_from_slice(&job.bytes);
+    let mut sheet = Sheet::from(copy);
     let counts = sheet.remove(place).map_err(|r| explain::removal(path, &job.bytes, place, r))?;
     let removed = job.bytes.len() - sheet.as_bytes().len();
     let done = format!("removed {} records at record {place}", removed / RECORD_BYTES);

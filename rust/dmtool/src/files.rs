@@ -1,6 +1,7 @@
 //! Files as they are named, read and judged.
 
 use crate::failure::Failure;
+use crate::system;
 use std::ffi::OsStr;
 use std::fs::{self, File};
 use std::io::{self, ErrorKind, Read};
@@ -8,12 +9,21 @@ use zvaigulta::text::shown;
 use zvaigulta::{Counts, FileKind, Refusal, MOST_RECORDS, RECORD_BYTES};
 
 /// One record more than a file may have. A longer file answers as this much of it does: it is refused by its length.
-pub const LONGEST: u64 = ((MOST_RECORDS + 1) * RECORD_BYTES) as u64;
+const LONGEST: u64 = ((MOST_RECORDS + 1) * RECORD_BYTES) as u64;
 
 /// Reads as much as a file may have into a buffer.
-pub fn take_all(from: impl Read, into: &mut Vec<u8>) -> io::Result<usize> {
+fn take_all(from: impl Read, into: &mut Vec<u8>) -> io::Result<usize> {
     into.clear();
     from.take(LONGEST).read_to_end(into)
+}
+
+/// The same from a file, with room for all of it from the start.
+pub fn take_file(file: &File, into: &mut Vec<u8>) -> io::Result<usize> {
+    let room = file.metadata()?.len().min(LONGEST) as usize + 1;
+    if into.capacity() < room {
+        *into = system::buffer(room);
+    }
+    take_all(file, into)
 }
 
 /// Where a link leads, if a path is a link that leads to no file.
@@ -53,7 +63,7 @@ pub fn unwritten(path: &OsStr, error: &io::Error) -> Failure {
 
 /// Reads a file, or standard input for `-`, into a buffer.
 pub fn read_into(path: &OsStr, into: &mut Vec<u8>) -> Result<(), Failure> {
-    let done = if path == "-" { take_all(io::stdin().lock(), into) } else { File::open(path).and_then(|f| take_all(f, into)) };
+    let done = if path == "-" { take_all(io::stdin().lock(), into) } else { File::open(path).and_then(|f| take_file(&f, into)) };
     done.map(|_| ()).map_err(|e| unread(path, &e))
 }
 

@@ -75,8 +75,8 @@ impl Held {
 
     /// Its bytes, as many as a file may have.
     pub fn read(&self) -> Result<Vec<u8>, Failure> {
-        let mut bytes = Vec::with_capacity(usize::try_from(self.seen.size().min(files::LONGEST) + 1).unwrap_or(0));
-        files::take_all(&self.file, &mut bytes).map_err(|e| files::unread(&self.path, &e))?;
+        let mut bytes = Vec::new();
+        files::take_file(&self.file, &mut bytes).map_err(|e| files::unread(&self.path, &e))?;
         Ok(bytes)
     }
 

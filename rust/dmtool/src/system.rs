@@ -24,7 +24,11 @@ extern "C" {
     fn fgetxattr(file: c_int, name: *const c_char, value: *mut c_void, size: usize) -> isize;
     fn fsetxattr(file: c_int, name: *const c_char, value: *const c_void, size: usize, flags: c_int) -> c_int;
     fn fremovexattr(file: c_int, name: *const c_char) -> c_int;
+    fn madvise(start: *mut c_void, length: usize, advice: c_int) -> c_int;
 }
+
+const MADV_HUGEPAGE: c_int = 14;
+const PAGE: usize = 4096;
 
 /// The most bytes of an attribute's value, and of all names of a file's attributes together.
 const MOST_BYTES: usize = 1 << 16;
@@ -93,4 +97,17 @@ pub fn set_attribute(file: &File, name: &CStr, value: &[u8]) -> io::Result<()> {
 pub fn remove_attribute(file: &File, name: &CStr) -> io::Result<()> {
     // SAFETY: the name has an end mark and lives until the call has returned.
     done(unsafe { fremovexattr(file.as_raw_fd(), name.as_ptr()) })
+}
+
+/// An empty buffer with room for so many bytes, in large pages where the system has them: to get the memory for a large sheet
+/// page by page takes longer than to copy it there.
+pub fn buffer(room: usize) -> Vec<u8> {
+    let mut buffer: Vec<u8> = Vec::with_capacity(room);
+    let spare = buffer.spare_capacity_mut();
+    let skipped = spare.as_ptr().align_offset(PAGE).min(spare.len());
+    let length = (spare.len() - skipped) / PAGE * PAGE;
+    // SAFETY: the pages lie within the buffer's own room, and the advice does not change what stands in them. Where it is
+    // refused, the pages are small.
+    unsafe { madvise(spare.as_mut_ptr().add(skipped).cast(), length, MADV_HUGEPAGE) };
+    buffer
 }
