@@ -50,11 +50,13 @@ fn owner(f: &Folder, name: &str) -> (u32, u32, u32) {
 
 /// A plain user's edit of `sheet.dm` is refused in these words, and changes nothing.
 fn refused(f: &Folder, words: &[&str], said: &str) {
-    let before = (f.get("sheet.dm"), owner(f, "sheet.dm"), f.names());
+    // A sheet that the test's own user may not read is looked at by the test once it may.
+    let seen = || (fs::read(f.0.join("sheet.dm")).ok(), owner(f, "sheet.dm"), f.names());
+    let before = seen();
     let ran = run_plain(f, words);
     assert_eq!((ran.status, ran.text()), (Some(2), String::new()), "{words:?}: {}", ran.err);
     assert!(ran.err.starts_with("dmtool: ") && ran.err.contains(said), "{words:?}: {}", ran.err);
-    assert!((f.get("sheet.dm"), owner(f, "sheet.dm"), f.names()) == before, "{words:?}");
+    assert!(seen() == before, "{words:?}");
 }
 
 const EDITS: [&[&str]; 3] =
@@ -119,6 +121,7 @@ fn a_read_only_file_and_a_closed_folder() {
         mode(&f, "sheet.dm", 0o200);
         refused(&f, words, "it may not be both read and written");
         mode(&f, "sheet.dm", 0o644);
+        assert!(f.get("sheet.dm") == good());
         mode(&f, "", 0o555);
         refused(&f, words, "no new file may be made in its folder; ask for the right to");
         refused(
