@@ -23,19 +23,19 @@ pub fn run(arguments: &Arguments, out: &mut impl Write) -> Done {
             Ok(FINE)
         }
         Err(refusal) => {
-            writeln!(out, "{name}: {}", line(&bytes, refusal)).map_err(output_failed)?;
-            print(&bytes, refusal, out).map_err(output_failed)?;
+            let line = line(&bytes, refusal);
+            writeln!(out, "{name}: {line}").map_err(output_failed)?;
+            print(&bytes, refusal, &line, out).map_err(output_failed)?;
             Ok(REFUSED)
         }
     }
 }
 
-/// What there is to say first, then the refused record whole, then of each other record with a fault its marked columns.
-fn print(bytes: &[u8], refusal: Refusal, out: &mut impl Write) -> io::Result<()> {
+/// What there is to say first that `line` has not said, then the refused record whole, then of each other record with a fault its marked
+/// columns.
+fn print(bytes: &[u8], refusal: Refusal, line: &str, out: &mut impl Write) -> io::Result<()> {
     let Explanation { faults, notes, .. } = explain(bytes, refusal);
-    for note in notes {
-        writeln!(out, "{note}")?;
-    }
+    notes.iter().filter(|note| !line.contains(note.as_str())).try_for_each(|note| writeln!(out, "{note}"))?;
     let mut others = Vec::new();
     for record in Outline::of(bytes) {
         let whole = Some(record.number) == refusal.record;

@@ -8,7 +8,7 @@
 //! let explained = explain(sheet, judge_sheet(sheet, sheet.len()).unwrap_err());
 //! let fault = &explained.faults[0];
 //! assert_eq!((fault.record, fault.column), (7, "records"));
-//! assert_eq!(fault.words, "states 2 data records, the file ends after 1");
+//! assert_eq!(fault.words, "states 2 data records, and has 1");
 //! assert_eq!(
 //!     explained.notes[0],
 //!     "the sheet states 9 records (5 of the sheet part and 4 behind it), 8 are there: 1 is missing"

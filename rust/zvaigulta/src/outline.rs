@@ -58,9 +58,9 @@ impl Record<'_> {
         }
     }
 
-    /// In words: `layer header, level 1`.
-    pub fn title(&self) -> String {
-        let name = match (self.what, self.layout) {
+    /// Its name: `layer header`.
+    pub fn name(&self) -> String {
+        match (self.what, self.layout) {
             (Entry(Sort::Header), _) if self.level == Some(1) => "layer header".to_string(),
             (Entry(Sort::Header), _) if self.level.is_some() => "group header".to_string(),
             (Entry(sort), _) => sort.name(),
@@ -69,10 +69,14 @@ impl Record<'_> {
             (_, Some(layout)) => layout.name.to_string(),
             _ if self.bytes.len() < RECORD_BYTES => format!("{} bytes, less than a record", self.bytes.len()),
             _ => "unknown".to_string(),
-        };
+        }
+    }
+
+    /// Its name with its level: `layer header, level 1`.
+    pub fn title(&self) -> String {
         match self.level {
-            Some(level) => format!("{name}, level {level}"),
-            None => name,
+            Some(level) => format!("{}, level {level}", self.name()),
+            None => self.name(),
         }
     }
 }

@@ -19,7 +19,7 @@ pub fn missing(bytes: &[u8], named: &Record, told: &mut Explanation) {
 fn missing_data(bytes: &[u8], named: &Record, sort: Sort, told: &mut Explanation) {
     let there = (bytes.len() / RECORD_BYTES).saturating_sub(named.number);
     let stated = number_of(Stated::of(sort, named.bytes).records, "data record");
-    told.faults.push(fault(named.number, "records", format!("states {stated}, the file ends after {there}")));
+    told.faults.push(fault(named.number, "records", format!("states {stated}, and has {there}")));
     match near::hidden(bytes, named) {
         Some(hidden) => lost_data(named, hidden, told),
         None => told.notes.push(format!(

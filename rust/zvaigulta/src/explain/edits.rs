@@ -62,7 +62,7 @@ fn sheet_refused(sheet: &[u8]) -> String {
 fn outside(sheet: &[u8], number: usize, what: &str) -> Option<String> {
     let (part, records) = (part(sheet).len(), sheet.len() / RECORD_BYTES);
     match number {
-        0 => Some(format!("records number from 1: there is no {what} 0")),
+        0 => Some("records number from 1, and 0 is none".to_string()),
         n if n <= part => Some(format!("record {n} is in the sheet part, which ends at record {part}")),
         n if n > records => Some(format!("the sheet has {records} records: there is no {what} {n}")),
         _ => None,
@@ -75,7 +75,10 @@ fn insertion_place(sheet: &[u8], body: &Body, place: usize) -> String {
     let end = format!("the last place, behind the last record, is {}", records + 1);
     match (outside(sheet, place, "place"), body.owner(place)) {
         (Some(words), _) if place > records => format!("{words}; {end}"),
-        (Some(words), _) => format!("{words}; the places for items begin behind its first layer header, and {end}"),
+        (Some(words), _) => match body.entries.first() {
+            Some(layer) => format!("{words}; the first place for an item is {}, behind the first layer header", layer.number + 1),
+            None => format!("{words}; the sheet has no layer yet, so no place for an item"),
+        },
         (None, Some(item)) => {
             let behind = body.entries.get(body.before(place)).map_or(records + 1, |next| next.number);
             format!("{}: give {} for a place before it, {behind} for one behind it", data_of(place, item), item.number)
@@ -86,8 +89,7 @@ fn insertion_place(sheet: &[u8], body: &Body, place: usize) -> String {
 
 /// A record as data of its item.
 fn data_of(record: usize, item: &Record) -> String {
-    let name = item.sort().map_or_else(String::new, Sort::name);
-    format!("record {record} is data of the {name} at record {}", item.number)
+    format!("record {record} is data of the {} at record {}", item.name(), item.number)
 }
 
 /// 11 of a removal: the place is no start of an item.
@@ -130,7 +132,7 @@ fn limits(sheet: &[u8], body: &Body, place: usize, block: &[u8], item: &Item) ->
     let (records, more) = (sheet.len() / RECORD_BYTES, block.len() / RECORD_BYTES);
     let header = body.header_for(place, item.level).and_then(|place| body.entries.get(place));
     let states = |column: &str| header.map_or(0, |header| natural(&HEADER, column, header.bytes));
-    let title = header.map_or_else(String::new, |header| format!("{} at record {}", header.title(), header.number));
+    let title = header.map_or_else(String::new, |header| format!("{} at record {}", header.name(), header.number));
     let mut passed = Vec::new();
     if states("total") >= MOST_TOTAL {
         passed.push(format!("the {title} has a total of {MOST_TOTAL} already, the most that it can state"));

@@ -1,0 +1,116 @@
+//! What `explain`, `judge` and refused edits print.
+
+mod support;
+
+use reference::RECORD;
+use support::{block, good, Folder};
+
+const INDEX: &[u8] = b"I  9City survey office              0 0   0002008Regulation                    10   ";
+
+/// The example with its only layer header lost, and so on.
+fn without(record: usize) -> Vec<u8> {
+    let mut sheet = good();
+    sheet.drain((record - 1) * RECORD..record * RECORD);
+    sheet
+}
+
+/// What there is to say first, then the refused record whole, then the marked columns of the other records.
+#[test]
+fn explain_prints_notes_the_refused_record_and_the_others_in_short() {
+    let f = Folder::new("explain_order");
+    let mut sheet = good();
+    sheet.extend(&good()[6 * RECORD..7 * RECORD]);
+    sheet.drain(8 * RECORD..9 * RECORD);
+    let data = good()[7 * RECORD..].to_vec();
+    sheet.extend(data);
+    f.put("lost.dm", &sheet);
+    let ran = f.run(&["explain", "lost.dm"]);
+    let text = ran.text();
+    let lines: Vec<&str> = text.lines().collect();
+    assert_eq!((ran.status, ran.err.as_str()), (Some(1), ""));
+    assert_eq!(lines[0], "lost.dm: refused 5 at record 9: an integer column is malformed");
+    assert_eq!(
+        lines[1],
+        "record 9 starts E2, but record 7 states 2 data records, and has 1 before it: a data record of the line E2 may be lost; \
+         find it in the original before you change the count"
+    );
+    assert_eq!(lines[2], "the sheet states 9 records (5 of the sheet part and 4 behind it), 11 are there: 2 are too many");
+    assert_eq!(lines[3], "record 9: 2D data of record 7, level 2");
+    assert!(lines[4].starts_with("> bytes 1-7    X 1  \"E22101 \"  malformed: "), "{text}");
+    assert_eq!(lines[4 + 12], "record 7: line E2, level 2");
+    assert_eq!(lines[4 + 13..], ["> bytes 32-35  records  \"   2\"  states 2 data records, 1 before record 9"]);
+}
+
+/// Of the four reasons of 1 the one that holds, on the line that `judge`, `explain` and `show` print.
+#[test]
+fn one_reason_for_a_length() {
+    let f = Folder::new("one_reason");
+    let lines: Vec<u8> = good().chunks(RECORD).flat_map(|record| [record, b"\r\n"].concat()).collect();
+    f.put("lines.dm", &lines);
+    let line = "lines.dm: refused 1: the length, 774 bytes, is not a multiple of 84";
+    assert_eq!(f.run(&["judge", "lines.dm"]).text(), format!("{line}\n"));
+    assert!(f.run(&["show", "lines.dm", "1", "1"]).text().starts_with(&format!("{line}\n")));
+    let note = "every record ends in carriage return and line feed (CR LF), 86 bytes in all; \
+                a record is 84 bytes without a line end: take the line ends out";
+    assert_eq!(f.run(&["explain", "lines.dm"]).seen(), (Some(1), format!("{line}\n{note}\n"), true));
+    assert!(f.run(&["insert", "lines.dm", "7", "lines.dm"]).err.starts_with(&format!("dmtool: {line}\n")));
+}
+
+#[test]
+fn a_block_is_recognised() {
+    let f = Folder::new("block");
+    f.put("block.dm", &block());
+    let refused = "block.dm: refused 2 at record 1: record 1 does not start with the type that was asked for";
+    let words = "this is a block, a line E2 with 2 data records, level 2: use it with insert";
+    assert_eq!(f.run(&["judge", "block.dm"]).text(), format!("{refused}; {words}\n"));
+    let text = f.run(&["explain", "block.dm"]).text();
+    assert!(text.starts_with(&format!("{refused}; {words}\n")), "{text}");
+    assert_eq!(text.matches(words).count(), 1, "{text}");
+    assert!(text.contains("\nrecord 1: line E2, level 2\n> bytes 1-2    type "), "{text}");
+    assert!(f.run(&["show", "block.dm", "2"]).text().contains("\n2: 2D data of record 1, level 2: X 1=0, "));
+}
+
+/// Refused edits and ways up: the refusal, and what to do, on standard error; no file is changed.
+#[test]
+fn a_refused_edit_says_what_to_do() {
+    let f = Folder::new("refused_edits");
+    f.put("good.dm", &good()).put("bad.dm", &without(6)).put("index.dm", INDEX).put("block.dm", &block());
+    let cases: [(&[&str], &str, &str); 10] = [
+        (&["insert", "good.dm", "8", "block.dm"], "refused 11: ", "record 8 is data of the line E2 at record 7: give 7 "),
+        (
+            &["insert", "good.dm", "11", "block.dm"],
+            "refused 11: ",
+            "the sheet has 9 records: there is no place 11; the last place",
+        ),
+        (&["insert", "good.dm", "7", "good.dm"], "refused 12: ", "it is a sheet, and a block is one element"),
+        (&["insert", "good.dm", "6", "block.dm"], "refused 13: ", "the block has level 2, before record 6 no item is possible"),
+        (
+            &["insert", "index.dm", "2", "block.dm"],
+            "refused 2 at record 1: ",
+            "this is an index: items stand in sheets, it has none",
+        ),
+        (&["insert", "bad.dm", "7", "block.dm"], "refused 7 at record 6: ", "the sheet itself is refused"),
+        (
+            &["remove", "good.dm", "6"],
+            "refused 11: ",
+            "record 6 is a layer header, level 1, with 1 below it: only an item is removed",
+        ),
+        (&["remove", "index.dm", "1"], "refused 2 at record 1: ", "this is an index"),
+        (&["up", "good.dm", "5"], "refused 17: ", "record 5 is in the sheet part, which ends at record 5"),
+        (&["up", "index.dm", "1"], "refused 2 at record 1: ", "this is an index"),
+    ];
+    for (words, refused, said) in cases {
+        let before = f.get(words[1]);
+        let ran = f.run(words);
+        assert_eq!((ran.status, ran.text()), (Some(1), String::new()), "{words:?}");
+        assert!(ran.err.starts_with(&format!("dmtool: {}: {refused}", words[1])), "{words:?}: {}", ran.err);
+        assert!(ran.err.contains(&format!("\n{said}")) && !ran.err.contains("record 0"), "{words:?}: {}", ran.err);
+        assert_eq!(
+            ran.err.contains("'dmtool explain bad.dm' says what is wrong"),
+            words[1] == "bad.dm",
+            "{words:?}: {}",
+            ran.err
+        );
+        assert!(f.get(words[1]) == before, "{words:?}");
+    }
+}
