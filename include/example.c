@@ -33,6 +33,12 @@ static void check(const char *what, int right)
         wrong = 1;
 }
 
+static void versions(void)
+{
+    printf("zv_version: %llu, header %d.%d.%d\n", (unsigned long long)zv_version(), ZV_VERSION_MAJOR, ZV_VERSION_MINOR, ZV_VERSION_PATCH);
+    check("zv_version", zv_version() == ZV_VERSION);
+}
+
 static void columns(void)
 {
     uint8_t column[4] = {'*', '*', '*', '*'};
@@ -115,11 +121,41 @@ static void ways_up(const uint8_t *buffer)
 
 static void report_line(const uint8_t *buffer)
 {
-    uint8_t line[65];
+    uint8_t line[ZV_LINE_BYTES];
     struct zv_length put = zv_report(buffer, USED, line, sizeof line);
     printf("zv_report: %.*s", (int)put.length, (const char *)line);
     check("zv_report", put.refusal == ZV_ACCEPTED && put.length == 27 && memcmp(line, "accepted 9 records 1 items\n", 27) == 0);
     check("zv_report without room", zv_report(buffer, USED, line, 26).refusal == ZV_ROOM);
+}
+
+static void refusal_texts(void)
+{
+    uint8_t words[ZV_TEXT_BYTES];
+    struct zv_length put = zv_refusal_text(ZV_MALFORMED, words, sizeof words);
+    printf("zv_refusal_text 5: %.*s\n", (int)put.length, (const char *)words);
+    check("zv_refusal_text", put.refusal == ZV_ACCEPTED && put.length == 30 && memcmp(words, "an integer column is malformed", 30) == 0);
+    check("zv_refusal_text without room", zv_refusal_text(ZV_MALFORMED, words, 29).refusal == ZV_ROOM);
+    check("zv_refusal_text of no refusal", zv_refusal_text(ZV_ACCEPTED, words, sizeof words).refusal == ZV_NUMBER);
+}
+
+/* The columns of a layout, from 1 until there is none. */
+static void layout_columns(void)
+{
+    uint8_t name[ZV_NAME_BYTES];
+    struct zv_column shift = zv_layout_column(ZV_ELEMENT, 11);
+    struct zv_length put = zv_column_name(ZV_ELEMENT, 11, name, sizeof name);
+    size_t end = 0, number = 1;
+    struct zv_column column;
+    for (column = zv_layout_column(ZV_ELEMENT, 1); column.refusal == ZV_ACCEPTED; column = zv_layout_column(ZV_ELEMENT, ++number))
+        end = column.start + column.width;
+    printf("zv_layout_column: an element has %zu columns, %zu bytes\n", number - 1, end);
+    printf("zv_column_name: column 11 is the %.*s, bytes %zu to %zu, from %lld to %lld\n", (int)put.length, (const char *)name, shift.start + 1,
+           shift.start + shift.width, (long long)shift.least, (long long)shift.greatest);
+    check("zv_layout_column", shift.refusal == ZV_ACCEPTED && shift.start == 24 && shift.width == 2 && shift.content == ZV_INTEGER
+          && shift.least == -9 && shift.greatest == 9 && number == 25 && end == ZV_RECORD_BYTES);
+    check("zv_layout_column of no layout", zv_layout_column(20, 1).refusal == ZV_NUMBER);
+    check("zv_column_name", put.refusal == ZV_ACCEPTED && put.length == 5 && memcmp(name, "shift", 5) == 0);
+    check("zv_column_name without room", zv_column_name(ZV_ELEMENT, 11, name, 4).refusal == ZV_ROOM);
 }
 
 /* Reads a file into a buffer; answers its bytes, or -1 where it cannot be read. */
@@ -134,6 +170,19 @@ static long read_file(const char *name, uint8_t *buffer, size_t room)
         fclose(file);
     }
     return used;
+}
+
+/* What judging answered, a refusal in words; the record where it names one. */
+static void print_counts(struct zv_counts counts)
+{
+    uint8_t words[ZV_TEXT_BYTES];
+    struct zv_length put = zv_refusal_text(counts.refusal, words, sizeof words);
+    if (counts.refusal == ZV_ACCEPTED)
+        printf("accepted %zu records %zu items\n", counts.records, counts.items);
+    else if (counts.at == 0)
+        printf("refused %llu: %.*s\n", (unsigned long long)counts.refusal, (int)put.length, (const char *)words);
+    else
+        printf("refused %llu at record %zu: %.*s\n", (unsigned long long)counts.refusal, counts.at, (int)put.length, (const char *)words);
 }
 
 /* Judges a file as the program does: an index if it starts "I ", else a sheet. */
@@ -151,10 +200,7 @@ static int judge_file(const char *name)
         counts = zv_judge_index(buffer, sizeof buffer, (size_t)used);
     else
         counts = zv_judge_sheet(buffer, sizeof buffer, (size_t)used);
-    if (counts.refusal == ZV_ACCEPTED)
-        printf("accepted %zu records %zu items\n", counts.records, counts.items);
-    else
-        printf("refused %llu at record %zu\n", (unsigned long long)counts.refusal, counts.at);
+    print_counts(counts);
     return counts.refusal == ZV_ACCEPTED ? 0 : 1;
 }
 
@@ -165,6 +211,7 @@ int main(int argc, char **argv)
         return judge_file(argv[1]);
     memset(buffer, ' ', sizeof buffer);
     memcpy(buffer, SHEET, USED);
+    versions();
     columns();
     corners();
     judging(buffer);
@@ -172,6 +219,8 @@ int main(int argc, char **argv)
     edits(buffer);
     ways_up(buffer);
     report_line(buffer);
+    refusal_texts();
+    layout_columns();
     printf(wrong ? "wrong answers\n" : "all as expected\n");
     return wrong;
 }

@@ -7,12 +7,18 @@
  * Every call answers every content of its buffers and every number, and returns. A refused call changes no byte of any buffer. No call keeps
  * a pointer, takes memory from the heap or has state of its own, so calls on different buffers may run at the same time.
  *
- * What the caller owes: a pointer has as many bytes behind it as the length says, and is not NULL, even where the length is 0; a buffer that
- * a call writes overlaps no other buffer of that call.
+ * What the caller owes: a pointer has as many bytes behind it as the length says; it may be NULL where the length is 0, and only there. A
+ * buffer that a call writes overlaps no other buffer of that call.
  *
- * Link with target/staticlib/libc_interface.a, which `rt staticlib c_interface` makes:
+ * The library is for x86-64 Linux. `make install` puts it where programs find it:
  *
- *     cc -std=c99 -Iinclude include/example.c target/staticlib/libc_interface.a -o example
+ *     cc -std=c99 example.c $(pkg-config --cflags --libs zvaigulta) -o example
+ *
+ * links the shared object, and
+ *
+ *     cc -std=c99 example.c $(pkg-config --cflags zvaigulta) $(pkg-config --variable=libdir zvaigulta)/libzvaigulta.a -o example
+ *
+ * the archive.
  */
 #ifndef ZVAIGULTA_H
 #define ZVAIGULTA_H
@@ -20,13 +26,28 @@
 #include <stddef.h>
 #include <stdint.h>
 
+#if !defined(__x86_64__) || !defined(__linux__)
+#error "zvaigulta is a library for x86-64 Linux"
+#endif
+
 #ifdef __cplusplus
 extern "C" {
 #endif
 
+/* The version of this header as one number, 200 for 0.2.0; `zv_version` answers that of the library. */
+#define ZV_VERSION_MAJOR 0
+#define ZV_VERSION_MINOR 2
+#define ZV_VERSION_PATCH 0
+#define ZV_VERSION (ZV_VERSION_MAJOR * 10000 + ZV_VERSION_MINOR * 100 + ZV_VERSION_PATCH)
+
 /* Bytes of a record, and the most records of a file. */
 #define ZV_RECORD_BYTES 84
 #define ZV_MOST_RECORDS 200000
+
+/* Room that always holds the line of `zv_report`, the words of a refusal, and the name of a column. */
+#define ZV_LINE_BYTES 65
+#define ZV_TEXT_BYTES 90
+#define ZV_NAME_BYTES 18
 
 /*
  * The refusals. The record that goes with each stands in parentheses; where none stands it is 0.
@@ -64,10 +85,47 @@ enum zv_refusal {
     ZV_LIMIT = 14,
     /* A buffer is too short for the result. */
     ZV_ROOM = 15,
-    /* A number does not fit the width, a width or unit is not allowed, or a corner cannot be split. */
+    /* A number does not fit the width, a width or unit is not allowed, or a corner cannot be split; there is no such refusal, layout or column. */
     ZV_NUMBER = 16,
     /* The record number is outside the file, or in the sheet part. */
     ZV_RECORD_NUMBER = 17
+};
+
+/* The nineteen record layouts, in the order of document 01. */
+enum zv_layout {
+    ZV_INDEX_A = 1,
+    ZV_INDEX_B = 2,
+    ZV_INDEX_C = 3,
+    ZV_SHEET_A = 4,
+    ZV_SHEET_B = 5,
+    ZV_SHEET_C = 6,
+    ZV_SHEET_D = 7,
+    ZV_SHEET_E = 8,
+    ZV_SHEET_F = 9,
+    ZV_HEADER = 10,
+    ZV_ELEMENT = 11,
+    ZV_GRID_HEADER = 12,
+    ZV_NET_HEADER = 13,
+    ZV_DATA_3D = 14,
+    ZV_DATA_2D = 15,
+    ZV_DATA_NOTE = 16,
+    ZV_DATA_ATTRIBUTE = 17,
+    ZV_DATA_GRID = 18,
+    ZV_DATA_NET = 19
+};
+
+/* What may stand in a column, by a letter. */
+enum zv_content {
+    /* Text, not judged. */
+    ZV_TEXT = 'A',
+    /* Blank, not judged. */
+    ZV_BLANK = 'X',
+    /* An integer. */
+    ZV_INTEGER = 'I',
+    /* An integer of a list, whose ends are the least and the greatest number; not every number between them is on it. */
+    ZV_LISTED = 'L',
+    /* An integer, or spaces alone. */
+    ZV_INTEGER_OR_SPACES = 'S'
 };
 
 /*
@@ -107,7 +165,7 @@ struct zv_counts {
 struct zv_length {
     uint64_t refusal;
     size_t at;
-    /* The written column's width, the length of a normal form, or the new used length after an edit. */
+    /* The written column's width, the length of a normal form or of a text, or the new used length after an edit. */
     size_t length;
 };
 
@@ -120,6 +178,61 @@ struct zv_way {
     /* How many headers the way passes, the layer's included: the record's level less one. */
     size_t passed;
 };
+
+/* A column of a layout. */
+struct zv_column {
+    uint64_t refusal;
+    size_t at;
+    /* The byte of the record at which it starts, from 0. */
+    size_t start;
+    /* Its bytes. */
+    size_t width;
+    /* One of `enum zv_content`. */
+    uint64_t content;
+    /* The least and the greatest number that its own table allows; 0 for text and blanks. */
+    int64_t least;
+    int64_t greatest;
+};
+
+/* The library was compiled with these sizes and offsets; a compiler that lays a struct out in another way stops here. */
+#if defined(__cplusplus) && __cplusplus >= 201103L
+#define ZV_ASSERT(name, test) static_assert(test, #name)
+#elif defined(__STDC_VERSION__) && __STDC_VERSION__ >= 201112L
+#define ZV_ASSERT(name, test) _Static_assert(test, #name)
+#else
+#define ZV_ASSERT(name, test) typedef char name[(test) ? 1 : -1]
+#endif
+#define ZV_ASSERT_FIELD(type, field, offset) \
+    ZV_ASSERT(zv_offset_of_##type##_##field, offsetof(struct zv_##type, field) == (offset) && sizeof(((struct zv_##type *)0)->field) == 8)
+#define ZV_ASSERT_SIZE(type, size) \
+    ZV_ASSERT(zv_size_of_##type, sizeof(struct zv_##type) == (size)); \
+    ZV_ASSERT_FIELD(type, refusal, 0); \
+    ZV_ASSERT_FIELD(type, at, 8)
+ZV_ASSERT_SIZE(number, 24);
+ZV_ASSERT_FIELD(number, value, 16);
+ZV_ASSERT_SIZE(corner, 32);
+ZV_ASSERT_FIELD(corner, whole, 16);
+ZV_ASSERT_FIELD(corner, fraction, 24);
+ZV_ASSERT_SIZE(counts, 32);
+ZV_ASSERT_FIELD(counts, records, 16);
+ZV_ASSERT_FIELD(counts, items, 24);
+ZV_ASSERT_SIZE(length, 24);
+ZV_ASSERT_FIELD(length, length, 16);
+ZV_ASSERT_SIZE(way, 32);
+ZV_ASSERT_FIELD(way, header, 16);
+ZV_ASSERT_FIELD(way, passed, 24);
+ZV_ASSERT_SIZE(column, 56);
+ZV_ASSERT_FIELD(column, start, 16);
+ZV_ASSERT_FIELD(column, width, 24);
+ZV_ASSERT_FIELD(column, content, 32);
+ZV_ASSERT_FIELD(column, least, 40);
+ZV_ASSERT_FIELD(column, greatest, 48);
+#undef ZV_ASSERT_SIZE
+#undef ZV_ASSERT_FIELD
+#undef ZV_ASSERT
+
+/* The version of the library that answers, in the form of ZV_VERSION. */
+uint64_t zv_version(void);
 
 /*
  * Reads a number column of 1 to 18 bytes: leading spaces, at most one minus, one digit or more to the last byte. Refusals: 16 for another
@@ -175,9 +288,28 @@ struct zv_way zv_way_up(const uint8_t *buffer, size_t length, size_t used, size_
 
 /*
  * Puts the line that the program dm prints on an input, with its line end, at the start of a buffer, and answers the line's length. Bytes behind it
- * stay. Refusal 15 where the buffer is too short; 65 bytes are always enough.
+ * stay. Refusal 15 where the buffer is too short, ZV_LINE_BYTES are always enough.
  */
 struct zv_length zv_report(const uint8_t *input, size_t input_length, uint8_t *out, size_t out_length);
+
+/*
+ * Puts the words of a refusal at the start of a buffer, and answers their length: ASCII, no end mark. Bytes behind them stay. Refusals: 15 where the
+ * buffer is too short, ZV_TEXT_BYTES are always enough; 16 for a number that is no refusal: 0, which is no refusal but an answer, and any above 17.
+ */
+struct zv_length zv_refusal_text(uint64_t number, uint8_t *out, size_t out_length);
+
+/*
+ * What stands in a column of a record layout: the layout is one of `enum zv_layout`, the column numbers from 1 in the order of the record. Every
+ * column starts where the one before it ends, and together they have 84 bytes. Refusal 16 where there is no such layout, or no such column in
+ * it, so a program may ask from 1 on until it is refused.
+ */
+struct zv_column zv_layout_column(size_t layout, size_t column);
+
+/*
+ * Puts the name of a column at the start of a buffer, and answers its length: ASCII, no end mark, and none for a blank. Bytes behind it stay.
+ * Refusals: 15 where the buffer is too short, ZV_NAME_BYTES are always enough; 16 where there is no such column.
+ */
+struct zv_length zv_column_name(size_t layout, size_t column, uint8_t *out, size_t out_length);
 
 #ifdef __cplusplus
 }

@@ -19,8 +19,13 @@ use Rattle.c_interface.specs.declared.ZvNumber.{ZvNumber}
 use Rattle.c_interface.specs.declared.ZvCorner.{ZvCorner}
 use Rattle.c_interface.specs.declared.ZvCounts.{ZvCounts}
 use Rattle.c_interface.specs.declared.ZvLength.{ZvLength}
-use Rattle.c_interface.specs.Interface.{numberOf, cornerOf, countsOf, lengthOf, wayOf, Numbered, answers, refuses, WayNumbered, hasNone, hasHeader, refusesWay}
-use Rattle.c_interface.proofs.Numbered.{column-read, column-written, joined, parted, judged-sheet, judged-index, way-numbered, sheet-written, index-written, line-written, edited}
+use Rattle.c_interface.specs.declared.ZvColumn.{ZvColumn}
+use Rattle.format.specs.Layout.{Col}
+use Rattle.words.specs.declared.Described.{Described}
+use Rattle.words.specs.declared.Described.the-variants as Described
+use Rattle.words.specs.Words.{refusalTo, layoutColumn, describedOf, nameTo}
+use Rattle.c_interface.specs.Interface.{numberOf, cornerOf, countsOf, lengthOf, wayOf, columnOf, Numbered, answers, refuses, WayNumbered, hasNone, hasHeader, refusesWay}
+use Rattle.c_interface.proofs.Numbered.{column-read, column-written, joined, parted, judged-sheet, judged-index, way-numbered, sheet-written, index-written, line-written, refusal-written, column-found, name-written, edited}
 
 -- ---- what the calls answer
 pub read-numbered : (column : List ℕ) → Numbered (readAlone column)
@@ -55,6 +60,15 @@ edit-numbered = edited
 
 pub report-numbered : (input out : List ℕ) → Numbered ((reportTo input out) .answer)
 report-numbered = line-written
+
+pub refusal-text-numbered : (number : ℕ) (out : List ℕ) → Numbered ((refusalTo number out) .answer)
+refusal-text-numbered = refusal-written
+
+pub layout-column-numbered : (layout column : ℕ) → Numbered (layoutColumn layout column)
+layout-column-numbered = column-found
+
+pub column-name-numbered : (layout column : ℕ) (out : List ℕ) → Numbered ((nameTo (layoutColumn layout column) out) .answer)
+column-name-numbered = name-written
 
 -- ---- two of these with the same struct are the same
 pub number-tells : {a b : Answer ℤ} → Numbered a → Numbered b → numberOf a ≡ numberOf b → a ≡ b
@@ -97,3 +111,16 @@ way-tells hasHeader (refusesWay {n}) e = let z : 0 ≡ suc n = ap (λ (r : ZvWay
 way-tells (refusesWay {n}) hasNone e = let z : suc n ≡ 0 = ap (λ (r : ZvWay). r .refusal) e in absurd (omega arith)
 way-tells (refusesWay {n}) hasHeader e = let z : suc n ≡ 0 = ap (λ (r : ZvWay). r .refusal) e in absurd (omega arith)
 way-tells refusesWay refusesWay e = ap₂ refused (ap (λ (r : ZvWay). r .refusal) e) (ap (λ (r : ZvWay). r .at) e)
+
+same-column : {s w l s′ w′ l′ : ℕ} {v g v′ g′ : ℤ} → s ≡ s′ → w ≡ w′ → l ≡ l′ → v ≡ v′ → g ≡ g′ → Described.Column s w l v g ≡ Described.Column s′ w′ l′ v′ g′
+same-column e f h i j = rw (e, f, h, i, j)
+
+-- a column's struct, of all that the call tells of it
+pub column-tells : {a b : Answer Col} → Numbered a → Numbered b → columnOf (describedOf a) ≡ columnOf (describedOf b) → describedOf a ≡ describedOf b
+unfolding describedOf
+column-tells answers answers e =
+    same-column (ap (λ (r : ZvColumn). r .start) e) (ap (λ (r : ZvColumn). r .width) e) (ap (λ (r : ZvColumn). r .content) e)
+    (ap (λ (r : ZvColumn). r .least) e) (ap (λ (r : ZvColumn). r .greatest) e)
+column-tells answers (refuses {n}) e = let z : 0 ≡ suc n = ap (λ (r : ZvColumn). r .refusal) e in absurd (omega arith)
+column-tells (refuses {n}) answers e = let z : suc n ≡ 0 = ap (λ (r : ZvColumn). r .refusal) e in absurd (omega arith)
+column-tells refuses refuses e = ap₂ Described.Refused (ap (λ (r : ZvColumn). r .refusal) e) (ap (λ (r : ZvColumn). r .at) e)

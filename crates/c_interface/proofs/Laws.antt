@@ -31,7 +31,10 @@ use Rattle.c_interface.specs.declared.ZvNumber.{ZvNumber}
 use Rattle.c_interface.specs.declared.ZvCorner.{ZvCorner}
 use Rattle.c_interface.specs.declared.ZvCounts.{ZvCounts}
 use Rattle.c_interface.specs.declared.ZvLength.{ZvLength}
-use Rattle.c_interface.specs.Interface.{numberOf, cornerOf, countsOf, lengthOf, wayOf, Wrote, wroteOf, editedOf}
+use Rattle.c_interface.specs.declared.ZvColumn.{ZvColumn}
+use Rattle.words.specs.declared.Described.{Described}
+use Rattle.words.specs.declared.Described.the-variants as Described
+use Rattle.c_interface.specs.Interface.{numberOf, cornerOf, countsOf, lengthOf, wayOf, columnOf, Wrote, wroteOf, editedOf}
 
 pub is-number : {a : Number} {v z : ℤ} → a ≡ Number.Is v → z ≡ v → _≡_ {A = ZvNumber} (record { refusal = 0; at = 0; value = z }) (numberOf (numberAnswer a))
 unfolding numberAnswer
@@ -77,6 +80,12 @@ pub no-way : {a : WayUp} {n r : ℕ} → a ≡ WayUp.Refused n r → _≡_ {A = 
 unfolding wayUpAnswer
 no-way e = rw e
 
+pub is-column : {d : Described} {s w l : ℕ} {v g y z : ℤ} → d ≡ Described.Column s w l v g → y ≡ v → z ≡ g → _≡_ {A = ZvColumn} (record { refusal = 0; at = 0; start = s; width = w; content = l; least = y; greatest = z }) (columnOf d)
+is-column e f g = rw (e, f, g)
+
+pub no-column : {d : Described} {n r : ℕ} → d ≡ Described.Refused n r → _≡_ {A = ZvColumn} (record { refusal = n; at = r; start = 0; width = 0; content = 0; least = pos 0; greatest = pos 0 }) (columnOf d)
+no-column e = rw e
+
 -- the struct of a callee's answer, and the definition that its contract equates the answer with
 pub numbers : {r : ZvNumber} {a b : Answer ℤ} → r ≡ numberOf a → a ≡ b → r ≡ numberOf b
 numbers e f = e ∙ ap numberOf f
@@ -89,6 +98,9 @@ judged e f = e ∙ ap countsOf f
 
 pub ways : {r : ZvWay} {a b : Answer Way} → r ≡ wayOf a → a ≡ b → r ≡ wayOf b
 ways e f = e ∙ ap wayOf f
+
+pub columns : {r : ZvColumn} {d e : Described} → r ≡ columnOf d → d ≡ e → r ≡ columnOf e
+columns e f = e ∙ ap columnOf f
 
 pub wrote : {r : ZvLength} {bytes : List ℕ} {a : Answer ℕ} {o : Outcome ℕ} → r ≡ lengthOf a → record { answer = a; bytes = bytes } ≡ o → _≡_ {A = Wrote} (record { result = r; bytes = bytes }) (wroteOf o)
 wrote e f = rw e (ap wroteOf f)

@@ -1,8 +1,9 @@
 -- Every refusal of every call has a number of at least 1, and so has every header that the way up answers. Assumes nothing.
 use mathlib.Core.Path.{_≡_, refl}
 use mathlib.Core.Bool.{Bool, true, false, cond, _&&_}
-use mathlib.Core.List.{List, _++_, map}
+use mathlib.Core.List.{List, [], _∷_, _++_, map}
 use Prim.Native.Nat.{ℕ, zero, suc, _+_, _-_, _/_, _<_}
+use Prim.Native.String.{String}
 use native.Mathlib.Omega.{arith}
 use borrow.Author.Tests.{eqb-false}
 use lib.Dec.{leb, ltb, eqb}
@@ -26,6 +27,9 @@ use Rattle.format.specs.Run.{Buffer, listOf, call}
 use Rattle.format.specs.Run as Run
 use Rattle.format.specs.Normal.{normalTo, normalSheetRecords, normalIndexRecords, normalSheet, normalIndex}
 use Rattle.format.specs.Program.{printed, lineTo, reportTo}
+use Rattle.format.specs.Text.{bytes}
+use Rattle.format.specs.Layout.{Col, layouts}
+use Rattle.words.specs.Words.{fromZero, entry, refusals, textTo, refusalTo, columnIn, layoutColumn, nameOf, nameTo}
 use Rattle.c_interface.specs.Interface.{Numbered, answers, refuses, WayNumbered, hasNone, hasHeader, refusesWay}
 
 -- what holds of both sides of a test holds of what it chooses
@@ -115,6 +119,43 @@ pub line-written : (input out : List ℕ) → Numbered ((reportTo input out) .an
 unfolding reportTo lineTo
 line-written input out = written-or 14 (leb (length (printed input)) (length out)) (length (printed input)) (printed input ++ drop (length (printed input)) out) out
 
+-- ---- words and columns
+entry-numbered : {A : Type 0} (n : ℕ) (l : List A) → Numbered (fromZero n l)
+entry-numbered n [] = refuses
+entry-numbered zero (x ∷ xs) = answers
+entry-numbered (suc n) (x ∷ xs) = entry-numbered n xs
+
+entry-answers : {A : Type 0} (n : ℕ) (l : List A) → Numbered (entry n l)
+unfolding entry
+entry-answers zero l = refuses
+entry-answers (suc n) l = entry-numbered n l
+
+column-in : {a : Answer (List Col)} → Numbered a → (column : ℕ) → Numbered (columnIn a column)
+column-in (answers {a}) column = entry-answers column a
+column-in refuses column = refuses
+
+pub column-found : (layout column : ℕ) → Numbered (layoutColumn layout column)
+unfolding layoutColumn
+column-found layout column = column-in (entry-answers layout layouts) column
+
+text-written : {a : Answer String} → Numbered a → (out : List ℕ) → Numbered ((textTo a out) .answer)
+unfolding lineTo
+text-written (answers {a}) out = written-or 14 (leb (length (bytes a)) (length out)) (length (bytes a)) (bytes a ++ drop (length (bytes a)) out) out
+text-written refuses out = refuses
+
+pub refusal-written : (number : ℕ) (out : List ℕ) → Numbered ((refusalTo number out) .answer)
+unfolding refusalTo
+refusal-written number out = text-written (entry-answers number refusals) out
+
+name-found : {a : Answer Col} → Numbered a → Numbered (nameOf a)
+name-found answers = answers
+name-found refuses = refuses
+
+pub name-written : (layout column : ℕ) (out : List ℕ) → Numbered ((nameTo (layoutColumn layout column) out) .answer)
+unfolding nameTo
+name-written layout column out = text-written (name-found (column-found layout column)) out
+
+-- ---- edits
 concluded : (n : ℕ) (old new : RecordList) → Numbered ((conclude n old new) .reply)
 concluded zero old new = answers
 concluded (suc n) old new = refuses

@@ -1,17 +1,24 @@
 -- Answers as the structs of numbers that C sees: the values of an accepted call, or number and record of its refusal. Assumes nothing.
 use mathlib.Core.List.{List}
-use Prim.Native.Nat.{ℕ, suc}
+use Prim.Native.Nat.{ℕ, suc, _+_, _*_}
 use lib.IntN.{ℤ, pos}
 use Rattle.format.specs.Basics.{Answer, given, refused, Outcome}
 use Rattle.format.specs.Corner.{Corner}
 use Rattle.format.specs.Judge.{Counts}
 use Rattle.format.specs.Above.{Way, noHeader, toHeader}
 use Rattle.format.specs.Run.{Step}
+use Rattle.words.specs.declared.Described.{Described}
+use Rattle.words.specs.declared.Described.the-variants as Described
 use Rattle.c_interface.specs.declared.ZvWay.{ZvWay}
 use Rattle.c_interface.specs.declared.ZvNumber.{ZvNumber}
 use Rattle.c_interface.specs.declared.ZvCorner.{ZvCorner}
 use Rattle.c_interface.specs.declared.ZvCounts.{ZvCounts}
 use Rattle.c_interface.specs.declared.ZvLength.{ZvLength}
+use Rattle.c_interface.specs.declared.ZvColumn.{ZvColumn}
+
+-- 0.2.0: 10,000 times the major number, 100 times the minor one, and the patch
+unfoldable pub version : ℕ
+version = 0 * 10000 + 2 * 100 + 0
 
 abbrev pub numberOf : Answer ℤ → ZvNumber
 numberOf (given z) = record { refusal = 0; at = 0; value = z }
@@ -34,6 +41,12 @@ abbrev pub wayOf : Answer Way → ZvWay
 wayOf (given noHeader) = record { refusal = 0; at = 0; header = 0; passed = 0 }
 wayOf (given (toHeader number passed)) = record { refusal = 0; at = 0; header = number; passed = passed }
 wayOf (refused number at) = record { refusal = number; at = at; header = 0; passed = 0 }
+
+abbrev pub columnOf : Described → ZvColumn
+columnOf (Described.Column start width letter least greatest) =
+    record { refusal = 0; at = 0; start = start; width = width; content = letter; least = least; greatest = greatest }
+columnOf (Described.Refused number at) =
+    record { refusal = number; at = at; start = 0; width = 0; content = 0; least = pos 0; greatest = pos 0 }
 
 -- a call that writes: its answer, and all bytes of the lent buffer afterwards
 pub record Wrote : Type 0 where

@@ -12,13 +12,18 @@ ghost use Rattle.format.specs.Run.{call};
 ghost use Rattle.format.specs.Normal.{normalSheet, normalIndex};
 ghost use Rattle.format.specs.Answers.{numberAnswer, writtenAnswer, partsAnswer, judgedAnswer, wayUpAnswer, editedAnswer};
 ghost use Rattle.format.specs.Program.{reportTo};
-ghost use Rattle.c_interface.specs.Interface.{numberOf, cornerOf, countsOf, lengthOf, wayOf, wroteOf, editedOf};
+ghost use Rattle.words.specs.Words.{refusalTo, layoutColumn, describedOf, nameTo};
+ghost use Rattle.c_interface.specs.Interface.{version, numberOf, cornerOf, countsOf, lengthOf, wayOf, columnOf, wroteOf, editedOf};
 use format::Edited;
 use format::Judged;
 use format::Number;
 use format::Parts;
 use format::WayUp;
 use format::Written;
+use words::Described;
+
+// The version: 10,000 times the major number, 100 times the minor one, and the patch.
+const VERSION: u64 = 200;
 
 #[repr(C)]
 pub struct ZvNumber {
@@ -57,6 +62,26 @@ pub struct ZvWay {
     pub at: usize,
     pub header: usize,
     pub passed: usize,
+}
+
+// `content` is the letter for what may stand in the column.
+#[repr(C)]
+pub struct ZvColumn {
+    pub refusal: u64,
+    pub at: usize,
+    pub start: usize,
+    pub width: usize,
+    pub content: u64,
+    pub least: i64,
+    pub greatest: i64,
+}
+
+// The version of the library that answers.
+#[no_mangle]
+pub extern "C" fn zv_version() -> u64
+    ensures { λ r. ⌜ r ≡ version ⌝ }
+{
+    VERSION
 }
 
 fn number(answer: Number) -> ZvNumber
@@ -267,4 +292,52 @@ pub extern "C" fn zv_report(input: &[u8], out: &mut [u8]) -> ZvLength
     ensures { λ r. ⌜ record { result = r; bytes = now (out .exit) } ≡ wroteOf (reportTo (now (input .entry)) (now (out .entry))) ⌝ }
 {
     length(report::report(input, out))
+}
+
+// The words of a refusal, put at the start of a buffer: the answer's length is theirs.
+#[no_mangle]
+pub extern "C" fn zv_refusal_text(number: u64, out: &mut [u8]) -> ZvLength
+    ensures { λ r. ⌜ record { result = r; bytes = now (out .exit) } ≡ wroteOf (refusalTo number (now (out .entry))) ⌝ }
+{
+    length(words::refusal_text(number, out))
+}
+
+fn column_struct(described: Described) -> ZvColumn
+    ensures { λ r. ⌜ r ≡ columnOf described ⌝ }
+{
+    match described {
+        Described::Column(start, width, letter, least, greatest) => ZvColumn {
+            refusal: 0,
+            at: 0,
+            start,
+            width,
+            content: letter as u64,
+            least,
+            greatest,
+        },
+        Described::Refused(refusal, at) => ZvColumn {
+            refusal: refusal as u64,
+            at,
+            start: 0,
+            width: 0,
+            content: 0,
+            least: 0,
+            greatest: 0,
+        },
+    }
+}
+
+// A column of a layout, both numbered from 1; and its name, put at the start of a buffer: the answer's length is the name's.
+#[no_mangle]
+pub extern "C" fn zv_layout_column(layout: usize, column: usize) -> ZvColumn
+    ensures { λ r. ⌜ r ≡ columnOf (describedOf (layoutColumn layout column)) ⌝ }
+{
+    column_struct(words::layout_column(layout, column))
+}
+
+#[no_mangle]
+pub extern "C" fn zv_column_name(layout: usize, column: usize, out: &mut [u8]) -> ZvLength
+    ensures { λ r. ⌜ record { result = r; bytes = now (out .exit) } ≡ wroteOf (nameTo (layoutColumn layout column) (now (out .entry))) ⌝ }
+{
+    length(words::column_name(layout, column, out))
 }

@@ -56,7 +56,7 @@ fn put_pair(out: &mut [u8], at: usize, text: &[u8], n: u64) -> usize
 }
 
 // Puts a line that is a text at the start of a buffer, if it has room there.
-fn put_text_line(out: &mut [u8], text: &[u8]) -> Written
+pub fn put_text_line(out: &mut [u8], text: &[u8]) -> Written
     ensures { λ r. ⌜ record { answer = writtenAnswer r; bytes = now (out .exit) } ≡ lineTo (now (text .entry)) (now (out .entry)) ⌝ }
 {
     if out.len() < text.len() {

@@ -80,7 +80,7 @@ pub static SHEET_A: Layout = Layout {
 };
 
 /// Sheet b: lower left X, Y, upper right X, Y (I7, any sign), 3 unjudged, element count I6, record count I7, unit I3, upper left X, Y,
-/// lower right X, Y (I7, any sign), 9X.
+/// lower right X, Y (I7, any sign), 9X. The three unjudged ones stand here as X, which is not judged either.
 pub static SHEET_B: Layout = Layout {
     name: "sheet b",
     columns: &laid([
@@ -88,7 +88,7 @@ pub static SHEET_B: Layout = Layout {
         any("lower left Y", 7),
         any("upper right X", 7),
         any("upper right Y", 7),
-        a("unjudged", 3),
+        x(3),
         i("element count", 6),
         i("record count", 7),
         i("unit", 3),

@@ -1,0 +1,81 @@
+/*
+ * A null pointer with the length 0, at every pointer of every call: the answer is that of an empty buffer that is there, and the buffer that
+ * goes with it is left in the same state. The word is a file with an accepted sheet, so that the calls come to use every pointer. Prints a
+ * line for each call and pointer.
+ */
+#include "zvaigulta.h"
+
+#include <stdio.h>
+#include <string.h>
+
+enum { ROOM = 12 * ZV_RECORD_BYTES };
+
+static uint8_t sheet[ROOM], second[ROOM], held[ROOM];
+static size_t used;
+
+static void fresh(void)
+{
+    memcpy(second, sheet, ROOM);
+}
+
+/* Keeps the second buffer as the call with an empty buffer left it, for `same` to compare with. */
+static void keep(void)
+{
+    memcpy(held, second, ROOM);
+    fresh();
+}
+
+/* Two answers, struct for struct, and the second buffer after each. */
+static void same(const char *what, const void *empty, const void *null, size_t size)
+{
+    int right = memcmp(empty, null, size) == 0 && memcmp(held, second, ROOM) == 0;
+    printf("%s: %s\n", what, right ? "the same" : "DIFFERENT");
+}
+
+/* An answer to an empty buffer, and the answer to a null pointer. */
+#define BOTH(type, what, empty, null) \
+    do { \
+        struct type a, b; \
+        fresh(); \
+        a = empty; \
+        keep(); \
+        b = null; \
+        same(what, &a, &b, sizeof a); \
+    } while (0)
+
+static int read_sheet(const char *name)
+{
+    FILE *file = fopen(name, "rb");
+    if (!file)
+        return 0;
+    used = fread(sheet, 1, ROOM, file);
+    fclose(file);
+    return zv_judge_sheet(sheet, ROOM, used).refusal == ZV_ACCEPTED;
+}
+
+int main(int argc, char **argv)
+{
+    static uint8_t none[1];
+    const size_t data = 6 * ZV_RECORD_BYTES;
+    if (argc != 2 || !read_sheet(argv[1]))
+        return 2;
+    BOTH(zv_number, "zv_read_column column", zv_read_column(none, 0), zv_read_column(NULL, 0));
+    BOTH(zv_length, "zv_write_column column", zv_write_column(none, 0, 7), zv_write_column(NULL, 0, 7));
+    BOTH(zv_counts, "zv_judge_sheet buffer", zv_judge_sheet(none, 0, 0), zv_judge_sheet(NULL, 0, 0));
+    BOTH(zv_counts, "zv_judge_index buffer", zv_judge_index(none, 0, 0), zv_judge_index(NULL, 0, 0));
+    BOTH(zv_length, "zv_normal_sheet buffer", zv_normal_sheet(none, 0, 0, second, ROOM), zv_normal_sheet(NULL, 0, 0, second, ROOM));
+    BOTH(zv_length, "zv_normal_sheet second", zv_normal_sheet(sheet, ROOM, used, none, 0), zv_normal_sheet(sheet, ROOM, used, NULL, 0));
+    BOTH(zv_length, "zv_normal_index buffer", zv_normal_index(none, 0, 0, second, ROOM), zv_normal_index(NULL, 0, 0, second, ROOM));
+    BOTH(zv_length, "zv_normal_index second", zv_normal_index(sheet, ROOM, used, none, 0), zv_normal_index(sheet, ROOM, used, NULL, 0));
+    BOTH(zv_length, "zv_insert buffer", zv_insert(none, 0, 0, 1, sheet + data, 84), zv_insert(NULL, 0, 0, 1, sheet + data, 84));
+    BOTH(zv_length, "zv_insert block", zv_insert(second, ROOM, used, 7, none, 0), zv_insert(second, ROOM, used, 7, NULL, 0));
+    BOTH(zv_length, "zv_remove buffer", zv_remove(none, 0, 0, 1), zv_remove(NULL, 0, 0, 1));
+    BOTH(zv_way, "zv_way_up buffer", zv_way_up(none, 0, 0, 1), zv_way_up(NULL, 0, 0, 1));
+    BOTH(zv_length, "zv_report input", zv_report(none, 0, second, ROOM), zv_report(NULL, 0, second, ROOM));
+    BOTH(zv_length, "zv_report out", zv_report(sheet, used, none, 0), zv_report(sheet, used, NULL, 0));
+    BOTH(zv_length, "zv_refusal_text out", zv_refusal_text(1, none, 0), zv_refusal_text(1, NULL, 0));
+    BOTH(zv_length, "zv_column_name out", zv_column_name(1, 1, none, 0), zv_column_name(1, 1, NULL, 0));
+    /* A blank's name is empty, and has room in a buffer of 0. */
+    BOTH(zv_length, "zv_column_name out", zv_column_name(1, 13, none, 0), zv_column_name(1, 13, NULL, 0));
+    return 0;
+}
