@@ -87,12 +87,13 @@ install-library: $(LIBRARY)
 	ln -sf $(SONAME) $(DESTDIR)$(LIBDIR)/libzvaigulta.so
 	$(INSTALL) -m 644 $(BUILD)/zvaigulta.pc $(DESTDIR)$(LIBDIR)/pkgconfig/zvaigulta.pc
 
-# The program reads standard input; the script dm hands it a file. The installed script is told where the program stands.
+# The program reads standard input; the script dm hands it a file and gives it an exit status. The installed script knows where the program
+# stands, and does not build it anew.
 install-programs: $(TOOL) $(DM)
 	$(INSTALL) -d $(DESTDIR)$(BINDIR) $(DESTDIR)$(LIBEXECDIR)/zvaigulta
 	$(INSTALL) -m 755 $(TOOL) $(DESTDIR)$(BINDIR)/dmtool
 	$(INSTALL) -m 755 $(DM) $(DESTDIR)$(LIBEXECDIR)/zvaigulta/dm
-	sed 's|^program=.*|program=$(LIBEXECDIR)/zvaigulta/dm|' dm >$(DESTDIR)$(BINDIR)/dm
+	sed -e 's|^program=.*|program=$(LIBEXECDIR)/zvaigulta/dm|' -e '/^newer=/,/^fi$$/d' dm >$(DESTDIR)$(BINDIR)/dm
 	chmod 755 $(DESTDIR)$(BINDIR)/dm
 
 uninstall:

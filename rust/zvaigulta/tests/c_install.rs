@@ -154,7 +154,12 @@ fn installed_files_are_all_there_and_all_go() {
     let prefix = installed.prefix();
     assert_eq!(files(Path::new(&prefix)), expected());
     let bytes = std::fs::metadata(c::root().join("crates.txt")).expect("crates.txt").len();
-    assert_eq!(c::run(&format!("{prefix}/bin/dm"), &["crates.txt"], &[]), format!("accepted {bytes} records 0 items\n"));
+    let judged = c::tried(&format!("{prefix}/bin/dm"), &["crates.txt"], &[]);
+    assert_eq!(String::from_utf8_lossy(&judged.stdout), format!("accepted {bytes} records 0 items\n"));
+    assert_eq!((String::from_utf8_lossy(&judged.stderr), judged.status.code()), ("".into(), Some(0)));
+    // It stands alone: the sources are not there to build it from.
+    let script = std::fs::read_to_string(format!("{prefix}/bin/dm")).expect("the script");
+    assert!(!script.contains("rt check") && !script.contains("$root/crates"), "{script}");
     installed.make(&["uninstall"], "");
     assert_eq!(files(Path::new(&prefix)), BTreeSet::new());
 }
