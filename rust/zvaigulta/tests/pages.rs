@@ -1,0 +1,83 @@
+//! The pages for readers say what the library does: the columns in docs/FORMAT.md, the refusals in docs/REFUSALS.md, the theorem in README.md; and no line
+//! of theirs is longer than 150 characters.
+
+use std::fs;
+use std::path::{Path, PathBuf};
+use zvaigulta::layout::{Column, Content, Layout, ALL};
+use zvaigulta::Reason;
+
+fn root() -> PathBuf {
+    Path::new(env!("CARGO_MANIFEST_DIR")).join("../..")
+}
+
+fn page(name: &str) -> String {
+    fs::read_to_string(root().join(name)).unwrap_or_else(|e| panic!("{name}: {e}"))
+}
+
+/// What stands in a column, in words.
+fn content(column: &Column) -> String {
+    match column.content {
+        Content::Text => "text".to_string(),
+        Content::Blank => "blank".to_string(),
+        Content::Integer(allowed) => format!("integer, {allowed}"),
+        Content::IntegerOrSpaces => "integer of any sign, or spaces".to_string(),
+    }
+}
+
+/// A layout as docs/FORMAT.md shows it: a line a column.
+fn table(layout: &Layout) -> String {
+    let line = |column: &Column| {
+        let (first, last) = (column.start + 1, column.start + column.width);
+        let bytes = if first == last { first.to_string() } else { format!("{first}-{last}") };
+        format!("    {bytes:<7}{:<20}{}\n", column.name, content(column))
+    };
+    layout.columns.iter().map(line).collect()
+}
+
+#[test]
+fn every_column_of_every_layout() {
+    let format = page("docs/FORMAT.md");
+    for layout in ALL {
+        assert!(format.contains(&table(layout)), "docs/FORMAT.md: {} must be\n{}", layout.name, table(layout));
+    }
+}
+
+#[test]
+fn every_refusal_with_its_words() {
+    let (refusals, readme) = (page("docs/REFUSALS.md"), page("README.md"));
+    for number in 1..=17 {
+        let reason = Reason::from_number(number);
+        assert!(refusals.contains(&format!("## {number}. ")) && refusals.contains(&reason.to_string()), "{number}: {reason}");
+    }
+    assert!(!refusals.contains("## 18. ") || Reason::from_number(18) != Reason::Other(18));
+    assert!(readme.contains("docs/REFUSALS.md") && readme.contains("docs/FORMAT.md"));
+}
+
+/// The theorem that README.md prints is the one that the check proves, line for line.
+#[test]
+fn the_theorem_as_it_is_proved() {
+    let readme = page("README.md");
+    let sources = page("crates/format/specs/Run.antt") + &page("crates/format/proofs/Claims.antt");
+    let theorem = readme.split("```antt\n").nth(1).and_then(|rest| rest.split("```").next()).expect("the theorem");
+    assert!(theorem.contains("runs : ") && theorem.contains("record Runs "));
+    for line in theorem.lines().filter(|line| !line.trim().is_empty() && line.trim() != "..") {
+        assert!(sources.lines().any(|source| source == line), "no such line: {line}");
+    }
+}
+
+#[test]
+fn no_line_is_too_long() {
+    for name in [
+        "README.md",
+        "docs/FORMAT.md",
+        "docs/REFUSALS.md",
+        "docs/TOOL.md",
+        "docs/DECISIONS.md",
+        "docs/ARCHITECTURE.md",
+        "docs/PERFORMANCE.md",
+    ] {
+        for (place, line) in page(name).lines().enumerate() {
+            assert!(line.chars().count() <= 150, "{name}:{}: {} characters", place + 1, line.chars().count());
+        }
+    }
+}
