@@ -29,6 +29,9 @@ impl Arguments {
                 "--help" | "-h" => found.help = true,
                 "--force" if with_output => found.force = true,
                 "--no-lock" if with_output => found.no_lock = true,
+                "-o" | "--output" if with_output && found.output.is_some() => {
+                    return Err(Failure::Usage("-o stands there twice; one place is enough".to_string()));
+                }
                 "-o" | "--output" if with_output => {
                     let other = rest.next().ok_or_else(|| Failure::Usage("-o needs a file name behind it".to_string()))?;
                     found.output = Some(other.clone());

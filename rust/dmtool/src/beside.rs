@@ -112,18 +112,16 @@ fn hash(bytes: &[u8]) -> u64 {
 /// Makes a file by the first name beside a target that nothing has.
 fn first_free<T>(target: &Path, make: impl Fn(&Path) -> io::Result<T>) -> io::Result<(Beside, T)> {
     let start = name_start(target);
-    let mut last = io::Error::other("no free name for the new file");
     for n in 0..100 {
         let mut name = start.clone();
         name.push(format!("{}-{n}.tmp", std::process::id()));
         let path = folder(target).join(name);
         match make(&path) {
-            Ok(made) => return Ok((Beside(path), made)),
-            Err(e) if e.kind() == io::ErrorKind::AlreadyExists => last = e,
-            Err(e) => return Err(e),
+            Err(e) if e.kind() == io::ErrorKind::AlreadyExists => {}
+            made => return made.map(|made| (Beside(path), made)),
         }
     }
-    Err(last)
+    Err(io::Error::other("no name is free for a new file beside it; remove the files .*.dmtool-*.tmp there"))
 }
 
 fn named(target: &Path, mode: u32) -> io::Result<(Beside, File)> {

@@ -45,20 +45,24 @@ pub fn unread(path: &OsStr, error: &io::Error) -> Failure {
     Failure::File(format!("{}: {why}", name(path)))
 }
 
-/// The failure of a write that left everything as it was: why, and what to do.
+/// A failure that left every file as it was: why, and what to do.
+pub fn unchanged(path: &OsStr, why: &str) -> Failure {
+    Failure::File(format!("{}: {why}. Nothing was changed", name(path)))
+}
+
+/// The failure to put a new file at a path.
 pub fn unwritten(path: &OsStr, error: &io::Error) -> Failure {
     let why = match error.kind() {
-        ErrorKind::PermissionDenied => "no new file may be made in its folder; ask for the right to",
-        ErrorKind::ReadOnlyFilesystem => "its disk is mounted read-only",
-        ErrorKind::StorageFull | ErrorKind::QuotaExceeded => "the disk is full; make room",
-        ErrorKind::NotFound => "there is no such folder; make it first",
+        ErrorKind::PermissionDenied => "no new file may be made in its folder; ask for the right to, or name another place by -o",
+        ErrorKind::ReadOnlyFilesystem => "its disk is mounted read-only; name a place on another disk by -o",
+        ErrorKind::StorageFull | ErrorKind::QuotaExceeded => "the disk is full; make room, or name another place by -o",
+        ErrorKind::NotFound => "its folder does not exist; make it first, or name another place by -o",
         ErrorKind::NotADirectory => "a part of its path is no folder; check the path",
-        _ => &error.to_string(),
+        // In the tool's own words.
+        _ if error.raw_os_error().is_none() => &error.to_string(),
+        _ => &format!("it could not be written: {error}; try again, or name another place by -o"),
     };
-    Failure::File(format!(
-        "{}: it could not be written: {why}; what stood there is unchanged. Name another place by -o",
-        name(path)
-    ))
+    unchanged(path, why)
 }
 
 /// Reads a file, or standard input for `-`, into a buffer.

@@ -40,10 +40,6 @@ pub fn same(one: &OsStr, other: &OsStr) -> bool {
     one == other || matches!((found(one), found(other)), (Ok(a), Ok(b)) if a == b)
 }
 
-fn failed(path: &OsStr, why: &str) -> Failure {
-    Failure::File(format!("{}: {why}. Nothing was changed", files::name(path)))
-}
-
 impl Held {
     /// Opens the file of a path to replace it, and unless `no_lock` waits until nobody else does.
     pub fn take(path: &OsStr, no_lock: bool) -> Result<Held, Failure> {
@@ -51,7 +47,7 @@ impl Held {
         for _ in 0..MOST_TURNS {
             let (file, real) = open(path)?;
             if !no_lock {
-                waiting.lock(&file).map_err(|e| failed(path, &no_lock_had(&e)))?;
+                waiting.lock(&file).map_err(|e| files::unchanged(path, &no_lock_had(&e)))?;
             }
             let seen = file.metadata().map_err(|e| files::unread(path, &e))?;
             if fs::symlink_metadata(&real).is_ok_and(|now| identity(&now) == identity(&seen)) {
@@ -61,7 +57,7 @@ impl Held {
                 return Held { file, real, seen, path: path.to_os_string() }.checked();
             }
         }
-        Err(failed(path, "it was replaced again and again by somebody else; try again"))
+        Err(files::unchanged(path, "it was replaced again and again by somebody else; try again"))
     }
 
     /// The same, if it has one name only. What a killed edit left may have been a second one, and is cleared by now.
@@ -69,7 +65,7 @@ impl Held {
         self.seen = self.file.metadata().map_err(|e| files::unread(&self.path, &e))?;
         match self.seen.nlink() {
             0 | 1 => Ok(self),
-            names => Err(failed(&self.path, &several_names(names))),
+            names => Err(files::unchanged(&self.path, &several_names(names))),
         }
     }
 
@@ -140,13 +136,16 @@ fn open(path: &OsStr) -> Result<(File, PathBuf), Failure> {
         return Err(unread(io::ErrorKind::IsADirectory.into()));
     }
     if !found.is_file() {
-        return Err(failed(path, "it is a device or a pipe, which cannot be replaced; name a file for the result by -o"));
+        return Err(files::unchanged(
+            path,
+            "it is a device or a pipe, which cannot be replaced; name a file for the result by -o",
+        ));
     }
     if found.permissions().readonly() {
-        return Err(failed(path, "it is marked read-only; name another file by -o, or make it writable first"));
+        return Err(files::unchanged(path, "it is marked read-only; name another file by -o, or make it writable first"));
     }
     let opened = OpenOptions::new().read(true).write(true).custom_flags(system::O_NOFOLLOW).open(&real);
-    opened.map(|file| (file, real)).map_err(|e| failed(path, &may_not(&e)))
+    opened.map(|file| (file, real)).map_err(|e| files::unchanged(path, &may_not(&e)))
 }
 
 /// Why a file could not be opened for reading and writing.

@@ -81,7 +81,7 @@ impl Target {
             (_, Err(e)) => return Err(files::unwritten(to, &e)),
         };
         match () {
-            () if found.is_dir() => Err(Failure::File(format!("{}: it is a folder; name a file in it", name(to)))),
+            () if found.is_dir() => Err(files::unchanged(to, "it is a folder; name a file in it")),
             () if is_output(&found) => Ok(Target::Output),
             () if !found.is_file() => Ok(Target::Device),
             () if force => Ok(Target::Other),
@@ -94,17 +94,16 @@ impl Target {
 fn new(to: &OsStr) -> Result<Target, Failure> {
     match files::leads_nowhere(to) {
         None => Ok(Target::New),
-        Some(link) => {
-            Err(Failure::File(format!("{}: {link}; nothing was written. Remove the link, or name another place by -o", name(to))))
-        }
+        Some(link) => Err(files::unchanged(to, &format!("{link}; remove the link, or name another place by -o"))),
     }
 }
 
 fn exists(path: &OsStr, to: &OsStr) -> Failure {
-    let (path, to) = (name(path), name(to));
-    Failure::File(format!(
-        "{path}: its result was not written to {to}, which exists already; name a new file by -o, or add --force to replace {to}"
-    ))
+    let to = name(to);
+    let why = format!(
+        "its result was not written to {to}, which exists already; name a new file by -o, or add --force to replace {to}"
+    );
+    files::unchanged(path, &why)
 }
 
 /// Whether a file is what standard output goes to, as with `-o /dev/stdout`.

@@ -124,11 +124,7 @@ fn a_read_only_file_and_a_closed_folder() {
         assert!(f.get("sheet.dm") == good());
         mode(&f, "", 0o555);
         refused(&f, words, "no new file may be made in its folder; ask for the right to");
-        refused(
-            &f,
-            &["normal", "town.dm", "-o", "new.dm"],
-            "new.dm: it could not be written: no new file may be made in its folder",
-        );
+        refused(&f, &["normal", "town.dm", "-o", "new.dm"], "new.dm: no new file may be made in its folder");
         mode(&f, "", 0o777);
     }
     mode(&f, "sheet.dm", 0o444);
@@ -182,13 +178,23 @@ fn disks_that_take_nothing() {
     f.put("sheet.dm", &good());
     for (fault, said) in [
         ("edit 30", "its disk is mounted read-only; name a file on another disk by -o. Nothing was changed"),
-        ("fsync 28", "the disk is full; make room; what stood there is unchanged"),
-        ("fsync 122", "the disk is full; make room; what stood there is unchanged"),
-        ("fsync 5", "it could not be written: Input/output error (os error 5); what stood there is unchanged"),
-        ("rename 5", "it could not be written: Input/output error (os error 5); what stood there is unchanged"),
+        ("fsync 28", "the disk is full; make room, or name another place by -o. Nothing was changed"),
+        ("fsync 122", "the disk is full; make room, or name another place by -o. Nothing was changed"),
+        ("fsync 5", "it could not be written: Input/output error (os error 5); try again, or name another place by -o. Nothing was changed"),
+        ("rename 5", "it could not be written: Input/output error (os error 5); try again, or name another place by -o. Nothing was changed"),
+        ("tmpfile 28,create 28", "the disk is full; make room, or name another place by -o. Nothing was changed"),
     ] {
         let ran = faults.run(&f, fault, "", &["remove", "sheet.dm", "7"]);
         assert_eq!((ran.status, f.get("sheet.dm"), f.names().len()), (Some(2), good(), 1), "{fault}");
         assert!(ran.err.starts_with("dmtool: sheet.dm: ") && ran.err.contains(said), "{fault}: {}", ran.err);
+    }
+    for (fault, said) in [
+        ("tmpfile 30,create 30", "its disk is mounted read-only; name a place on another disk by -o. Nothing was changed"),
+        ("tmpfile 28,create 28", "the disk is full; make room, or name another place by -o. Nothing was changed"),
+        ("tmpfile 95,fsync 28", "the disk is full; make room, or name another place by -o. Nothing was changed"),
+    ] {
+        let ran = faults.run(&f, fault, "", &["remove", "sheet.dm", "7", "-o", "new.dm"]);
+        assert_eq!((ran.status, f.names().len()), (Some(2), 1), "{fault}");
+        assert!(ran.err.starts_with("dmtool: new.dm: ") && ran.err.contains(said), "{fault}: {}", ran.err);
     }
 }

@@ -27,7 +27,7 @@ fn help_for_the_tool_and_each_subcommand() {
 fn wrong_words_say_what_to_do() {
     let f = Folder::new("wrong_words");
     f.put("good.dm", &good());
-    let wrong: [&[&str]; 21] = [
+    let wrong: [&[&str]; 22] = [
         &[],
         &["rename"],
         &["judge"],
@@ -43,6 +43,7 @@ fn wrong_words_say_what_to_do() {
         &["remove", "-", "7"],
         &["remove", "good.dm", "7", "--force"],
         &["normal", "good.dm", "--force"],
+        &["normal", "good.dm", "-o", "x", "-o", "y"],
         &["remove", "good.dm", "7", "--nolock"],
         &["judge", "good.dm", "--no-lock"],
         &["show", "good.dm", "--force"],

@@ -3,7 +3,7 @@
  *   CALL 37     the call fails with error 37 each time; with 4 (interrupted) only the first time
  *   CALL kill   the process is killed there
  *   CALL run    the command RUN is run first, once
- * "tmpfile" is the opening of a file without a name, "edit" the opening of a file for reading and writing. */
+ * "tmpfile" is the opening of a file without a name, "create" of a new one by its name, "edit" of a file for reading and writing. */
 #define _GNU_SOURCE
 #include <dlfcn.h>
 #include <errno.h>
@@ -84,6 +84,8 @@ int open64(const char *path, int flags, ...)
     mode_t mode = va_arg(rest, mode_t);
     va_end(rest);
     if ((flags & O_TMPFILE) == O_TMPFILE && fault("tmpfile"))
+        return -1;
+    if ((flags & O_CREAT) && fault("create"))
         return -1;
     if ((flags & O_ACCMODE) == O_RDWR && fault("edit"))
         return -1;
