@@ -66,7 +66,6 @@ pub fn keep(new: &File, old: &File) -> io::Result<()> {
         return Ok(());
     }
     let Owner { user, group, mode, .. } = owner;
-    Err(io::Error::other(format!(
-        "its owner and permissions (user {user}, group {group}, mode {mode:04o}) could not be kept; let its owner edit it, or name another place by -o"
-    )))
+    let kept = format!("its owner and permissions (user {user}, group {group}, mode {mode:04o}) could not be kept");
+    Err(io::Error::other(format!("{kept}; let its owner edit it, or name another place by -o")))
 }

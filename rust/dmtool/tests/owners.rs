@@ -174,14 +174,16 @@ fn attributes_stay() {
 /// A disk that is mounted read-only, full, or over its quota, in words.
 #[test]
 fn disks_that_take_nothing() {
+    const FAILED: &str =
+        "it could not be written: Input/output error (os error 5); try again, or name another place by -o. Nothing was changed";
     let (f, faults) = (Folder::new("disks"), Faults::new("disks"));
     f.put("sheet.dm", &good());
     for (fault, said) in [
         ("edit 30", "its disk is mounted read-only; name a file on another disk by -o. Nothing was changed"),
         ("fsync 28", "the disk is full; make room, or name another place by -o. Nothing was changed"),
         ("fsync 122", "the disk is full; make room, or name another place by -o. Nothing was changed"),
-        ("fsync 5", "it could not be written: Input/output error (os error 5); try again, or name another place by -o. Nothing was changed"),
-        ("rename 5", "it could not be written: Input/output error (os error 5); try again, or name another place by -o. Nothing was changed"),
+        ("fsync 5", FAILED),
+        ("rename 5", FAILED),
         ("tmpfile 28,create 28", "the disk is full; make room, or name another place by -o. Nothing was changed"),
     ] {
         let ran = faults.run(&f, fault, "", &["remove", "sheet.dm", "7"]);

@@ -20,6 +20,10 @@ fn help_for_the_tool_and_each_subcommand() {
         assert_eq!((status, quiet.as_str()), (Some(0), ""));
         assert_eq!(f.run(&["help", name]).text(), text);
     }
+    for name in ["insert", "remove", "normal"] {
+        let text = f.run(&[name, "--help"]).text();
+        assert!(["-o OTHER", "--force", "--no-lock"].iter().all(|option| text.contains(&format!("\n  {option} "))), "{text}");
+    }
     assert_eq!(f.run(&["--version"]).text(), format!("dmtool {}\n", env!("CARGO_PKG_VERSION")));
 }
 
