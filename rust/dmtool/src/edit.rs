@@ -25,6 +25,13 @@ fn target<'a>(arguments: &'a Arguments, path: &'a OsStr) -> Result<&'a OsStr, Fa
     }
 }
 
+/// A sheet with room for more behind it. What was read stays as it was, to be compared with the file before it is replaced.
+fn copied(read: &[u8], more: usize) -> Sheet {
+    let mut copy = system::buffer(read.len() + more);
+    copy.extend_from_slice(read);
+    Sheet::from(copy)
+}
+
 /// Inserts the block before the record at the place. The block is read first, so that nobody waits for the sheet while the
 /// block comes through a pipe.
 pub fn insert(arguments: &Arguments, out: &mut impl Write) -> Done {
@@ -37,9 +44,7 @@ pub fn insert(arguments: &Arguments, out: &mut impl Write) -> Done {
     let job = Job::open(arguments, path, to)?;
     let used = job.bytes.len();
     let place = at.unwrap_or(used / RECORD_BYTES + 1);
-    let mut copy = system::buffer(used + block.len());
-    copy.extend_from_slice(&job.bytes);
-    let mut sheet = Sheet::from(copy);
+    let mut sheet = copied(&job.bytes, block.len());
     let counts = sheet.insert(place, &block).map_err(|r| explain::insertion(path, &job.bytes, place, &block, r))?;
     let done = format!("inserted {} records at record {place}", block.len() / RECORD_BYTES);
     finish(job, to, &sheet, counts, &done, out)
@@ -50,9 +55,7 @@ pub fn remove(arguments: &Arguments, out: &mut impl Write) -> Done {
     let [path, at] = arguments.exactly("remove FILE PLACE [-o OTHER [--force]] [--no-lock]")?;
     let (to, place) = (target(arguments, path)?, record_number(at, "PLACE")?);
     let job = Job::open(arguments, path, to)?;
-    let mut copy = system::buffer(job.bytes.len());
-    copy.extend_from_slice(&job.bytes);
-    let mut sheet = Sheet::from(copy);
+    let mut sheet = copied(&job.bytes, 0);
     let counts = sheet.remove(place).map_err(|r| explain::removal(path, &job.bytes, place, r))?;
     let removed = job.bytes.len() - sheet.as_bytes().len();
     let done = format!("removed {} records at record {place}", removed / RECORD_BYTES);

@@ -95,8 +95,9 @@ fn locks() -> io::Result<String> {
     Ok(text)
 }
 
-/// The process that holds the lock of a file by the system's list of locks, a line each: `1: FLOCK  ADVISORY  WRITE 4711
-/// fe:00:1234 0 EOF`, the device's two numbers in hex, then the inode. One that waits has `->` before `FLOCK`.
+/// The process that holds the lock of a file by the system's list of locks, in which a line is
+/// `1: FLOCK  ADVISORY  WRITE 4711 fe:00:1234 0 EOF`: process, device by its two numbers in hex, inode. One that waits has `->`
+/// before `FLOCK`.
 fn holding(locks: &str, device: u64, inode: u64) -> Option<u32> {
     let major = (device >> 8) & 0xfff | (device >> 32) & !0xfff;
     let minor = device & 0xff | (device >> 12) & !0xff & 0xffff_ffff;

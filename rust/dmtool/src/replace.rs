@@ -80,12 +80,16 @@ impl Target {
             (_, Err(e)) if e.kind() == ErrorKind::NotFound => return new(to),
             (_, Err(e)) => return Err(files::unwritten(to, &e)),
         };
-        match () {
-            () if found.is_dir() => Err(files::unchanged(to, "it is a folder; name a file in it")),
-            () if is_output(&found) => Ok(Target::Output),
-            () if !found.is_file() => Ok(Target::Device),
-            () if force => Ok(Target::Other),
-            () => Err(exists(path, to)),
+        if found.is_dir() {
+            Err(files::unchanged(to, "it is a folder; name a file in it"))
+        } else if is_output(&found) {
+            Ok(Target::Output)
+        } else if !found.is_file() {
+            Ok(Target::Device)
+        } else if force {
+            Ok(Target::Other)
+        } else {
+            Err(exists(path, to))
         }
     }
 }
