@@ -1,5 +1,5 @@
-//! `explain FILE`: a refusal in words, with the records and the columns at fault. Number and record are the judge's; the rest explains them.
-//! Also what a refused edit says.
+//! `explain FILE`: a refusal in words, with the records and the columns at fault. Number and record are the judge's; the rest
+//! explains them. Also what a refused edit says.
 
 use crate::arguments::Arguments;
 use crate::failure::{output_failed, Done, Failure, FINE, REFUSED};
@@ -31,8 +31,8 @@ pub fn run(arguments: &Arguments, out: &mut impl Write) -> Done {
     }
 }
 
-/// What there is to say first that `line` has not said, then the refused record whole, then of each other record with a fault its marked
-/// columns.
+/// What there is to say first that `line` has not said, then the refused record whole, then of each other record with a fault its
+/// marked columns.
 fn print(bytes: &[u8], refusal: Refusal, line: &str, out: &mut impl Write) -> io::Result<()> {
     let Explanation { faults, notes, .. } = explain(bytes, refusal);
     notes.iter().filter(|note| !line.contains(note.as_str())).try_for_each(|note| writeln!(out, "{note}"))?;

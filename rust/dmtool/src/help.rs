@@ -40,8 +40,9 @@ Exit status: 0 only if every file is accepted; 2 if one could not be read; else 
 const EXPLAIN: &str = "\
 Usage: dmtool explain FILE
 
-Judges the file. Where it is refused, says what to look at first, then prints the refused record with its columns named, those at fault marked by > with the
-reason, and of other records that have to do with it the marked columns. The refusal and its record are the proved library's; the rest is an explanation of it.
+Judges the file. Where it is refused, says what to look at first, then prints the refused record with its columns named, those at
+fault marked by > with the reason, and of other records that have to do with it the marked columns. The refusal and its record are
+the proved library's; the rest is an explanation of it.
 Exit status: 0 accepted; 1 refused; 2 the file cannot be read.
 ";
 

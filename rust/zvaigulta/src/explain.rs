@@ -1,4 +1,5 @@
-//! What is wrong with a refused file, block or edit, and what to look at next. The library has judged; here its answer is put into words.
+//! What is wrong with a refused file, block or edit, and what to look at next. The library has judged; here its answer is put
+//! into words.
 //!
 //! ```
 //! use zvaigulta::{explain::explain, judge_sheet, EXAMPLE};
@@ -81,8 +82,8 @@ pub fn explain(bytes: &[u8], refusal: Refusal) -> Explanation {
     told
 }
 
-/// A refusal in one line, as it displays itself, but for two: of the four reasons of 1 the one that holds, and of a file that is a block that
-/// it is one.
+/// A refusal in one line, as it displays itself, but for two: of the four reasons of 1 the one that holds; and of a file that is a
+/// block, that it is one.
 ///
 /// ```
 /// use zvaigulta::{explain, judge_sheet, EXAMPLE};
@@ -196,8 +197,8 @@ mod tests {
         file
     }
 
-    /// Every refusal of a damaged file is explained: a column is marked, or a note says why; every column named stands in its record's own
-    /// layout, and is named once.
+    /// Every refusal of a damaged file is explained: a column of the refused record is marked, or, where there is none, a note says
+    /// why; every column named stands in its record's own layout, and is named once.
     #[test]
     fn every_refusal_is_explained() {
         let mut r = Random(12);

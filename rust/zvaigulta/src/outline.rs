@@ -1,5 +1,5 @@
-//! What each record of a file is, told from the front by what the records before it state. In an accepted file this is what it is; behind a
-//! refusal it is the best guess.
+//! What each record of a file is, told from the front by what the records before it state. In an accepted file this is what it
+//! is; behind a refusal it is the best guess.
 
 mod items;
 
@@ -86,8 +86,8 @@ pub(crate) fn record(bytes: &[u8], number: usize) -> &[u8] {
     number.checked_sub(1).and_then(|place| bytes.chunks(RECORD_BYTES).nth(place)).unwrap_or(&[])
 }
 
-/// The records that are due in the sheet part: a, b, c, then d, e and the f records, revisions + 1 times. A file that starts with a header or
-/// an item has none.
+/// The records that are due in the sheet part: a, b, c, then d, e and the f records, revisions + 1 times. A file that starts with
+/// a header or an item has none.
 fn sheet_part(bytes: &[u8]) -> Vec<&'static Layout> {
     if Sort::of(bytes).is_some() {
         return Vec::new();

@@ -2,9 +2,12 @@
 
 mod town;
 
+use reference::random::Random;
+use reference::sheets;
 use town::{ended, index, sheet, shifted, twice, with, without};
-use zvaigulta::explain::explain;
-use zvaigulta::FileKind;
+use zvaigulta::explain::{explain, Explanation};
+use zvaigulta::layout::{HEADER, SHEET_B};
+use zvaigulta::{write_column, FileKind, Reason, RECORD_BYTES};
 
 /// A damage: its name, the damaged file, the refusal with its record (0 for none), words of the explanation, columns marked.
 type Damage = (&'static str, fn() -> Vec<u8>, (u64, usize), &'static [&'static str], &'static [(usize, &'static str)]);
@@ -383,7 +386,7 @@ const COLUMNS: &[Damage] = &[
             "is 13: needs 3 data records",
             "is 2, must be 3 for data kind 2 and count 13",
             "2 records follow it before the note E7 at record 11;",
-            "that is what records states, so look at the other columns first",
+            "that is what records states, so look at the other columns first: a data count of 7 to 12 goes with 2",
         ],
         &[(8, "data count"), (8, "records")],
     ),
@@ -854,4 +857,74 @@ fn the_undamaged_files_are_accepted() {
     for file in [sheet(), index()] {
         FileKind::of(&file).judge(&file, file.len()).expect("accepted");
     }
+}
+
+/// A sheet with every count that an explanation lists changed to what it says the file holds; none where one cannot be stated.
+fn with_listed_counts(file: &[u8], explained: &Explanation) -> Option<Vec<u8>> {
+    let mut mended = file.to_vec();
+    for fault in &explained.faults {
+        let layout = if fault.record == 2 { &SHEET_B } else { &HEADER };
+        let column = layout.column(fault.column).expect("a count");
+        let held = fault.words.rsplit(' ').next().and_then(|number| number.parse().ok())?;
+        let start = (fault.record - 1) * RECORD_BYTES + column.start;
+        write_column(&mut mended[start..start + column.width], held).ok()?;
+    }
+    Some(mended)
+}
+
+/// For 10 every count that differs is listed, and rightly: with all of them changed as listed the sheet is accepted.
+#[test]
+fn the_counts_listed_are_all_that_differ() {
+    let mut r = Random(8);
+    let mut tried = 0;
+    for n in 0..20_000 {
+        let file = sheets::sheet(&mut r, n % 5);
+        let file = sheets::damaged(&mut r, &file);
+        let Err(refusal) = zvaigulta::judge_sheet(&file, file.len()) else { continue };
+        if refusal.reason != Reason::Count {
+            continue;
+        }
+        let explained = explain(&file, refusal);
+        if let Some(mended) = with_listed_counts(&file, &explained) {
+            assert!(zvaigulta::judge_sheet(&mended, mended.len()).is_ok(), "case {n}: {explained:#?}");
+            tried += 1;
+        }
+    }
+    assert!(tried > 1_000, "{tried}");
+}
+
+/// A sheet of 200,000 records, refused at its end in each way: an explanation reads it a few times, not once for each record.
+#[test]
+fn a_large_sheet_is_explained() {
+    let large = sheets::sheet_of_points(200_000);
+    let last = 200_000;
+    let cases: [(Vec<u8>, u64); 9] = [
+        (with(large.clone(), last, 0, "X5"), 4),
+        (with(large.clone(), last, 2, "    "), 5),
+        (with(large.clone(), last, 20, "9"), 6),
+        (with(large.clone(), last, 16, " 9"), 7),
+        (with(large.clone(), last, 27, "   1"), 8),
+        (with(large.clone(), last, 20, "2210 00   1   1"), 3),
+        (with(large.clone(), last, 0, "E8"), 8),
+        (large[..last * RECORD_BYTES - 1].to_vec(), 1),
+        (without(large.clone(), 100_000, 100_000), 10),
+    ];
+    for (file, number) in cases {
+        let refusal = zvaigulta::judge_sheet(&file, file.len()).expect_err("damaged");
+        assert_eq!(refusal.number(), number, "{refusal}");
+        let explained = explain(&file, refusal);
+        assert!(number == 1 || explained.faults.iter().any(|fault| Some(fault.record) == refusal.record), "{explained:?}");
+        assert!(number != 1 || explained.notes[0].contains("record 200000 has only 83 of its 84 bytes"), "{explained:?}");
+    }
+}
+
+/// Hundreds of counts that differ are listed in part, and the others counted.
+#[test]
+fn a_list_of_counts_has_an_end() {
+    let header = sheets::layer(&[(5, 1)]);
+    let file = sheets::sheet_of(&mut Random(3), vec![header; 300], 0);
+    let refusal = zvaigulta::judge_sheet(&file, file.len()).expect_err("no layer holds its point");
+    let explained = explain(&file, refusal);
+    assert_eq!(explained.faults.len(), 60);
+    assert!(explained.notes.contains(&"60 columns are listed here, and 540 more differ".to_string()), "{:?}", explained.notes);
 }

@@ -77,7 +77,8 @@ fn item_sort(block: &[u8]) -> Result<Sort, String> {
     Err(format!("{what}, and a block is one element, grid or net with its data: E1 to E8, \"G \" or \"T \""))
 }
 
-/// The sheet part of the example, headers down to one level above the block, and the block; also how many records stand before it.
+/// The sheet part of the example, headers down to one level above the block, and the block; also how many records stand before
+/// the block.
 fn sheet_with(block: &[u8], level: i64) -> (Vec<u8>, usize) {
     let (part, layer) = (&EXAMPLE[..5 * RECORD_BYTES], &EXAMPLE[5 * RECORD_BYTES..6 * RECORD_BYTES]);
     let mut sheet = part.to_vec();

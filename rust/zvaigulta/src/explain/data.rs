@@ -24,27 +24,36 @@ pub fn rule(bytes: &[u8], named: &Record, told: &mut Explanation) {
             ]
         }
     });
-    told.notes.push(following(bytes, named, &stated));
+    told.notes.push(following(bytes, named, sort, &stated));
 }
 
-/// How many data records follow, and which of the columns that makes doubtful.
-fn following(bytes: &[u8], named: &Record, stated: &Stated) -> String {
+/// How many records follow, and which of the columns that makes doubtful.
+fn following(bytes: &[u8], named: &Record, sort: Sort, stated: &Stated) -> String {
     let follow = near::following(bytes, named) as u64;
-    let until = match near::next(bytes, named.number) {
-        Some((number, sort)) => format!("before the {} at record {number}", sort.name()),
-        None => "to the end of the file".to_string(),
-    };
-    let doubt = match (follow == stated.records, follow == stated.needed) {
-        (true, false) => "; that is what records states, so look at the other columns first",
-        (false, true) => "; that is what the other columns need, so look at records first",
-        _ => "",
-    };
     let follows = match follow {
         0 => "no record follows it".to_string(),
         1 => "1 record follows it".to_string(),
         n => format!("{n} records follow it"),
     };
+    let until = match near::next(bytes, named.number) {
+        Some((number, sort)) => format!("before the {} at record {number}", sort.name()),
+        None => "to the end of the file".to_string(),
+    };
+    let doubt = match (follow == stated.records, follow == stated.needed) {
+        (true, false) => format!("; that is what records states, so look at the other columns first{}", counts_for(sort, stated)),
+        (false, true) => "; that is what the other columns need, so look at records first".to_string(),
+        _ => String::new(),
+    };
     format!("{follows} {until}{doubt}")
+}
+
+/// The data counts of an element that go with the records that it states.
+fn counts_for(sort: Sort, stated: &Stated) -> String {
+    match (sort, stated.counts_for_records()) {
+        (Sort::Element(_), Some((least, most))) if least == most => format!(": a data count of {least} goes with {least}"),
+        (Sort::Element(_), Some((least, most))) => format!(": a data count of {least} to {most} goes with {}", stated.records),
+        _ => String::new(),
+    }
 }
 
 fn grid(named: &Record, stated: &Stated) -> Vec<Fault> {
@@ -84,27 +93,28 @@ fn allowed(n: u8, kind: u64, count: u64) -> (&'static [u64], bool, &'static str)
 fn element(named: &Record, n: u8, kind: u64, stated: &Stated) -> Vec<Fault> {
     let (count, needed) = (stated.count, stated.needed);
     let (kinds, count_right, counts) = allowed(n, kind, count);
-    let kind_right = kinds.contains(&kind);
-    let records_right = stated.records == needed;
-    let kind_words = match (kind_right, n) {
-        (false, _) => {
-            let list: Vec<String> = kinds.iter().map(u64::to_string).collect();
-            Some(format!("is {kind}, must be {} for E{n}", list.join(" or ")))
-        }
-        (true, 5) if !count_right && kind < 2 => Some(format!("is {kind}: the data count must be 0")),
-        (true, 5) if !count_right => Some(format!("is {kind}: the data count must be 1 or more; kinds 0 and 1 have none")),
-        _ => None,
-    };
-    let count_words = match (count_right, records_right) {
-        (false, _) => Some(format!(
-            "is {count}, must be {counts} for E{n}{}",
-            if n == 5 { format!(" of data kind {kind}") } else { String::new() }
-        )),
+    let of_kind = if n == 5 { format!(" of data kind {kind}") } else { String::new() };
+    let count_words = match (count_right, stated.records == needed) {
+        (false, _) => Some(format!("is {count}, must be {counts} for E{n}{of_kind}")),
         (true, false) => Some(format!("is {count}: needs {} of data kind {kind}", number_of(needed, "data record"))),
         (true, true) => None,
     };
-    let record_words =
-        (!records_right).then(|| format!("is {}, must be {needed} for data kind {kind} and count {count}", stated.records));
-    let all = [("data kind", kind_words), ("data count", count_words), ("records", record_words)];
+    let records_words = format!("is {}, must be {needed} for data kind {kind} and count {count}", stated.records);
+    let all = [
+        ("data kind", kind_words(n, kind, kinds, count_right)),
+        ("data count", count_words),
+        ("records", Some(records_words).filter(|_| stated.records != needed)),
+    ];
     all.into_iter().filter_map(|(column, words)| Some(fault(named.number, column, words?))).collect()
+}
+
+/// Why a data kind is wrong, or wrong beside the data count: a point's kind and count go together.
+fn kind_words(n: u8, kind: u64, kinds: &[u64], count_right: bool) -> Option<String> {
+    let list: Vec<String> = kinds.iter().map(u64::to_string).collect();
+    match (kinds.contains(&kind), n, count_right) {
+        (false, _, _) => Some(format!("is {kind}, must be {} for E{n}", list.join(" or "))),
+        (true, 5, false) if kind < 2 => Some(format!("is {kind}: the data count must be 0")),
+        (true, 5, false) => Some(format!("is {kind}: the data count must be 1 or more; kinds 0 and 1 have none")),
+        _ => None,
+    }
 }

@@ -120,24 +120,32 @@ fn type_alone(named: &Record, told: &mut Explanation) -> bool {
 /// The header or item before the record, whose count may be wrong.
 fn item_before(bytes: &[u8], named: &Record, told: &mut Explanation) {
     let before = Outline::of(bytes).take(named.number - 1).filter(|record| record.sort().is_some()).last();
-    let Some((item, sort)) = before.and_then(|item| Some((item, item.sort()?))) else { return };
+    let until = near::next(bytes, named.number)
+        .map_or("to the end of the file".to_string(), |(number, sort)| format!("before the {} at record {number}", sort.name()));
+    let Some((item, sort)) = before.and_then(|item| Some((item, item.sort()?))) else {
+        told.notes.push(format!("the sheet part ends at record {}: a layer header is due behind it", named.number - 1));
+        return;
+    };
     if let Some(hidden) = near::hidden(bytes, &item) {
         return lost_data(&item, hidden, told);
     }
-    let stated = Stated::of(sort, item.bytes).records;
-    let until = near::next(bytes, named.number - 1)
-        .map_or("to the end of the file".to_string(), |(number, sort)| format!("before the {} at record {number}", sort.name()));
-    let follow = number_of(near::following(bytes, &item) as u64, "record");
-    let states = format!("states {}, {follow} stand {until}", number_of(stated, "data record"));
-    told.notes.push(format!("the {} at record {} {states}", sort.name(), item.number));
+    let stated = number_of(Stated::of(sort, item.bytes).records, "data record");
+    let follow = match near::following(bytes, &item) {
+        1 => "1 record stands".to_string(),
+        n => format!("{n} records stand"),
+    };
+    told.notes.push(match sort {
+        Sort::Header => format!("behind the header at record {} {follow} that should not, {until}", item.number),
+        _ => format!("the {} at record {} states {stated}, {follow} {until}", sort.name(), item.number),
+    });
     let again = near::repeated(bytes, item.number + 1, named.number);
     told.notes.extend(again.map(|again| format!("record {again} is the same as record {} before it", again - 1)));
     if sort != Sort::Header {
-        told.faults.push(fault(item.number, "records", states));
+        told.faults.push(fault(item.number, "records", format!("states {stated}, {follow} {until}")));
     }
     if let Sort::Element(_) = sort {
         let count = natural(&ELEMENT, "data count", item.bytes);
-        told.faults.push(fault(item.number, "data count", format!("is {count}: needs {}", number_of(stated, "data record"))));
+        told.faults.push(fault(item.number, "data count", format!("is {count}: needs {stated}")));
     }
 }
 

@@ -33,7 +33,10 @@ fn behind(bytes: &[u8]) -> Option<String> {
         let sheet = record.starts_with(b"M ") && SHEET_A.fits(record);
         (sheet || record.starts_with(b"I ") && INDEX_A.fits(record)).then_some(n)
     };
-    let n = (1..=RECORD_BYTES).find_map(starts)?;
+    if starts(RECORD_BYTES).is_some() {
+        return Some("record 2 is where record 1 should be: what stands before it does not belong there".to_string());
+    }
+    let n = (1..RECORD_BYTES).find_map(starts)?;
     let before = quoted(bytes.get(..n.min(8)).unwrap_or(&[]));
     Some(format!("before the first record: {}, {before}; take that out", number_of(n as u64, "byte")))
 }

@@ -54,22 +54,16 @@ fn lines(bytes: &[u8]) -> Option<String> {
 
 /// Lines that lost the spaces at their ends.
 fn spaces_lost(bytes: &[u8]) -> Option<String> {
-    let mut lines: Vec<&[u8]> = bytes.split(|byte| *byte == b'\n').map(|line| line.strip_suffix(b"\r").unwrap_or(line)).collect();
-    if lines.last().is_some_and(|line| line.is_empty()) {
-        lines.pop();
-    }
-    let short = lines.iter().position(|line| line.len() < RECORD_BYTES)?;
     let ours = bytes.starts_with(b"M ") || bytes.starts_with(b"I ") || Sort::of(bytes).is_some();
-    if !ours || lines.len() < 2 || lines.iter().any(|line| line.len() > RECORD_BYTES) {
+    let text = bytes.strip_suffix(b"\n").filter(|text| ours && text.contains(&b'\n'))?;
+    let mut lines = text.split(|byte| *byte == b'\n').map(|line| line.strip_suffix(b"\r").unwrap_or(line));
+    if lines.clone().any(|line| line.len() > RECORD_BYTES) {
         return None;
     }
-    let has = lines.get(short).map_or(0, |line| line.len());
-    Some(format!(
-        "the file is text in lines, and spaces at their ends are lost: line {} has {}; \
-         fill each line with spaces up to {RECORD_BYTES} and take the line ends out",
-        short + 1,
-        number_of(has as u64, "byte")
-    ))
+    let (short, line) = lines.by_ref().enumerate().find(|(_, line)| line.len() < RECORD_BYTES)?;
+    let has = number_of(line.len() as u64, "byte");
+    let advice = format!("fill each line with spaces up to {RECORD_BYTES} and take the line ends out");
+    Some(format!("the file is text in lines, and spaces at their ends are lost: line {} has {has}; {advice}", short + 1))
 }
 
 /// Bytes at the end that are no text: a fill of NUL, an end-of-file mark, a line end.

@@ -56,10 +56,9 @@ fn b_records(named: &Record) -> Vec<Fault> {
     let number = |name| natural(&INDEX_A, name, named.bytes);
     let (sheets, states) = (number("sheets"), number("b records"));
     let needed = sheets.div_ceil(10);
+    let most = "does not fit two digits, an index lists 990 sheets at most";
     let words = match needed {
-        100.. => {
-            format!("is {states}, and {sheets} sheets need {needed}: {needed} does not fit two digits, an index lists 990 sheets at most")
-        }
+        100.. => format!("is {states}, and {sheets} sheets need {needed}: {needed} {most}"),
         _ => format!("is {states}, must be {needed} for {sheets} sheets"),
     };
     vec![fault(named.number, "sheets", format!("is {sheets}; a b record lists ten")), fault(named.number, "b records", words)]

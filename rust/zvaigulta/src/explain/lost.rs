@@ -55,8 +55,8 @@ fn repeated(bytes: &[u8], body: &Body) -> Vec<String> {
     same.take(MOST_PLACES).map(words).collect()
 }
 
-/// Where a header may be missing: by the totals, where records are missing, and by the class codes of a layer whose total differs or where
-/// records are missing.
+/// Where a header may be missing: by the totals, where records are missing; by the class codes of a layer, where records are
+/// missing or its total differs.
 fn headers(body: &Body, missing: bool) -> Vec<String> {
     let mut seen: BTreeMap<usize, Vec<String>> = BTreeMap::new();
     let totals = by_total(body).into_iter().filter(|_| missing);

@@ -61,7 +61,9 @@ fn find(bytes: &[u8], refused: usize) -> Option<Shift> {
     let mut tries = places.flat_map(|place| candidates.iter().map(move |by| (place, *by)));
     let found = tries.find(|(place, by)| in_order(bytes, (place * RECORD_BYTES).checked_add_signed(*by)));
     let found = found.map(|(place, by)| Shift { record: place + 1, by });
-    found.or_else(|| in_data(bytes, refused, &candidates)).filter(|shift| shift.by != 0)
+    // Data alone is little to go by: there only what the length is off by is tried.
+    let by_length = candidates.get(..2).unwrap_or(&candidates);
+    found.or_else(|| in_data(bytes, refused, by_length)).filter(|shift| shift.by != 0)
 }
 
 /// Whether records in order stand from a byte on: headers and items with their data; in an index c records.

@@ -121,6 +121,12 @@ impl Stated {
         }
     }
 
+    /// The least and the greatest count that the data records that it states can hold, if they hold any.
+    pub(crate) fn counts_for_records(&self) -> Option<(u64, u64)> {
+        let full = self.records.checked_sub(1).filter(|_| self.layout.is_some())?;
+        Some((full * self.a_record + 1, self.records * self.a_record))
+    }
+
     /// How many of its units stand in the data records before the n-th, from 0, and in so many columns of that one.
     pub(crate) fn units(&self, nth: u64, columns: usize) -> u64 {
         nth.saturating_mul(self.a_record) + columns.checked_div(self.columns).unwrap_or(0) as u64
