@@ -1,5 +1,5 @@
 //! `make install`: the library, header and pkg-config file go where other programs find them, a C program links both ways,
-//! and one version is said everywhere. Nothing here proves or builds anew: the archive is there, and a stand-in takes the place
+//! and one version is said everywhere. Nothing here proves or builds anew: the archive is there, and stand-ins take the places
 //! of the tool and of the program dm.
 
 mod c;
@@ -8,20 +8,30 @@ use std::collections::BTreeSet;
 use std::os::unix::fs::PermissionsExt;
 use std::path::Path;
 
-/// An installation in a folder of its own. The stand-in counts the bytes that it reads, in the form of the program's answer.
+/// An installation in a folder of its own. Stand-ins for the tool and the program dm count the bytes that they read, in the
+/// form of the program's answer; rt and cargo are refused.
 struct Installed {
     folder: c::Folder,
-    stand_in: String,
+}
+
+/// A program of one shell command.
+fn script(path: &str, command: &str) {
+    std::fs::write(path, format!("#!/bin/sh\n{command}\n")).expect("a script");
+    std::fs::set_permissions(path, PermissionsExt::from_mode(0o755)).expect("a script that runs");
 }
 
 impl Installed {
     fn new(name: &str) -> Installed {
         let folder = c::Folder::new(name);
-        let stand_in = folder.path("stand-in");
-        std::fs::write(&stand_in, "#!/bin/sh\necho \"accepted $(wc -c) records 0 items\"\n").expect("a stand-in");
-        std::fs::set_permissions(&stand_in, PermissionsExt::from_mode(0o755)).expect("a stand-in that runs");
-        let installed = Installed { folder, stand_in };
-        installed.make(&["install"], "");
+        std::fs::create_dir(folder.path("refusing")).expect("a folder");
+        for name in ["refusing/rt", "refusing/cargo"] {
+            script(&folder.path(name), "exit 1");
+        }
+        for name in ["dmtool", "dm"] {
+            script(&folder.path(name), "echo \"accepted $(wc -c) records 0 items\"");
+        }
+        let installed = Installed { folder };
+        installed.make(&["install"]);
         installed
     }
 
@@ -29,20 +39,20 @@ impl Installed {
         self.folder.path("prefix")
     }
 
-    /// Runs make without rt and cargo, and answers what it printed.
-    fn make(&self, goals: &[&str], destination: &str) -> String {
+    /// Runs make without rt and cargo: goals, and variables set.
+    fn make(&self, words: &[&str]) {
         let set = [
             format!("PREFIX={}", self.prefix()),
-            format!("DESTDIR={destination}"),
             format!("BUILD={}", self.folder.path("build")),
-            format!("TOOL={}", self.stand_in),
-            format!("DM={}", self.stand_in),
+            format!("TOOL={}", self.folder.path("dmtool")),
+            format!("DM={}", self.folder.path("dm")),
             "SOURCES=".to_string(),
             "TOOL_SOURCES=".to_string(),
         ];
-        let words: Vec<&str> = goals.iter().copied().chain(set.iter().map(String::as_str)).collect();
-        // What make tells the makes that it runs is not for this one.
-        c::run("make", &words, &[("MAKEFLAGS", ""), ("MFLAGS", ""), ("MAKELEVEL", "")])
+        let words: Vec<&str> = set.iter().map(String::as_str).chain(words.iter().copied()).collect();
+        let path = format!("{}:{}", self.folder.path("refusing"), std::env::var("PATH").unwrap_or_default());
+        // What a make above this test tells the makes that it runs is not for this one.
+        c::run("make", &words, &[("MAKEFLAGS", ""), ("MFLAGS", ""), ("MAKELEVEL", ""), ("PATH", &path)]);
     }
 
     fn library(&self, name: &str) -> String {
@@ -118,9 +128,21 @@ fn a_program_links_the_shared_object_and_the_archive() {
     assert_eq!(c::run(&fixed, &[], &[("LD_LIBRARY_PATH", "")]), printed);
 }
 
+/// The archive with one more function in it, which is no call of the library.
+fn archive_with_another(folder: &c::Folder) -> String {
+    let (source, object, archive) = (folder.path("another.c"), folder.path("another.o"), folder.path("another.a"));
+    std::fs::write(&source, "int another(void);\nint another(void) { return 1; }\n").expect("a source");
+    c::run("gcc", &["-c", "-fPIC", &source, "-o", &object], &[]);
+    std::fs::copy(c::root().join(c::ARCHIVE), &archive).expect("the archive");
+    c::run("ar", &["r", &archive, &object], &[]);
+    archive
+}
+
 #[test]
 fn the_shared_object_shows_the_calls_of_the_header_and_nothing_else() {
     let installed = Installed::new("install_names");
+    let another = format!("ARCHIVE={}", archive_with_another(&installed.folder));
+    installed.make(&["install-library", &another, &format!("BUILD={}", installed.folder.path("with-another"))]);
     let shown = c::run("nm", &["-D", "--defined-only", &installed.library("libzvaigulta.so")], &[]);
     let shown: BTreeSet<&str> = shown.lines().filter_map(|line| line.rsplit(' ').next()).collect();
     let calls = c::calls();
@@ -160,7 +182,7 @@ fn installed_files_are_all_there_and_all_go() {
     // It stands alone: the sources are not there to build it from.
     let script = std::fs::read_to_string(format!("{prefix}/bin/dm")).expect("the script");
     assert!(!script.contains("rt check") && !script.contains("$root/crates"), "{script}");
-    installed.make(&["uninstall"], "");
+    installed.make(&["uninstall"]);
     assert_eq!(files(Path::new(&prefix)), BTreeSet::new());
 }
 
@@ -168,14 +190,14 @@ fn installed_files_are_all_there_and_all_go() {
 fn a_destination_stands_before_every_path_and_in_no_file() {
     let installed = Installed::new("install_destination");
     let destination = installed.folder.path("destination");
-    installed.make(&["install"], &destination);
+    installed.make(&["install", &format!("DESTDIR={destination}")]);
     let below = format!("{destination}{}", installed.prefix());
     assert_eq!(files(Path::new(&below)), expected());
     for name in ["lib/pkgconfig/zvaigulta.pc", "bin/dm"] {
         let text = std::fs::read_to_string(format!("{below}/{name}")).expect(name);
         assert!(text.contains(&installed.prefix()) && !text.contains(&destination), "{name}: {text}");
     }
-    installed.make(&["uninstall"], &destination);
+    installed.make(&["uninstall", &format!("DESTDIR={destination}")]);
     assert_eq!(files(Path::new(&destination)), BTreeSet::new());
     assert_eq!(files(Path::new(&installed.prefix())), expected(), "the other installation stays");
 }
