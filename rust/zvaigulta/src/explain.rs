@@ -173,7 +173,7 @@ fn level(bytes: &[u8], named: &Record, told: &mut Explanation) {
 #[cfg(test)]
 mod tests {
     use super::*;
-    use crate::{Counts, FileKind};
+    use crate::{Counts, FileKind, RECORD_BYTES};
     use reference::random::Random;
     use reference::sheets;
     use std::collections::BTreeMap;
@@ -221,5 +221,31 @@ mod tests {
             }
         }
         assert!((1..=10).all(|n| seen.get(&n).is_some_and(|count| *count > 20)), "{seen:?}");
+    }
+
+    /// Any bytes with any refusal, whether the judge gave it or not, are answered without a panic.
+    #[test]
+    fn any_bytes_and_any_refusal_are_answered() {
+        let mut r = Random(40);
+        for n in 0..20_000 {
+            let mut file = damaged(&mut r, n);
+            for _ in 0..r.below(200) {
+                let at = r.below(file.len() + 1);
+                let byte = if r.once_in(2) { *r.pick(b" -09HEGTMI1\r\n\0") } else { r.below(256) as u8 };
+                if let Some(old) = file.get_mut(at) {
+                    *old = byte;
+                }
+            }
+            let record = Some(r.below(file.len() / RECORD_BYTES + 3)).filter(|record| *record > 0 || n % 2 == 0);
+            let refusal = Refusal { reason: Reason::from_number(r.below(19) as u64), record };
+            let block = damaged(&mut r, n + 1);
+            let at = r.below(block.len() / RECORD_BYTES + 1) * RECORD_BYTES;
+            let place = *r.pick(&[0, 1, 7, file.len() / RECORD_BYTES, usize::MAX]);
+            explain(&file, refusal);
+            line(&file, refusal);
+            insertion(&file, place, &block[at..], refusal);
+            removal(&file, place, refusal);
+            way_up(&file, place, refusal);
+        }
     }
 }

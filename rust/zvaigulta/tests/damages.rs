@@ -9,7 +9,8 @@ use zvaigulta::explain::{explain, Explanation};
 use zvaigulta::layout::{HEADER, SHEET_B};
 use zvaigulta::{write_column, FileKind, Reason, RECORD_BYTES};
 
-/// A damage: its name, the damaged file, the refusal with its record (0 for none), words of the explanation, columns marked.
+/// A damage: its name, the damaged file, the refusal with its record (0 for none), words of the explanation (behind `not: ` words
+/// that must not stand there), columns marked.
 type Damage = (&'static str, fn() -> Vec<u8>, (u64, usize), &'static [&'static str], &'static [(usize, &'static str)]);
 
 /// Records of the body that are lost.
@@ -105,6 +106,13 @@ const LOST: &[Damage] = &[
         &[(2, "element count"), (2, "record count"), (19, "total"), (19, "point")],
     ),
     (
+        "the same, beside free text that starts like an item",
+        || without(with(sheet(), 17, 0, "E5 was the old code"), 22, 22),
+        (10, 2),
+        &["1 is missing", "not: record 17"],
+        &[(2, "element count"), (2, "record count"), (19, "total"), (19, "point")],
+    ),
+    (
         "a line with its data is lost",
         || without(sheet(), 8, 10),
         (10, 2),
@@ -136,6 +144,13 @@ const LOST: &[Damage] = &[
 
 /// Records that stand twice.
 const REPEATED: &[Damage] = &[
+    (
+        "a data record twice, all of it digits",
+        || twice(with(sheet(), 24, 0, &"1234567".repeat(12)), 24, 24),
+        (4, 26),
+        &["the grid at record 23 states 2 data records", "record 25 is the same as record 24", "not: only the type seems wrong"],
+        &[(26, "type"), (23, "records")],
+    ),
     (
         "a data record twice",
         || twice(sheet(), 9, 9),
@@ -551,6 +566,20 @@ const FORMS: &[Damage] = &[
     ("UTF-16 with a mark", || [&b"\xff\xfe"[..], &wide()].concat(), (1, 0), &["the byte order mark of UTF-16"], &[]),
     ("UTF-16 without a mark", || wide(), (2, 1), &["the file is in UTF-16"], &[(1, "type")]),
     ("EBCDIC", || ebcdic(), (2, 1), &["the file is in EBCDIC: it starts with \"M \" in that code"], &[(1, "type")]),
+    (
+        "EBCDIC behind the length of a tape record",
+        || [vec![0, 88, 0, 0], ebcdic()].concat(),
+        (1, 0),
+        &["the file is in EBCDIC: it starts with spaces and digits of that code"],
+        &[],
+    ),
+    (
+        "letters converted to UTF-8",
+        || shifted(sheet(), 1, 10, 4, "北町".as_bytes()),
+        (1, 0),
+        &["the file seems to be converted to UTF-8, in which its letters have other lengths"],
+        &[],
+    ),
     ("EBCDIC with a byte more", || [ebcdic(), vec![0x40]].concat(), (1, 0), &["the file is in EBCDIC"], &[]),
     (
         "an end-of-file mark",
@@ -843,7 +872,8 @@ fn every_damage_is_explained() {
         let said: Vec<&str> =
             explained.faults.iter().map(|fault| &fault.words).chain(&explained.notes).map(String::as_str).collect();
         for part in words {
-            assert!(said.iter().any(|said| said.contains(part)), "{name}: {part}: {explained:#?}");
+            let (part, due) = part.strip_prefix("not: ").map_or((*part, true), |part| (part, false));
+            assert_eq!(said.iter().any(|said| said.contains(part)), due, "{name}: {part}: {explained:#?}");
         }
         let is = |(record, column): (usize, &str)| explained.faults.iter().any(|f| (f.record, f.column) == (record, column));
         assert!(marked.iter().all(|at| is(*at)), "{name}: {explained:#?}");

@@ -111,9 +111,8 @@ fn longer_part(bytes: &[u8], named: &Record, told: &mut Explanation) -> bool {
 
 /// A record that is right but for its type.
 fn type_alone(named: &Record, told: &mut Explanation) -> bool {
-    let layouts = [&HEADER, &ELEMENT, &GRID_HEADER, &NET_HEADER];
-    let Some(layout) = layouts.into_iter().find(|layout| layout.fits(named.bytes)) else { return false };
-    told.notes.push(format!("the other columns read as {}'s: only the type seems wrong", with_article(layout.name)));
+    let Some(sort) = near::fits_but_for_type(named.bytes) else { return false };
+    told.notes.push(format!("the other columns read as {}'s: only the type seems wrong", with_article(sort.layout().name)));
     true
 }
 

@@ -54,7 +54,7 @@ pub fn way_up(sheet: &[u8], number: usize, refusal: Refusal) -> Vec<String> {
 fn sheet_refused(sheet: &[u8]) -> String {
     match FileKind::of(sheet) {
         FileKind::Index => "this is an index: items stand in sheets, it has none".to_string(),
-        FileKind::Sheet => "the sheet itself is refused: have that explained, and mend it first".to_string(),
+        FileKind::Sheet => "the sheet itself is refused, whatever the edit: it must be mended first".to_string(),
     }
 }
 

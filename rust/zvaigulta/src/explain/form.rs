@@ -7,7 +7,8 @@ use crate::{FileKind, MOST_RECORDS, RECORD_BYTES};
 
 /// The form that is recognised, and what to do about it. `refused` is the refused record, if the refusal names one.
 pub fn of(bytes: &[u8], refused: Option<usize>) -> Option<String> {
-    start(bytes).or_else(|| lines(bytes)).or_else(|| spaces_lost(bytes)).or_else(|| tail(bytes, refused))
+    let whole = || lines(bytes).or_else(|| spaces_lost(bytes)).or_else(|| utf_8(bytes));
+    start(bytes).or_else(whole).or_else(|| tail(bytes, refused))
 }
 
 /// By the first bytes.
@@ -23,9 +24,28 @@ fn start(bytes: &[u8]) -> Option<String> {
         }
         [0xd4, 0x40, ..] => ("the file is in EBCDIC: it starts with \"M \" in that code", "have it translated to ASCII"),
         [0xc9, 0x40, ..] => ("the file is in EBCDIC: it starts with \"I \" in that code", "have it translated to ASCII"),
+        _ if mostly_ebcdic(bytes) => {
+            ("the file is in EBCDIC: it starts with spaces and digits of that code", "have it translated to ASCII")
+        }
         _ => return None,
     };
     Some(format!("{seen}; {advice}"))
+}
+
+/// Whether two thirds of the first records are the spaces and digits of EBCDIC.
+fn mostly_ebcdic(bytes: &[u8]) -> bool {
+    let first = bytes.get(..5 * RECORD_BYTES).unwrap_or(bytes);
+    let ebcdic = first.iter().filter(|byte| matches!(byte, 0x40 | 0xf0..=0xf9)).count();
+    !first.is_empty() && ebcdic * 3 > first.len() * 2
+}
+
+/// Text of two bytes a letter (Shift JIS, EUC) that was converted to UTF-8, where most of those letters have three: with two for each the
+/// length would be whole records.
+fn utf_8(bytes: &[u8]) -> Option<String> {
+    let text = std::str::from_utf8(bytes).ok().filter(|text| !text.is_ascii() && text.len() % RECORD_BYTES != 0)?;
+    let before: usize = text.chars().map(|letter| if letter.is_ascii() { 1 } else { 2 }).sum();
+    let seems = "the file seems to be converted to UTF-8, in which its letters have other lengths; take it as it was before";
+    before.is_multiple_of(RECORD_BYTES).then(|| seems.to_string())
 }
 
 /// The line ends that text files have.

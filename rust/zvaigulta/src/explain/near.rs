@@ -1,11 +1,31 @@
 //! What stands near a record: data that reads as a header or item, the next header or item, padding.
 
-use crate::outline::{record, Record, Sort, Stated};
+use crate::layout::HEADER;
+use crate::outline::{natural, record, Record, Sort, Stated, COUNTS};
 use crate::RECORD_BYTES;
 
-/// The sort of a record that reads as a header or item: by its type, with every column well formed and inside its own range.
+/// The sort of a record that reads as a header or item, its type included.
 pub fn reads_as(record: &[u8]) -> Option<Sort> {
-    Sort::of(record).filter(|sort| record.len() == RECORD_BYTES && sort.layout().fits(record))
+    Sort::of(record).filter(|sort| fits(*sort, record))
+}
+
+/// Whether a record reads as a header or item but for its type: every column is well formed and inside its own range, and the level
+/// is one that there is.
+pub fn fits(sort: Sort, record: &[u8]) -> bool {
+    let level = sort.layout().value("level", record);
+    record.len() == RECORD_BYTES && sort.layout().fits(record) && level.is_some_and(|level| (1..=9).contains(&level))
+}
+
+/// The sort of a record that reads as a header or item with a wrong type. As the type does not tell, its counts must go together too:
+/// numbers of seven digits side by side fit many columns.
+pub fn fits_but_for_type(record: &[u8]) -> Option<Sort> {
+    let together = |sort: Sort| match sort {
+        Sort::Header => {
+            natural(&HEADER, "total", record) == COUNTS.iter().map(|name| natural(&HEADER, name, record)).sum::<u64>()
+        }
+        item => Stated::of(item, record).records == Stated::of(item, record).needed,
+    };
+    [Sort::Header, Sort::Element(1), Sort::Grid, Sort::Net].into_iter().find(|sort| fits(*sort, record) && together(*sort))
 }
 
 /// The first record behind a number that reads as a header or item.
