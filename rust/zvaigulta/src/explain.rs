@@ -24,6 +24,7 @@ mod due;
 mod edits;
 mod first;
 mod form;
+mod index;
 mod joined;
 mod length;
 mod lost;
@@ -118,7 +119,7 @@ fn at_record(bytes: &[u8], named: &Record, reason: Reason, told: &mut Explanatio
         Reason::Level => level(bytes, named, told),
         Reason::DataRule => data::rule(bytes, named, told),
         Reason::Fraction => told.faults.extend(joined::fractions(bytes, named)),
-        Reason::Count => counts::differing(bytes, named, told),
+        Reason::Count => counts::differing(bytes, told),
         _ => {}
     }
     if !matches!(reason, Reason::RecordType | Reason::Malformed | Reason::OutsideRange | Reason::Level | Reason::DataRule) {

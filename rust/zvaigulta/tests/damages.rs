@@ -213,6 +213,13 @@ const PARTS: &[Damage] = &[
         &[(2, "lower left X"), (2, "unit")],
     ),
     (
+        "record a twice",
+        || twice(sheet(), 1, 1),
+        (5, 2),
+        &["record 2 is the same as record 1 before it: take it out"],
+        &[(2, "lower left X")],
+    ),
+    (
         "record c is lost",
         || without(sheet(), 3, 3),
         (5, 4),
@@ -639,6 +646,27 @@ const FORMS: &[Damage] = &[
     ),
     ("the file is empty", || Vec::new(), (1, 0), &["copy the file again"], &[]),
     ("the file is one word", || b"M ".to_vec(), (1, 0), &["the file is shorter than one record"], &[]),
+    (
+        "a packed file",
+        || [&b"PK\x03\x04"[..], &sheet()].concat(),
+        (1, 0),
+        &["the file is packed (ZIP or GZIP); unpack it first"],
+        &[],
+    ),
+    (
+        "two sheets one behind the other",
+        || [sheet(), sheet()].concat(),
+        (4, 29),
+        &["record 29 starts a sheet of its own: divide the file before it"],
+        &[(29, "type")],
+    ),
+    (
+        "a sheet behind an index",
+        || [index(), sheet()].concat(),
+        (10, 1),
+        &["record 6 starts a sheet of its own: divide the file before it", "the index states 5 records, 33 are there"],
+        &[(1, "c records")],
+    ),
     ("a text", || b"Dear colleague, ".repeat(21), (2, 1), &["this is neither a sheet nor an index"], &[(1, "type")]),
     (
         "a byte before the first record",
@@ -686,6 +714,16 @@ const SHIFTS: &[Damage] = &[
         &[(16, "type")],
     ),
     (
+        "a fill of NUL bytes behind each ten records",
+        || sheet().chunks(840).flat_map(|block| [block, &[0; 184][..(block.len() / 840) * 184]].concat()).collect(),
+        (1, 0),
+        &[
+            "the bytes seem to shift at record 11 or shortly before it: from record 13 on the file reads in order 16 bytes later",
+            "look at byte 1 of record 11: 184 NUL bytes",
+        ],
+        &[(11, "type")],
+    ),
+    (
         "a byte lost in data",
         || shifted(sheet(), 9, 20, 1, b""),
         (1, 0),
@@ -706,7 +744,7 @@ const SHIFTS: &[Damage] = &[
         "a line end in the middle",
         || shifted(sheet(), 16, 0, 0, b"\n"),
         (1, 0),
-        &["from record 16 on the file reads in order 1 byte later", "byte 1 of record 16 is a line end"],
+        &["from record 16 on the file reads in order 1 byte later", "look at byte 1 of record 16: a line end"],
         &[(16, "type")],
     ),
     (
@@ -755,7 +793,7 @@ const INDEXES: &[Damage] = &[
         "a b record is lost",
         || without(index(), 3, 3),
         (3, 1),
-        &["the index states 5 records, 4 are there: 1 is missing", "where index c is due as record 5"],
+        &["4 are there: 1 is missing", "record 3 reads as index c, where index b is due: a b record may be lost before it"],
         &[(1, "b records"), (1, "c records")],
     ),
     (

@@ -1,9 +1,10 @@
 //! 10: what the sheet, its headers or an index state, against what the file holds.
 
 use super::body::Body;
-use super::{fault, form, lost, Explanation, Fault};
-use crate::layout::{Layout, HEADER, INDEX_A, SHEET_B};
+use super::{fault, index, lost, Explanation, Fault};
+use crate::layout::{Layout, HEADER, SHEET_B};
 use crate::outline::{natural, part, record, Record, Sort, COUNTS};
+use crate::text::number_of;
 use crate::{FileKind, RECORD_BYTES};
 
 /// The most columns that are listed.
@@ -49,8 +50,8 @@ impl Records {
     pub fn words(&self) -> String {
         let parts = format!("{} of the sheet part and {} behind it", self.part, self.behind);
         let states = match self.kind {
-            FileKind::Sheet => format!("the sheet states {} records ({parts})", self.stated()),
-            FileKind::Index => format!("the index states {} records", self.stated()),
+            FileKind::Sheet => format!("the sheet states {} ({parts})", number_of(self.stated(), "record")),
+            FileKind::Index => format!("the index states {}", number_of(self.stated(), "record")),
         };
         let differ = match (self.missing(), self.too_many()) {
             (0, 0) => return format!("{states}, and as many are there"),
@@ -59,30 +60,21 @@ impl Records {
             (1, _) => "1 is missing".to_string(),
             (n, _) => format!("{n} are missing"),
         };
-        format!("{states}, {} are there: {differ}", self.there)
+        let there = if self.there == 1 { "1 is there".to_string() } else { format!("{} are there", self.there) };
+        format!("{states}, {there}: {differ}")
     }
 }
 
 /// Every count that differs, and what that may mean.
-pub fn differing(bytes: &[u8], named: &Record, told: &mut Explanation) {
+pub fn differing(bytes: &[u8], told: &mut Explanation) {
     told.notes.extend(Records::of(bytes).map(|records| records.words()));
     match FileKind::of(bytes) {
         FileKind::Sheet => sheet(bytes, told),
-        FileKind::Index => index(bytes, named, told),
+        FileKind::Index => {
+            told.faults.extend(index::stated(bytes));
+            told.notes.push(index::left_over(bytes));
+        }
     }
-}
-
-/// The left-over records of an index.
-fn index(bytes: &[u8], named: &Record, told: &mut Explanation) {
-    let (due, there) = (part(bytes).len(), bytes.len() / RECORD_BYTES);
-    for column in ["b records", "c records"] {
-        let words =
-            format!("states {}; {due} records are due in all, the file has {there}", natural(&INDEX_A, column, named.bytes));
-        told.faults.push(fault(named.number, column, words));
-    }
-    let left = if due + 1 == there { format!("record {there}") } else { format!("records {} to {there}", due + 1) };
-    let look = format!("look at {left}, behind what is stated: take out what does not belong there, or mend the counts");
-    told.notes.push(form::blank_end(bytes, due + 1).unwrap_or(look));
 }
 
 /// The counts of a sheet and of all its headers.

@@ -1,7 +1,7 @@
 //! 3, 4 and 5: a record that is not what is due where it stands, and the column before it that may say so wrongly.
 
 use super::counts::Records;
-use super::{fault, form, near, own, Explanation, Fault};
+use super::{fault, form, index, near, own, Explanation, Fault};
 use crate::layout::*;
 use crate::outline::{natural, part, record, Outline, Record, Sort, Stated, What};
 use crate::text::{number_of, quoted, with_article};
@@ -32,23 +32,18 @@ fn missing_data(bytes: &[u8], named: &Record, sort: Sort, told: &mut Explanation
 
 /// The column that states how many records of a sheet part or an index there are, and the record that is due next.
 fn missing_part(bytes: &[u8], told: &mut Explanation) {
-    let due = part(bytes);
-    let there = bytes.len() / RECORD_BYTES;
+    if FileKind::of(bytes) == FileKind::Index {
+        told.faults.extend(index::stated(bytes));
+        told.notes.push(index::missing(bytes));
+        return;
+    }
+    let (due, there) = (part(bytes), bytes.len() / RECORD_BYTES);
     let next = due.get(there).map_or("", |layout| layout.name);
     told.notes.push(format!("the file ends after record {there}, where {next} is due as record {}", there + 1));
-    let a = record(bytes, 1);
-    match FileKind::of(bytes) {
-        FileKind::Sheet => {
-            let revisions = natural(&SHEET_A, "revisions", a);
-            let words = format!("states {revisions}: the sheet part has {} records, the file {there}", due.len());
-            told.faults.push(fault(1, "revisions", words));
-            told.faults.extend(due.get(there).filter(|layout| **layout == &SHEET_F).and_then(|_| f_records(bytes, &due, there)));
-        }
-        FileKind::Index => told.faults.extend(["b records", "c records"].map(|column| {
-            let states = natural(&INDEX_A, column, a);
-            fault(1, column, format!("states {states}; {} records are due in all, the file has {there}", due.len()))
-        })),
-    }
+    let revisions = natural(&SHEET_A, "revisions", record(bytes, 1));
+    let words = format!("states {revisions}: the sheet part has {} records, the file {there}", due.len());
+    told.faults.push(fault(1, "revisions", words));
+    told.faults.extend(due.get(there).filter(|layout| **layout == &SHEET_F).and_then(|_| f_records(bytes, &due, there)));
 }
 
 /// The f records that the last d record before a place states.
@@ -78,8 +73,8 @@ fn lost_data(item: &Record, (number, sort): (usize, Sort), told: &mut Explanatio
 pub fn record_type(bytes: &[u8], named: &Record, told: &mut Explanation) {
     let kind = quoted(named.bytes.get(..2).unwrap_or(&[]));
     told.faults.push(fault(named.number, "type", format!("is {kind}, none of \"H \", \"E1\" to \"E8\", \"G \", \"T \"")));
-    if let Some(blank) = form::blank_end(bytes, named.number) {
-        told.notes.push(blank);
+    if let Some(other) = form::blank_end(bytes, named.number).or_else(|| near::file_start(bytes, named.number)) {
+        told.notes.push(other);
     } else if !longer_part(bytes, named, told) && !type_alone(named, told) {
         item_before(bytes, named, told);
     }
@@ -190,6 +185,10 @@ fn short_data(named: &Record, item: &Record, told: &mut Explanation) {
 fn other_part(bytes: &[u8], named: &Record, told: &mut Explanation) {
     let due = named.layout.map_or("", |layout| layout.name);
     let number = named.number;
+    if let Some(start) = near::file_start(bytes, number).filter(|_| number > 1) {
+        told.notes.push(start);
+        return;
+    }
     if near::reads_as(named.bytes) == Some(Sort::Header) {
         told.notes.push(format!(
             "record {number} is a header, where {due} is due: the sheet part is shorter than stated, or a record of it is lost"

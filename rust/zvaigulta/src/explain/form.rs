@@ -24,6 +24,7 @@ fn start(bytes: &[u8]) -> Option<String> {
         }
         [0xd4, 0x40, ..] => ("the file is in EBCDIC: it starts with \"M \" in that code", "have it translated to ASCII"),
         [0xc9, 0x40, ..] => ("the file is in EBCDIC: it starts with \"I \" in that code", "have it translated to ASCII"),
+        [b'P', b'K', 3, 4, ..] | [0x1f, 0x8b, ..] => ("the file is packed (ZIP or GZIP)", "unpack it first"),
         _ if mostly_ebcdic(bytes) => {
             ("the file is in EBCDIC: it starts with spaces and digits of that code", "have it translated to ASCII")
         }

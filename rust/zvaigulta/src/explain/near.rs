@@ -1,6 +1,6 @@
 //! What stands near a record: data that reads as a header or item, the next header or item, padding.
 
-use crate::layout::HEADER;
+use crate::layout::{HEADER, INDEX_A, SHEET_A};
 use crate::outline::{natural, record, Record, Sort, Stated, COUNTS};
 use crate::RECORD_BYTES;
 
@@ -45,6 +45,20 @@ pub fn hidden(bytes: &[u8], item: &Record) -> Option<(usize, Sort)> {
 pub fn following(bytes: &[u8], item: &Record) -> usize {
     let records = bytes.len() / RECORD_BYTES;
     next(bytes, item.number).map_or(records, |(number, _)| number - 1).saturating_sub(item.number)
+}
+
+/// That a record is the first of another file: files put one behind the other.
+pub fn file_start(bytes: &[u8], number: usize) -> Option<String> {
+    let first = record(bytes, number);
+    let (what, layout) = match first.get(..2)? {
+        b"M " => ("a sheet", &SHEET_A),
+        b"I " => ("an index", &INDEX_A),
+        _ => return None,
+    };
+    if number > 1 && first == record(bytes, number - 1) {
+        return Some(format!("record {number} is the same as record {} before it: take it out", number - 1));
+    }
+    layout.fits(first).then(|| format!("record {number} starts {what} of its own: divide the file before it"))
 }
 
 /// Whether every record from a number on is filled with one byte alone.

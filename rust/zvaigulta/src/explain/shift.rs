@@ -7,7 +7,7 @@ use crate::text::{number_of, quoted};
 use crate::{FileKind, RECORD_BYTES};
 
 /// How many records must read in order, where so many are left.
-const IN_ORDER: usize = 12;
+const IN_ORDER: usize = 6;
 
 /// How many bytes may be lost or too many, where the file's length does not tell.
 const MOST_BYTES: isize = 4;
@@ -33,30 +33,41 @@ pub fn words(bytes: &[u8], refused: usize) -> Option<String> {
     Some(format!("the bytes seem to shift at record {refused} or shortly before it: {again}, so {count} {cause} there{stray}"))
 }
 
-/// A control byte among the records at which the bytes shift.
-fn stray(bytes: &[u8], refused: usize, until: usize) -> Option<String> {
+/// The first byte among the records at which the bytes shift that is a control character.
+fn control(bytes: &[u8], refused: usize, until: usize) -> Option<usize> {
     let from = refused.saturating_sub(2) * RECORD_BYTES;
     let region = bytes.get(from..(until * RECORD_BYTES).min(bytes.len()))?;
-    let place = from + region.iter().position(|byte| *byte < b' ')?;
-    let byte = match bytes.get(place)? {
-        b'\r' | b'\n' => "a line end".to_string(),
-        other => quoted(&[*other]),
-    };
-    Some(format!("; byte {} of record {} is {byte}", place % RECORD_BYTES + 1, place / RECORD_BYTES + 1))
+    Some(from + region.iter().position(|byte| *byte < b' ')?)
 }
 
-/// By how many bytes the records may have shifted, the likeliest first: none, what the length is off by, a few.
-fn candidates(bytes: &[u8]) -> Vec<isize> {
+/// That byte, and those like it behind it, in words.
+fn stray(bytes: &[u8], refused: usize, until: usize) -> Option<String> {
+    let place = control(bytes, refused, until)?;
+    let first = *bytes.get(place)?;
+    let alike = bytes.get(place..)?.iter().take_while(|byte| **byte == first).count();
+    let what = match first {
+        b'\r' | b'\n' => "a line end".to_string(),
+        0 => number_of(alike as u64, "NUL byte"),
+        other => format!("the byte {}", quoted(&[other])),
+    };
+    Some(format!("; look at byte {} of record {}: {what}", place % RECORD_BYTES + 1, place / RECORD_BYTES + 1))
+}
+
+/// By how many bytes the records may have shifted, the likeliest first: none, what the length is off by, as many as there are control
+/// characters side by side (the fill of a tape block), a few.
+fn candidates(bytes: &[u8], refused: usize) -> Vec<isize> {
+    let fill = control(bytes, refused, refused + 1).and_then(|place| bytes.get(place..)).unwrap_or(&[]);
+    let fill = (fill.iter().take_while(|byte| **byte < b' ').count() % RECORD_BYTES) as isize;
     let odd = (bytes.len() % RECORD_BYTES) as isize;
     let by_length = if odd * 2 > RECORD_BYTES as isize { odd - RECORD_BYTES as isize } else { odd };
     // In an index the columns are too few to tell a shift without the length.
     let few = (1..=MOST_BYTES).flat_map(|n| [n, -n]).filter(|_| FileKind::of(bytes) == FileKind::Sheet);
-    [0, by_length].into_iter().chain(few).collect()
+    [0, by_length, fill].into_iter().chain(few).collect()
 }
 
 /// The first record from the refused one on that reads in order at some shift; none where that is no shift at all.
 fn find(bytes: &[u8], refused: usize) -> Option<Shift> {
-    let candidates = candidates(bytes);
+    let candidates = candidates(bytes, refused);
     let places = refused.saturating_sub(1)..bytes.len() / RECORD_BYTES + 1;
     let mut tries = places.flat_map(|place| candidates.iter().map(move |by| (place, *by)));
     let found = tries.find(|(place, by)| in_order(bytes, (place * RECORD_BYTES).checked_add_signed(*by)));
