@@ -21,9 +21,9 @@ use Rattle.c_interface.specs.declared.ZvCounts.{ZvCounts}
 use Rattle.c_interface.specs.declared.ZvLength.{ZvLength}
 use Rattle.c_interface.specs.declared.ZvColumn.{ZvColumn}
 use Rattle.format.specs.Layout.{Col}
-use Rattle.words.specs.declared.Described.{Described}
-use Rattle.words.specs.declared.Described.the-variants as Described
-use Rattle.words.specs.Words.{refusalTo, layoutColumn, describedOf, nameTo}
+use Rattle.format_words.specs.declared.Described.{Described}
+use Rattle.format_words.specs.declared.Described.the-variants as Described
+use Rattle.format_words.specs.Words.{refusalTo, layoutColumn, describedOf, nameTo}
 use Rattle.c_interface.specs.Interface.{numberOf, cornerOf, countsOf, lengthOf, wayOf, columnOf, Numbered, answers, refuses, WayNumbered, hasNone, hasHeader, refusesWay}
 use Rattle.c_interface.proofs.Numbered.{column-read, column-written, joined, parted, judged-sheet, judged-index, way-numbered, sheet-written, index-written, line-written, refusal-written, column-found, name-written, edited}
 

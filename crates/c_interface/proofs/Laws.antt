@@ -32,8 +32,8 @@ use Rattle.c_interface.specs.declared.ZvCorner.{ZvCorner}
 use Rattle.c_interface.specs.declared.ZvCounts.{ZvCounts}
 use Rattle.c_interface.specs.declared.ZvLength.{ZvLength}
 use Rattle.c_interface.specs.declared.ZvColumn.{ZvColumn}
-use Rattle.words.specs.declared.Described.{Described}
-use Rattle.words.specs.declared.Described.the-variants as Described
+use Rattle.format_words.specs.declared.Described.{Described}
+use Rattle.format_words.specs.declared.Described.the-variants as Described
 use Rattle.c_interface.specs.Interface.{numberOf, cornerOf, countsOf, lengthOf, wayOf, columnOf, Wrote, wroteOf, editedOf}
 
 pub is-number : {a : Number} {v z : ℤ} → a ≡ Number.Is v → z ≡ v → _≡_ {A = ZvNumber} (record { refusal = 0; at = 0; value = z }) (numberOf (numberAnswer a))

@@ -29,7 +29,7 @@ use Rattle.format.specs.Normal.{normalTo, normalSheetRecords, normalIndexRecord
 use Rattle.format.specs.Program.{printed, lineTo, reportTo}
 use Rattle.format.specs.Text.{bytes}
 use Rattle.format.specs.Layout.{Col, layouts}
-use Rattle.words.specs.Words.{fromZero, entry, refusals, textTo, refusalTo, columnIn, layoutColumn, nameOf, nameTo}
+use Rattle.format_words.specs.Words.{fromZero, entry, refusals, textTo, refusalTo, columnIn, layoutColumn, nameOf, nameTo}
 use Rattle.c_interface.specs.Interface.{Numbered, answers, refuses, WayNumbered, hasNone, hasHeader, refusesWay}
 
 -- what holds of both sides of a test holds of what it chooses

@@ -7,8 +7,8 @@ use Rattle.format.specs.Corner.{Corner}
 use Rattle.format.specs.Judge.{Counts}
 use Rattle.format.specs.Above.{Way, noHeader, toHeader}
 use Rattle.format.specs.Run.{Step}
-use Rattle.words.specs.declared.Described.{Described}
-use Rattle.words.specs.declared.Described.the-variants as Described
+use Rattle.format_words.specs.declared.Described.{Described}
+use Rattle.format_words.specs.declared.Described.the-variants as Described
 use Rattle.c_interface.specs.declared.ZvWay.{ZvWay}
 use Rattle.c_interface.specs.declared.ZvNumber.{ZvNumber}
 use Rattle.c_interface.specs.declared.ZvCorner.{ZvCorner}

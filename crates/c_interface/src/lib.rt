@@ -12,7 +12,7 @@ ghost use Rattle.format.specs.Run.{call};
 ghost use Rattle.format.specs.Normal.{normalSheet, normalIndex};
 ghost use Rattle.format.specs.Answers.{numberAnswer, writtenAnswer, partsAnswer, judgedAnswer, wayUpAnswer, editedAnswer};
 ghost use Rattle.format.specs.Program.{reportTo};
-ghost use Rattle.words.specs.Words.{refusalTo, layoutColumn, describedOf, nameTo};
+ghost use Rattle.format_words.specs.Words.{refusalTo, layoutColumn, describedOf, nameTo};
 ghost use Rattle.c_interface.specs.Interface.{version, numberOf, cornerOf, countsOf, lengthOf, wayOf, columnOf, wroteOf, editedOf};
 use format::Edited;
 use format::Judged;
@@ -20,7 +20,7 @@ use format::Number;
 use format::Parts;
 use format::WayUp;
 use format::Written;
-use words::Described;
+use format_words::Described;
 
 // The version: 10,000 times the major number, 100 times the minor one, and the patch.
 const VERSION: u64 = 200;

@@ -18,9 +18,9 @@ use Rattle.files.proofs.Buffers.{put-there}
 use Rattle.columns.specs.InRecord.{columnAt, numberIn}
 use Rattle.format.specs.Column.{integer, columnOf, strip, signed, positive, isNumber, allDigits, isDigit}
 use Rattle.format.specs.Layout.{Col, column, layouts}
-use Rattle.words.specs.Words.{fromZero, entry, columnIn, layoutColumn, describedOf, nameTo}
-use Rattle.words.specs.declared.Described.{Described}
-use Rattle.words.specs.declared.Described.the-variants as Described
+use Rattle.format_words.specs.Words.{fromZero, entry, columnIn, layoutColumn, describedOf, nameTo}
+use Rattle.format_words.specs.declared.Described.{Described}
+use Rattle.format_words.specs.declared.Described.the-variants as Described
 use Rattle.words.specs.Rows.{cut, noRow, rowFrom, rowOf, Told, told, toldOf, described, nameLength, nameIn, nameBytes}
 
 -- ---- a row by its number

@@ -14,7 +14,7 @@ use Rattle.format.specs.Text.{bytes}
 use Rattle.format.specs.Program.{lineTo}
 use Rattle.format.specs.Answers.{writtenAnswer}
 use Rattle.format.specs.declared.Written.the-variants as Written
-use Rattle.words.specs.Words.{fromZero, entry, refusals, refusalTo}
+use Rattle.format_words.specs.Words.{fromZero, entry, refusals, refusalTo}
 
 -- ---- a number that is none of a `match`'s, which are 1, 2, 3 and so on, has no entry
 

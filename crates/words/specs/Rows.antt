@@ -9,9 +9,9 @@ use Rattle.format.specs.Text.{bytes}
 use Rattle.format.specs.Column.{integer}
 use Rattle.format.specs.Layout.{Col}
 use Rattle.columns.specs.InRecord.{columnAt, numberIn}
-use Rattle.words.specs.Words.{entry, describedOf}
-use Rattle.words.specs.declared.Described.{Described}
-use Rattle.words.specs.declared.Described.the-variants as Described
+use Rattle.format_words.specs.Words.{entry, describedOf}
+use Rattle.format_words.specs.declared.Described.{Described}
+use Rattle.format_words.specs.declared.Described.the-variants as Described
 
 -- the first n rows of a table
 abbrev pub cut : ℕ → List ℕ → List (List ℕ)

@@ -1,9 +1,10 @@
 // Words and tables for programs that show a file: what each refusal says, and each column of the nineteen layouts by its numbers.
 ghost use mathlib.Core.Path.{_≡_};
 ghost use Rattle.format.specs.Answers.{writtenAnswer};
-ghost use Rattle.words.specs.Words.{refusalTo, layoutColumn, nameTo, describedOf};
+ghost use Rattle.format_words.specs.Words.{refusalTo, layoutColumn, nameTo, describedOf};
 ghost use Rattle.words.specs.Rows.{rowOf, told, toldOf, described};
 use format::Written;
+use format_words::Described;
 
 mod refusals;
 mod tables;
@@ -12,12 +13,6 @@ mod tables;
 type Row = [u8; 45];
 
 const ROW_BYTES: usize = 45;
-
-// A column of a layout: start and width, in bytes, the letter for what may stand in it, and the least and the greatest number that it may hold.
-pub enum Described {
-    Column(usize, usize, u8, i64, i64),
-    Refused(u8, usize),
-}
 
 // The words of a refusal, put at the start of a buffer: 15 where it has no room for them, 16 for a number that is not 1 to 17.
 pub fn refusal_text(number: u64, out: &mut [u8]) -> Written

@@ -5,7 +5,7 @@ use Rattle.format.specs.Text.{bytes}
 use Rattle.format.specs.Column.{columnOf, strip, signed, negative, positive, isNumber, allDigits, isDigit, valueOf}
 use Rattle.format.specs.Layout.{column, layouts, nineteen, indexA, indexB, indexC, sheetA, sheetB, sheetC, sheetD, sheetE, sheetF, header, element, gridHeader, netHeader, data3D, data2D, dataNote, dataAttribute, dataGrid, dataNet}
 use Rattle.columns.specs.InRecord.{columnAt, numberIn}
-use Rattle.words.specs.Words.{entry, describedOf}
+use Rattle.format_words.specs.Words.{entry, describedOf}
 use Rattle.words.specs.Rows.{told, toldOf, described, nameLength, nameIn}
 use Rattle.words.proofs.Texts.{outside}
 use Rattle.words.proofs.RowLaws.{tells, no-layout}

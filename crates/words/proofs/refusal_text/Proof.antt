@@ -2,7 +2,7 @@
 use mathlib.Core.Path.{refl}
 use borrow.Author.Needs.{needs}
 use Rattle.format.specs.Text.{bytes}
-use Rattle.words.specs.Words.{entry, refusals}
+use Rattle.format_words.specs.Words.{entry, refusals}
 use Rattle.words.proofs.Texts.{said, not-said, outside}
 use Rattle.words.proofs.refusal_text.Statement.{statement}
 use Rattle.words.proofs.refusal_text.Tie as tie

@@ -7,8 +7,8 @@ use Rattle.format.specs.Text.{bytes}
 use Rattle.format.specs.Program.{lineTo}
 use Rattle.format.specs.Layout.{Rule, anySign, atLeast, range, within, oneOf, What, text, blank, integral, integralOrSpaces, Col, layouts}
 use Rattle.layouts.specs.Tables.{lowIn, highIn}
-use Rattle.words.specs.declared.Described.{Described}
-use Rattle.words.specs.declared.Described.the-variants as Described
+use Rattle.format_words.specs.declared.Described.{Described}
+use Rattle.format_words.specs.declared.Described.the-variants as Described
 
 -- entry n of a list, numbered from 1; a number that has none is not allowed, 16 at record 0
 abbrev pub fromZero : {A : Type 0} → ℕ → List A → Answer A
