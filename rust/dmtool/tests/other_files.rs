@@ -174,19 +174,20 @@ fn a_file_with_several_names_is_not_split() {
     assert_eq!(f.run(&["remove", "sheet.dm", "7"]).status, Some(0));
 }
 
-/// A device, a pipe or standard output by its name is written; the answer of an edit does not stand among the bytes.
+/// A pipe, or standard output by a link as `/dev/stdout` is one, is written and stays what it is; the answer of an edit does
+/// not stand among the bytes. The link is the test's own: a faulty tool that is run by a privileged user would replace the
+/// system's.
 #[test]
-fn devices_pipes_and_standard_output() {
-    let f = Folder::new("devices");
+fn pipes_and_standard_output() {
+    let f = Folder::new("pipes");
     f.put("sheet.dm", &good());
-    assert_eq!(f.run(&["remove", "sheet.dm", "7", "-o", "/dev/null"]).status, Some(0));
-    assert_eq!(
-        f.run(&["remove", "sheet.dm", "7", "-o", "/dev/stdout"]).seen(),
-        (Some(0), String::from_utf8(removed()).unwrap(), true)
-    );
-    let script = "exec \"$0\" remove sheet.dm 7 -o /dev/stdout > to.dm";
+    symlink("/proc/self/fd/1", f.0.join("stdout")).unwrap();
+    let to_link = ["remove", "sheet.dm", "7", "-o", "stdout"];
+    assert_eq!(f.run(&to_link).seen(), (Some(0), String::from_utf8(removed()).unwrap(), true));
+    let script = "exec \"$0\" remove sheet.dm 7 -o stdout > to.dm";
     let ran = run(Command::new("sh").args(["-c", script, env!("CARGO_BIN_EXE_dmtool")]).current_dir(&f.0), b"");
     assert_eq!((ran.status, f.get("to.dm")), (Some(0), removed()), "{}", ran.err);
+    assert_eq!(fs::read_link(f.0.join("stdout")).unwrap().to_str(), Some("/proc/self/fd/1"));
     let made = Command::new("mkfifo").arg(f.0.join("pipe")).status().expect("this test needs mkfifo");
     assert!(made.success());
     let reader = thread::spawn({

@@ -4,7 +4,7 @@ mod support;
 
 use std::ffi::CStr;
 use std::fs::{self, Permissions};
-use std::os::unix::fs::{chown, MetadataExt, PermissionsExt};
+use std::os::unix::fs::{chown, FileTypeExt, MetadataExt, PermissionsExt};
 use std::os::unix::process::CommandExt;
 use std::process::Command;
 use support::fault::Faults;
@@ -169,6 +169,20 @@ fn attributes_stay() {
     }
     assert_eq!(f.run(&["remove", "sheet.dm", "7"]).status, Some(0));
     assert_eq!((attributes::get(&sheet, LIST), owner(&f, "sheet.dm").2), (None, 0o600));
+}
+
+/// Devices are written as they are. A plain user runs this: a faulty tool cannot replace them then.
+#[test]
+fn devices() {
+    let f = shared("devices");
+    f.put("sheet.dm", &good());
+    for (device, status) in [("/dev/null", 0), ("/dev/full", 2)] {
+        let ran = run_plain(&f, &["remove", "sheet.dm", "7", "-o", device]);
+        assert_eq!(ran.status, Some(status), "{}", ran.err);
+        assert!(ran.err.starts_with(&format!("dmtool: {device}: it could not be written: ")) == (status == 2), "{}", ran.err);
+        assert!(fs::metadata(device).unwrap().file_type().is_char_device());
+    }
+    assert!(f.get("sheet.dm") == good());
 }
 
 /// A disk that is mounted read-only, full, or over its quota, in words.
