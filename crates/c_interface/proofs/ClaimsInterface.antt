@@ -1,8 +1,9 @@
 -- Claims: every refusal of the interface has a number of at least 1 and every header that it answers a record number of at least 1, so that a struct with
--- `refusal` 0 is an answer and one with `header` 0 is none; and two answers with the same struct are the same. A C program loses nothing. Assumes nothing.
+-- `refusal` 0 is an answer and one with `header` 0 is none; and two answers with the same struct are the same. A C program loses nothing.
+-- And the header's rooms for texts are enough. Assumes nothing.
 use mathlib.Core.Path.{_≡_, refl, ap, ap₂}
 use mathlib.Core.List.{List}
-use Prim.Native.Nat.{ℕ, suc}
+use Prim.Native.Nat.{ℕ, suc, _≤_}
 use native.Mathlib.Omega.{arith}
 use lib.IntN.{ℤ}
 use Rattle.format.specs.Basics.{Answer, given, refused}
@@ -25,6 +26,8 @@ use Rattle.format_words.specs.declared.Described.{Described}
 use Rattle.format_words.specs.declared.Described.the-variants as Described
 use Rattle.format_words.specs.Words.{refusalTo, layoutColumn, describedOf, nameTo}
 use Rattle.c_interface.specs.Interface.{numberOf, cornerOf, countsOf, lengthOf, wayOf, columnOf, Numbered, answers, refuses, WayNumbered, hasNone, hasHeader, refusesWay}
+use lib.ListN.{length}
+use Rattle.c_interface.proofs.Rooms.{line-has-room, refusal-has-room, name-has-room}
 use Rattle.c_interface.proofs.Numbered.{column-read, column-written, joined, parted, judged-sheet, judged-index, way-numbered, sheet-written, index-written, line-written, refusal-written, column-found, name-written, edited}
 
 -- ---- what the calls answer
@@ -69,6 +72,16 @@ layout-column-numbered = column-found
 
 pub column-name-numbered : (layout column : ℕ) (out : List ℕ) → Numbered ((nameTo (layoutColumn layout column) out) .answer)
 column-name-numbered = name-written
+
+-- ---- "always enough" of the header: 65, 90 and 18 bytes are ZV_LINE_BYTES, ZV_TEXT_BYTES and ZV_NAME_BYTES
+pub report-has-room : (input out : List ℕ) → 65 ≤ length out → (reportTo input out) .answer ≡ refused 15 0 → ⊥
+report-has-room = line-has-room
+
+pub refusal-text-has-room : (number : ℕ) (out : List ℕ) → 90 ≤ length out → (refusalTo number out) .answer ≡ refused 15 0 → ⊥
+refusal-text-has-room = refusal-has-room
+
+pub column-name-has-room : (layout column : ℕ) (out : List ℕ) → 18 ≤ length out → (nameTo (layoutColumn layout column) out) .answer ≡ refused 15 0 → ⊥
+column-name-has-room = name-has-room
 
 -- ---- two of these with the same struct are the same
 pub number-tells : {a b : Answer ℤ} → Numbered a → Numbered b → numberOf a ≡ numberOf b → a ≡ b
