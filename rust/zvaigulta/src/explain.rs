@@ -83,8 +83,8 @@ pub fn explain(bytes: &[u8], refusal: Refusal) -> Explanation {
     told
 }
 
-/// A refusal in one line, as it displays itself, but for two: of the four reasons of 1 the one that holds; and of a file that is a
-/// block, that it is one.
+/// A refusal in one line, as it displays itself, but for two: of the four reasons of 1 the one that holds; and of a file that
+/// is a block, that it is one.
 ///
 /// ```
 /// use zvaigulta::{explain, judge_sheet, EXAMPLE};
@@ -183,7 +183,8 @@ mod tests {
         FileKind::of(bytes).judge(bytes, bytes.len())
     }
 
-    /// A damaged twin of a sheet or an index: damaged as the other tests do it, or with bytes lost, added or changed at the end.
+    /// A damaged twin of a sheet or an index: damaged as the other tests do it, or with bytes lost, added or changed at the
+    /// end.
     fn damaged(r: &mut Random, n: usize) -> Vec<u8> {
         let file = if n.is_multiple_of(4) { sheets::index(r) } else { sheets::sheet(r, n % 5) };
         let mut file = if r.once_in(8) { file } else { sheets::damaged(r, &file) };
@@ -198,8 +199,8 @@ mod tests {
         file
     }
 
-    /// Every refusal of a damaged file is explained: a column of the refused record is marked, or, where there is none, a note says
-    /// why; every column named stands in its record's own layout, and is named once.
+    /// Every refusal of a damaged file is explained: a column of the refused record is marked, or, where there is none, a
+    /// note says why; every column named stands in its record's own layout, and is named once.
     #[test]
     fn every_refusal_is_explained() {
         let mut r = Random(12);

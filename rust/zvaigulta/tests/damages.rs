@@ -178,6 +178,13 @@ const REPEATED: &[Damage] = &[
         &[(2, "element count"), (2, "record count"), (7, "total"), (7, "line")],
     ),
     (
+        "ten grids and nets under a header",
+        || (0..8).fold(sheet(), |file, _| twice(file, 26, 28)),
+        (10, 2),
+        &["states 2, the file holds 10; at most 9 can be stated here", "records 29 to 31 are the same as records 26 to 28"],
+        &[(2, "element count"), (19, "grid and net"), (19, "total")],
+    ),
+    (
         "a layer header twice",
         || twice(sheet(), 19, 19),
         (10, 2),
@@ -634,7 +641,7 @@ const FORMS: &[Damage] = &[
         "text behind the last record",
         || [sheet(), b"end".to_vec()].concat(),
         (1, 0),
-        &["the 28 whole records are accepted,", "but 3 bytes more stand behind them: \"end\"; take them out"],
+        &["records 1 to 28 are accepted, but not what stands behind: 3 bytes, \"end\"", "belongs to record 28"],
         &[],
     ),
     (

@@ -40,8 +40,8 @@ fn mostly_ebcdic(bytes: &[u8]) -> bool {
     !first.is_empty() && ebcdic * 3 > first.len() * 2
 }
 
-/// Text of two bytes a letter (Shift JIS, EUC) that was converted to UTF-8, where most of those letters have three: with two for each the
-/// length would be whole records.
+/// Text of two bytes a letter (Shift JIS, EUC) that was converted to UTF-8, where most of those letters have three: with two
+/// for each the length would be whole records.
 fn utf_8(bytes: &[u8]) -> Option<String> {
     let text = std::str::from_utf8(bytes).ok().filter(|text| !text.is_ascii() && text.len() % RECORD_BYTES != 0)?;
     let before: usize = text.chars().map(|letter| if letter.is_ascii() { 1 } else { 2 }).sum();

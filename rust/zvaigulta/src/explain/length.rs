@@ -34,12 +34,13 @@ pub fn explain(bytes: &[u8], told: &mut Explanation) {
 fn odd(bytes: &[u8], told: &mut Explanation) {
     let records = bytes.len() / RECORD_BYTES;
     let (whole, rest) = bytes.split_at(records * RECORD_BYTES);
-    let more = number_of(rest.len() as u64, "byte");
     match FileKind::of(whole).judge(whole, whole.len()) {
-        Ok(_) => told.notes.push(format!(
-            "the {records} whole records are accepted, but {more} more stand behind them: {}; take them out",
-            quoted(rest)
-        )),
+        Ok(_) => {
+            let whole = if records == 1 { "record 1 is".to_string() } else { format!("records 1 to {records} are") };
+            let behind = format!("{}, {}", number_of(rest.len() as u64, "byte"), quoted(rest));
+            let look = format!("see whether that belongs to record {records} before you take it out");
+            told.notes.push(format!("{whole} accepted, but not what stands behind: {behind}; {look}"));
+        }
         Err(refusal) => broken(bytes, whole, refusal, told),
     }
 }

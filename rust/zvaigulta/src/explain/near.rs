@@ -9,15 +9,15 @@ pub fn reads_as(record: &[u8]) -> Option<Sort> {
     Sort::of(record).filter(|sort| fits(*sort, record))
 }
 
-/// Whether a record reads as a header or item but for its type: every column is well formed and inside its own range, and the level
-/// is one that there is.
+/// Whether a record reads as a header or item but for its type: every column is well formed and inside its own range, and the
+/// level is one that there is.
 pub fn fits(sort: Sort, record: &[u8]) -> bool {
     let level = sort.layout().value("level", record);
     record.len() == RECORD_BYTES && sort.layout().fits(record) && level.is_some_and(|level| (1..=9).contains(&level))
 }
 
-/// The sort of a record that reads as a header or item with a wrong type. As the type does not tell, its counts must go together too:
-/// numbers of seven digits side by side fit many columns.
+/// The sort of a record that reads as a header or item with a wrong type. As the type does not tell, its counts must go
+/// together too: numbers of seven digits side by side fit many columns.
 pub fn fits_but_for_type(record: &[u8]) -> Option<Sort> {
     let together = |sort: Sort| match sort {
         Sort::Header => {

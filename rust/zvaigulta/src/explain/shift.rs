@@ -53,8 +53,8 @@ fn stray(bytes: &[u8], refused: usize, until: usize) -> Option<String> {
     Some(format!("; look at byte {} of record {}: {what}", place % RECORD_BYTES + 1, place / RECORD_BYTES + 1))
 }
 
-/// By how many bytes the records may have shifted, the likeliest first: none, what the length is off by, as many as there are control
-/// characters side by side (the fill of a tape block), a few.
+/// By how many bytes the records may have shifted, the likeliest first: none, what the length is off by, as many as there are
+/// control characters side by side (the fill of a tape block), a few.
 fn candidates(bytes: &[u8], refused: usize) -> Vec<isize> {
     let fill = control(bytes, refused, refused + 1).and_then(|place| bytes.get(place..)).unwrap_or(&[]);
     let fill = (fill.iter().take_while(|byte| **byte < b' ').count() % RECORD_BYTES) as isize;
