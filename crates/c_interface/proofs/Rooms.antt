@@ -14,7 +14,7 @@ use Rattle.format.specs.Layout.{Col, every, layouts, indexA, indexB, indexC, sh
 use Rattle.format.specs.Program.{lineTo, reportTo}
 use Rattle.format.proofs.Basics.{and-true}
 use Rattle.report.proofs.Laws.{always-room}
-use Rattle.words.specs.Words.{fromZero, entry, refusals, textTo, refusalTo, columnIn, layoutColumn, nameOf, nameTo}
+use Rattle.format_words.specs.Words.{fromZero, entry, refusals, textTo, refusalTo, columnIn, layoutColumn, nameOf, nameTo}
 
 -- a text that so many bytes hold, or a refusal of another kind
 data Held (most : ℕ) : Answer String → Type 0 where
