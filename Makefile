@@ -93,7 +93,7 @@ install-programs: $(TOOL) $(DM)
 	$(INSTALL) -d $(DESTDIR)$(BINDIR) $(DESTDIR)$(LIBEXECDIR)/zvaigulta
 	$(INSTALL) -m 755 $(TOOL) $(DESTDIR)$(BINDIR)/dmtool
 	$(INSTALL) -m 755 $(DM) $(DESTDIR)$(LIBEXECDIR)/zvaigulta/dm
-	sed -e 's|^program=.*|program=$(LIBEXECDIR)/zvaigulta/dm|' -e '/^newer=/,/^fi$$/d' dm >$(DESTDIR)$(BINDIR)/dm
+	sed -e 's|^program=.*|program=$(LIBEXECDIR)/zvaigulta/dm|' -e '/^\# building starts/,/^\# building ends/d' dm >$(DESTDIR)$(BINDIR)/dm
 	chmod 755 $(DESTDIR)$(BINDIR)/dm
 
 uninstall:

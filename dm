@@ -30,14 +30,25 @@ fi
 self=$(readlink -f "$0") || fail "its own folder cannot be found"
 root=$(dirname "$self")
 program=$root/target/bin/dm
-newer=$([ -x "$program" ] && find "$root/crates" "$root/crates.txt" -newer "$program" \( -name '*.rt' -o -name '*.antt' -o -name crates.txt \) -print)
-if [ ! -x "$program" ] || [ -n "$newer" ]; then
-    echo "dm: proving and building the program, some minutes on first use" >&2
+# building starts here
+stale() {
+    [ ! -x "$program" ] && return 0
+    [ -n "$(find "$root/crates" "$root/crates.txt" -newer "$program" \( -name '*.rt' -o -name '*.antt' -o -name crates.txt \) -print -quit)" ]
+}
+if stale; then
     mkdir -p "$root/target" || fail "$root/target cannot be made"
-    (cd "$root" && rt check dm) >"$root/target/dm-build.log" 2>&1 || fail "it could not be built; see $root/target/dm-build.log"
+    # Two at once build one after the other, and the second finds it done. Where there is no flock, they do not wait.
+    exec 9>"$root/target/dm-build.lock" || fail "$root/target cannot be written"
+    if command -v flock >/dev/null; then flock 9; fi
+fi
+if stale; then
+    echo "dm: proving and building the program, some minutes on first use" >&2
+    (cd "$root" && rt check dm) >"$root/target/dm-build.log" 2>&1 9>&- || fail "it could not be built; see $root/target/dm-build.log"
     # A source that is newer but changes nothing leaves the program as it was: it is up to date from now on.
     touch "$program" || fail "$program cannot be written"
 fi
+exec 9>&-
+# building ends here
 
 if [ -n "$file" ]; then
     [ -e "$file" ] || fail "$file: there is no such file; check the name and the folder"

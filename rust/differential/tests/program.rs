@@ -35,8 +35,7 @@ fn prints(name: &str, input: &[u8], line: &str) {
     let file = Path::new(env!("CARGO_TARGET_TMPDIR")).join(format!("program_{name}"));
     fs::write(&file, input).expect("a file");
     assert_eq!(printed(&run(&mut Command::new(&program), vec![input.to_vec()])), expected, "{name}: target/bin/dm");
-    let mut script = Command::new("./dm");
-    script.current_dir(root());
+    let mut script = Command::new(support::script());
     assert_eq!(printed(&run(&mut script, vec![input.to_vec()])), by_script, "{name}: ./dm");
     assert_eq!(printed(&run(script.arg(&file), Vec::new())), by_script, "{name}: ./dm FILE");
 }

@@ -7,14 +7,13 @@ use std::os::unix::fs::{symlink, PermissionsExt};
 use std::path::{Path, PathBuf};
 use std::process::{Command, Stdio};
 use std::time::{Duration, SystemTime};
-use support::{built, example, preloaded, printed, root};
+use support::{built, example, laid_out, preloaded, printed, root, script};
 
 type Printed = (Option<i32>, String, String);
 
 /// The script on words, with standard input closed to it.
 fn dm(words: &[&str]) -> Printed {
-    built();
-    printed(&Command::new("./dm").current_dir(root()).args(words).stdin(Stdio::null()).output().expect("it ends"))
+    printed(&Command::new(script()).current_dir(root()).args(words).stdin(Stdio::null()).output().expect("it ends"))
 }
 
 /// No answer: status 2, nothing printed, and a reason that has these words.
@@ -30,9 +29,7 @@ impl Folder {
     fn new(name: &str) -> Folder {
         let folder = std::env::temp_dir().join(format!("dm_script_{name}_{}", std::process::id()));
         let _ = fs::remove_dir_all(&folder);
-        fs::create_dir_all(folder.join("crates/dm/src")).expect("a folder");
-        fs::create_dir_all(folder.join("target/bin")).expect("a folder");
-        fs::copy(root().join("dm"), folder.join("dm")).expect("the script");
+        laid_out(&folder);
         Folder(folder)
     }
 }
@@ -62,8 +59,6 @@ fn a_file_that_may_not_be_read() {
     use std::os::unix::process::CommandExt;
     let folder = Folder::new("secret");
     fs::copy(built(), folder.0.join("target/bin/dm")).expect("the program");
-    fs::write(folder.0.join("crates.txt"), "").expect("a file");
-    File::open(folder.0.join("crates.txt")).and_then(|f| f.set_modified(SystemTime::UNIX_EPOCH)).expect("its time");
     let secret = folder.0.join("secret.dm");
     fs::write(&secret, example()).expect("a file");
     fs::set_permissions(&secret, fs::Permissions::from_mode(0o000)).expect("its permissions");
@@ -78,23 +73,21 @@ fn a_file_that_may_not_be_read() {
 /// A folder, or a tape that fails, as standard input: the program's own line, and status 2.
 #[test]
 fn an_input_that_cannot_be_read() {
-    built();
     let unread = (Some(2), "not judged: read error\n".to_string(), String::new());
     let here = File::open(root()).expect("the root");
-    assert_eq!(printed(&Command::new("./dm").current_dir(root()).stdin(here).output().expect("it ends")), unread);
-    let mut command = Command::new("./dm");
+    assert_eq!(printed(&Command::new(script()).stdin(here).output().expect("it ends")), unread);
+    let mut command = Command::new(script());
     let failing = preloaded(command.current_dir(root()).arg("crates/dm/stdin"), "failing_read", "10");
     assert_eq!(printed(&failing.output().expect("it ends")), unread);
 }
 
 #[test]
 fn an_output_that_is_full_or_closed() {
-    built();
     for output in [">/dev/full", ">&-"] {
         for words in ["crates/dm/stdin", "--help"] {
-            let script = format!("./dm {words} {output}");
-            let done = Command::new("sh").args(["-c", &script]).current_dir(root()).output().expect("it ends");
-            assert_eq!(done.status.code(), Some(2), "{script}: {}", String::from_utf8_lossy(&done.stderr));
+            let line = format!("\"$0\" {words} {output}");
+            let done = Command::new("sh").args(["-c", &line]).arg(script()).current_dir(root()).output().expect("it ends");
+            assert_eq!(done.status.code(), Some(2), "{line}: {}", String::from_utf8_lossy(&done.stderr));
         }
     }
 }
@@ -107,37 +100,67 @@ fn help_and_a_link_to_it() {
     assert_eq!(dm(&["-h"]), help);
     let folder = Folder::new("link");
     let link = folder.0.join("judge");
-    symlink(root().join("dm").canonicalize().expect("the script"), &link).expect("a link");
+    symlink(script(), &link).expect("a link");
     let sheet = root().join("crates/dm/stdin");
     let done = Command::new(&link).current_dir("/").arg(sheet.canonicalize().expect("the sheet")).output().expect("it ends");
     assert_eq!(printed(&done), (Some(0), "accepted 9 records 1 items\n".to_string(), String::new()));
 }
 
-/// In a tree of its own, with a program that prints a line and a builder that counts its calls: built where it is missing and where a source is newer, once.
+/// A tree whose program prints a line, and a builder that counts its calls.
+struct Tree {
+    folder: Folder,
+    path: String,
+}
+
+impl Tree {
+    fn new(name: &str) -> Tree {
+        let folder = Folder::new(name);
+        fs::create_dir_all(folder.0.join("bin")).expect("a folder");
+        fs::write(folder.0.join("crates/dm/src/main.rt"), "first").expect("a source");
+        let path = format!("{}:{}", folder.0.join("bin").display(), std::env::var("PATH").expect("a PATH"));
+        let program = "printf '#!/bin/sh\\necho too long\\n' >target/bin/dm; chmod +x target/bin/dm";
+        executable(&folder.0.join("bin/rt"), &format!("#!/bin/sh\necho \"$@\" >>calls\nsleep 0.2\n{program}\n"));
+        Tree { folder, path }
+    }
+
+    fn run(&self) -> Printed {
+        let mut command = Command::new(self.folder.0.join("dm"));
+        printed(&command.env("PATH", &self.path).stdin(Stdio::null()).output().expect("it ends"))
+    }
+
+    fn calls(&self) -> usize {
+        fs::read_to_string(self.folder.0.join("calls")).unwrap_or_default().lines().count()
+    }
+}
+
+/// Built where it is missing and where a source is newer, once.
 #[test]
 fn built_anew_when_a_source_is_newer() {
-    let folder = Folder::new("tree");
-    let tree = &folder.0;
-    fs::create_dir_all(tree.join("bin")).expect("a folder");
-    fs::write(tree.join("crates/dm/src/main.rt"), "first").expect("a source");
-    fs::write(tree.join("crates.txt"), "dm:").expect("a source");
-    executable(
-        &tree.join("bin/rt"),
-        "#!/bin/sh\necho \"$@\" >>calls\nprintf '#!/bin/sh\\necho too long\\n' >target/bin/dm\nchmod +x target/bin/dm\n",
-    );
-    let path = format!("{}:{}", tree.join("bin").display(), std::env::var("PATH").expect("a PATH"));
-    let ran = || printed(&Command::new(tree.join("dm")).env("PATH", &path).stdin(Stdio::null()).output().expect("it ends"));
-    let calls = || fs::read_to_string(tree.join("calls")).unwrap_or_default().lines().count();
+    let tree = Tree::new("tree");
     for (round, expected) in [1, 1, 2, 2].into_iter().enumerate() {
         if round == 2 {
             // The program becomes older than the sources.
-            let program = File::options().write(true).open(tree.join("target/bin/dm")).expect("the program");
+            let program = File::options().write(true).open(tree.folder.0.join("target/bin/dm")).expect("the program");
             program.set_modified(SystemTime::now() - Duration::from_secs(1_000)).expect("its time");
         }
-        let seen = ran();
-        assert_eq!((seen.0, seen.1.as_str(), calls()), (Some(1), "too long\n", expected), "round {round}: {}", seen.2);
+        let seen = tree.run();
+        assert_eq!((seen.0, seen.1.as_str(), tree.calls()), (Some(1), "too long\n", expected), "round {round}: {}", seen.2);
     }
-    executable(&tree.join("bin/rt"), "#!/bin/sh\nexit 1\n");
-    fs::remove_file(tree.join("target/bin/dm")).expect("the program");
-    no_answer(ran(), "it could not be built");
+    executable(&tree.folder.0.join("bin/rt"), "#!/bin/sh\nexit 1\n");
+    fs::remove_file(tree.folder.0.join("target/bin/dm")).expect("the program");
+    no_answer(tree.run(), "it could not be built");
+}
+
+/// Several that start before there is a program: it is built once, and each has its answer.
+#[test]
+fn several_at_once_build_once() {
+    let tree = Tree::new("several");
+    std::thread::scope(|scope| {
+        let running: Vec<_> = (0..4).map(|_| scope.spawn(|| tree.run())).collect();
+        for one in running {
+            let seen = one.join().expect("it ends");
+            assert_eq!((seen.0, seen.1.as_str()), (Some(1), "too long\n"), "{}", seen.2);
+        }
+    });
+    assert_eq!(tree.calls(), 1);
 }

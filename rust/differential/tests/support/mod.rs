@@ -3,6 +3,7 @@
 use std::fs;
 use std::path::{Path, PathBuf};
 use std::process::{Command, Output};
+use std::sync::OnceLock;
 
 /// The repository's root.
 pub fn root() -> PathBuf {
@@ -14,6 +15,26 @@ pub fn built() -> PathBuf {
     let program = root().join("target/bin/dm");
     assert!(program.exists(), "target/bin/dm is missing: run `rt check dm` at the repository's root first");
     program
+}
+
+/// A copy of the script `dm` with the built program, in a tree without sources, so that a source that is newer does not make it build anew.
+pub fn script() -> &'static Path {
+    static ONCE: OnceLock<PathBuf> = OnceLock::new();
+    ONCE.get_or_init(|| {
+        let tree = Path::new(env!("CARGO_TARGET_TMPDIR")).join(concat!("tree_of_", env!("CARGO_CRATE_NAME")));
+        let _ = fs::remove_dir_all(&tree);
+        laid_out(&tree);
+        fs::copy(built(), tree.join("target/bin/dm")).expect("the program");
+        tree.join("dm")
+    })
+}
+
+/// A tree with the script, folders for sources and for the program, and neither.
+pub fn laid_out(tree: &Path) {
+    fs::create_dir_all(tree.join("crates/dm/src")).expect("a folder");
+    fs::create_dir_all(tree.join("target/bin")).expect("a folder");
+    fs::copy(root().join("dm"), tree.join("dm")).expect("the script");
+    fs::write(tree.join("crates.txt"), "dm:").expect("a source");
 }
 
 /// Exit status, standard output and standard error.
