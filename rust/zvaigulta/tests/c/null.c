@@ -10,6 +10,9 @@
 
 enum { ROOM = 12 * ZV_RECORD_BYTES };
 
+/* An accepted index. */
+static const uint8_t *const INDEX = (const uint8_t *)"I  9City survey office            000 0   0002008Regulation                    10   ";
+
 static uint8_t sheet[ROOM], second[ROOM], held[ROOM];
 static size_t used;
 
@@ -50,32 +53,40 @@ static int read_sheet(const char *name)
         return 0;
     used = fread(sheet, 1, ROOM, file);
     fclose(file);
-    return zv_judge_sheet(sheet, ROOM, used).refusal == ZV_ACCEPTED;
+    return zv_judge_sheet(sheet, ROOM, used).refusal == ZV_ACCEPTED && zv_judge_index(INDEX, 84, 84).refusal == ZV_ACCEPTED;
 }
 
-int main(int argc, char **argv)
+/* Every call with a null pointer; the used length of a buffer that is null may be any number. */
+static void every_pointer(size_t any)
 {
     static uint8_t none[1];
     const size_t data = 6 * ZV_RECORD_BYTES;
-    if (argc != 2 || !read_sheet(argv[1]))
-        return 2;
     BOTH(zv_number, "zv_read_column column", zv_read_column(none, 0), zv_read_column(NULL, 0));
     BOTH(zv_length, "zv_write_column column", zv_write_column(none, 0, 7), zv_write_column(NULL, 0, 7));
-    BOTH(zv_counts, "zv_judge_sheet buffer", zv_judge_sheet(none, 0, 0), zv_judge_sheet(NULL, 0, 0));
-    BOTH(zv_counts, "zv_judge_index buffer", zv_judge_index(none, 0, 0), zv_judge_index(NULL, 0, 0));
-    BOTH(zv_length, "zv_normal_sheet buffer", zv_normal_sheet(none, 0, 0, second, ROOM), zv_normal_sheet(NULL, 0, 0, second, ROOM));
+    BOTH(zv_counts, "zv_judge_sheet buffer", zv_judge_sheet(none, 0, any), zv_judge_sheet(NULL, 0, any));
+    BOTH(zv_counts, "zv_judge_index buffer", zv_judge_index(none, 0, any), zv_judge_index(NULL, 0, any));
+    BOTH(zv_length, "zv_normal_sheet buffer", zv_normal_sheet(none, 0, any, second, ROOM), zv_normal_sheet(NULL, 0, any, second, ROOM));
     BOTH(zv_length, "zv_normal_sheet second", zv_normal_sheet(sheet, ROOM, used, none, 0), zv_normal_sheet(sheet, ROOM, used, NULL, 0));
-    BOTH(zv_length, "zv_normal_index buffer", zv_normal_index(none, 0, 0, second, ROOM), zv_normal_index(NULL, 0, 0, second, ROOM));
-    BOTH(zv_length, "zv_normal_index second", zv_normal_index(sheet, ROOM, used, none, 0), zv_normal_index(sheet, ROOM, used, NULL, 0));
-    BOTH(zv_length, "zv_insert buffer", zv_insert(none, 0, 0, 1, sheet + data, 84), zv_insert(NULL, 0, 0, 1, sheet + data, 84));
+    BOTH(zv_length, "zv_normal_index buffer", zv_normal_index(none, 0, any, second, ROOM), zv_normal_index(NULL, 0, any, second, ROOM));
+    BOTH(zv_length, "zv_normal_index second", zv_normal_index(INDEX, 84, 84, none, 0), zv_normal_index(INDEX, 84, 84, NULL, 0));
+    BOTH(zv_length, "zv_insert buffer", zv_insert(none, 0, any, 1, sheet + data, 84), zv_insert(NULL, 0, any, 1, sheet + data, 84));
     BOTH(zv_length, "zv_insert block", zv_insert(second, ROOM, used, 7, none, 0), zv_insert(second, ROOM, used, 7, NULL, 0));
-    BOTH(zv_length, "zv_remove buffer", zv_remove(none, 0, 0, 1), zv_remove(NULL, 0, 0, 1));
-    BOTH(zv_way, "zv_way_up buffer", zv_way_up(none, 0, 0, 1), zv_way_up(NULL, 0, 0, 1));
+    BOTH(zv_length, "zv_remove buffer", zv_remove(none, 0, any, 1), zv_remove(NULL, 0, any, 1));
+    BOTH(zv_way, "zv_way_up buffer", zv_way_up(none, 0, any, 1), zv_way_up(NULL, 0, any, 1));
     BOTH(zv_length, "zv_report input", zv_report(none, 0, second, ROOM), zv_report(NULL, 0, second, ROOM));
     BOTH(zv_length, "zv_report out", zv_report(sheet, used, none, 0), zv_report(sheet, used, NULL, 0));
     BOTH(zv_length, "zv_refusal_text out", zv_refusal_text(1, none, 0), zv_refusal_text(1, NULL, 0));
     BOTH(zv_length, "zv_column_name out", zv_column_name(1, 1, none, 0), zv_column_name(1, 1, NULL, 0));
     /* A blank's name is empty, and has room in a buffer of 0. */
     BOTH(zv_length, "zv_column_name out", zv_column_name(1, 13, none, 0), zv_column_name(1, 13, NULL, 0));
+}
+
+int main(int argc, char **argv)
+{
+    if (argc != 2 || !read_sheet(argv[1]))
+        return 2;
+    every_pointer(0);
+    every_pointer(ZV_RECORD_BYTES);
+    every_pointer((size_t)-1);
     return 0;
 }
