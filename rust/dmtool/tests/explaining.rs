@@ -50,8 +50,8 @@ fn one_reason_for_a_length() {
     let line = "lines.dm: refused 1: the length, 774 bytes, is not a multiple of 84";
     assert_eq!(f.run(&["judge", "lines.dm"]).text(), format!("{line}\n"));
     assert!(f.run(&["show", "lines.dm", "1", "1"]).text().starts_with(&format!("{line}\n")));
-    let note = "every record ends in carriage return and line feed (CR LF), 86 bytes in all; \
-                a record is 84 bytes without a line end: take the line ends out";
+    let note = "every record ends in carriage return and line feed (CR LF), 86 bytes in all: take the line ends out; \
+                without that the file is accepted";
     assert_eq!(f.run(&["explain", "lines.dm"]).seen(), (Some(1), format!("{line}\n{note}\n"), true));
     assert!(f.run(&["insert", "lines.dm", "7", "lines.dm"]).err.starts_with(&format!("dmtool: {line}\n")));
 }
@@ -82,7 +82,7 @@ fn a_refused_edit_says_what_to_do() {
             "refused 11: ",
             "the sheet has 9 records: there is no place 11; the last place",
         ),
-        (&["insert", "good.dm", "7", "good.dm"], "refused 12: ", "it is a sheet, and a block is one element"),
+        (&["insert", "good.dm", "7", "good.dm"], "refused 12: ", "the block is a sheet; it must be one element"),
         (&["insert", "good.dm", "6", "block.dm"], "refused 13: ", "the block has level 2, before record 6 no item is possible"),
         (
             &["insert", "index.dm", "2", "block.dm"],

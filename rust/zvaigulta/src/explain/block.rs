@@ -68,13 +68,13 @@ fn inside(refusal: Refusal, before: usize, data: u64) -> bool {
 /// The sort of the item that a block starts with.
 fn item_sort(block: &[u8]) -> Result<Sort, String> {
     let what = match Sort::of(block) {
-        Some(Sort::Header) => "it starts with a header".to_string(),
+        Some(Sort::Header) => "starts with a header".to_string(),
         Some(sort) => return Ok(sort),
-        None if block.starts_with(b"M ") => "it is a sheet".to_string(),
-        None if block.starts_with(b"I ") => "it is an index".to_string(),
-        None => format!("it starts with {}", quoted(block.get(..2).unwrap_or(block))),
+        None if block.starts_with(b"M ") => "is a sheet".to_string(),
+        None if block.starts_with(b"I ") => "is an index".to_string(),
+        None => format!("starts with {}", quoted(block.get(..2).unwrap_or(block))),
     };
-    Err(format!("{what}, and a block is one element, grid or net with its data: E1 to E8, \"G \" or \"T \""))
+    Err(format!("the block {what}; it must be one element, grid or net with its data: E1 to E8, \"G \" or \"T \""))
 }
 
 /// The sheet part of the example, headers down to one level above the block, and the block; also how many records stand before
@@ -116,5 +116,5 @@ fn one_item(block: &[u8], item: Item) -> Result<Item, String> {
         1 => "1 record is".to_string(),
         n => format!("{n} records are"),
     };
-    Err(format!("its item, {}, ends at record {used} of the block, and {left} left over: a block is one item", item.words()))
+    Err(format!("the block's item, {}, ends at its record {used}, and {left} left over: a block is one item", item.words()))
 }

@@ -1,6 +1,6 @@
 //! 2: what a file that starts neither "M " nor "I " seems to be.
 
-use super::{block, fault, Explanation};
+use super::{block, fault, form, Explanation};
 use crate::layout::{INDEX_A, SHEET_A, SHEET_B};
 use crate::outline::{record, Record, Sort};
 use crate::text::{number_of, quoted};
@@ -38,7 +38,8 @@ fn behind(bytes: &[u8]) -> Option<String> {
     }
     let n = (1..RECORD_BYTES).find_map(starts)?;
     let before = quoted(bytes.get(..n.min(8)).unwrap_or(&[]));
-    Some(format!("before the first record: {}, {before}; take that out", number_of(n as u64, "byte")))
+    let without = form::without(bytes.get(n..)?);
+    Some(format!("before the first record: {}, {before}: take that out; {without}", number_of(n as u64, "byte")))
 }
 
 /// Record 1 that is right but for its type.

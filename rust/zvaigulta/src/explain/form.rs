@@ -3,7 +3,7 @@
 use super::near;
 use crate::outline::{part, Sort};
 use crate::text::{number_of, quoted};
-use crate::{FileKind, MOST_RECORDS, RECORD_BYTES};
+use crate::{FileKind, Refusal, MOST_RECORDS, RECORD_BYTES};
 
 /// The form that is recognised, and what to do about it. `refused` is the refused record, if the refusal names one.
 pub fn of(bytes: &[u8], refused: Option<usize>) -> Option<String> {
@@ -14,7 +14,9 @@ pub fn of(bytes: &[u8], refused: Option<usize>) -> Option<String> {
 /// By the first bytes.
 fn start(bytes: &[u8]) -> Option<String> {
     let (seen, advice) = match bytes {
-        [0xef, 0xbb, 0xbf, ..] => ("the file starts with a byte order mark (EF BB BF)", "save it as plain text without the mark"),
+        [0xef, 0xbb, 0xbf, rest @ ..] => {
+            return Some(format!("the file starts with a byte order mark (EF BB BF): take it out; {}", without(rest)));
+        }
         [0xff, 0xfe, ..] | [0xfe, 0xff, ..] => (
             "the file starts with the byte order mark of UTF-16, two bytes for each letter",
             "save it with one byte for each letter",
@@ -53,24 +55,42 @@ fn utf_8(bytes: &[u8]) -> Option<String> {
 const LINE_ENDS: [(&[u8], &str); 3] =
     [(b"\r\n", "carriage return and line feed (CR LF)"), (b"\n", "a line feed (LF)"), (b"\r", "a carriage return (CR)")];
 
-/// Records with a line end behind each, but for the last perhaps.
+/// Records with a line end behind each, but for the last perhaps; a fill or an end-of-file mark behind them is passed over.
 fn lines(bytes: &[u8]) -> Option<String> {
-    LINE_ENDS.iter().find_map(|(end, name)| {
-        let stride = RECORD_BYTES + end.len();
-        let ended = bytes.chunks(stride).take_while(|line| line.get(RECORD_BYTES..) == Some(*end)).count();
-        let rest = bytes.len() - (ended * stride).min(bytes.len());
-        let all = format!("every record ends in {name}, {stride} bytes in all");
-        let what = match rest {
-            _ if ended == 0 => return None,
-            0 => all,
-            RECORD_BYTES => format!("every record but the last ends in {name}, {stride} bytes in all"),
-            // A file that is too long is read in part; its last line is then cut off.
-            1..RECORD_BYTES if bytes.len() > MOST_RECORDS * RECORD_BYTES => all,
-            _ if ended > 1 => format!("records 1 to {ended} end in {name}, record {} does not", ended + 1),
-            _ => return None,
-        };
-        Some(format!("{what}; a record is {RECORD_BYTES} bytes without a line end: take the line ends out"))
-    })
+    let kept = bytes.iter().rposition(|byte| !matches!(byte, 0 | 0x1a)).map_or(0, |last| last + 1);
+    let text = bytes.get(..kept)?;
+    LINE_ENDS.iter().find_map(|(end, name)| line_ends(text, end, name))
+}
+
+/// The same for one of the line ends.
+fn line_ends(text: &[u8], end: &[u8], name: &str) -> Option<String> {
+    let stride = RECORD_BYTES + end.len();
+    let ended = text.chunks(stride).take_while(|line| line.get(RECORD_BYTES..) == Some(end)).count();
+    let rest = text.len() - (ended * stride).min(text.len());
+    let which = match rest {
+        _ if ended == 0 => return None,
+        0 => "every record ends".to_string(),
+        RECORD_BYTES => "every record but the last ends".to_string(),
+        // A file that is too long is read in part; its last line is then cut off.
+        1..RECORD_BYTES if text.len() > MOST_RECORDS * RECORD_BYTES => "every record ends".to_string(),
+        _ if ended > 1 => {
+            return Some(format!("records 1 to {ended} end in {name}, record {} does not; take these out", ended + 1))
+        }
+        _ => return None,
+    };
+    let plain: Vec<u8> = text.chunks(stride).flat_map(|line| line.get(..RECORD_BYTES).unwrap_or(line)).copied().collect();
+    Some(format!("{which} in {name}, {stride} bytes in all: take the line ends out; {}", without(&plain)))
+}
+
+/// What becomes of the file without what does not belong there.
+pub fn without(bytes: &[u8]) -> String {
+    match FileKind::of(bytes).judge(bytes, bytes.len()) {
+        Ok(_) => "without that the file is accepted".to_string(),
+        Err(Refusal { reason, record: Some(record), .. }) => {
+            format!("without that it is refused {} at record {record}", reason.number())
+        }
+        Err(refusal) => format!("without that it is refused {}", refusal.number()),
+    }
 }
 
 /// Lines that lost the spaces at their ends.
@@ -98,8 +118,7 @@ fn tail(bytes: &[u8], refused: Option<usize>) -> Option<String> {
     match byte {
         _ if !blamed => None,
         _ if kept == 0 => Some(format!("the file holds nothing but {what}")),
-        1 if accepted(bytes.get(..kept)?) => Some(format!("behind the last record: {what}; without that the file is accepted")),
-        1 => Some(format!("from record {record} on: nothing but {what}")),
+        1 => Some(format!("behind record {}: nothing but {what}; {}", record - 1, without(bytes.get(..kept)?))),
         _ if fill.len() > 1 => Some(format!("from byte {byte} of record {record} on: nothing but {what}; that part is lost")),
         _ => None,
     }
@@ -115,10 +134,6 @@ fn named(fill: &[u8]) -> String {
         fill if fill.iter().all(|byte| *byte == 0) => number_of(count, "NUL byte"),
         fill => format!("{}, {}", number_of(count, "fill byte"), quoted(fill.get(..8).unwrap_or(fill))),
     }
-}
-
-fn accepted(bytes: &[u8]) -> bool {
-    FileKind::of(bytes).judge(bytes, bytes.len()).is_ok()
 }
 
 /// Records of spaces alone from the refused one to the end.

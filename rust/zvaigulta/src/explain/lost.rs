@@ -25,7 +25,7 @@ pub fn found(bytes: &[u8], body: &Body) -> Vec<String> {
     }
     let stated = SHEET_B.value("element count", record(bytes, 2)).and_then(|count| usize::try_from(count).ok());
     let items = body.items();
-    let all = format!("all {items} items that the sheet states are there: no item is missing, but a header or data");
+    let all = format!("all {items} items that the sheet states are there: what is missing is a header or a data record");
     let mut notes: Vec<String> = (missing && stated == Some(items)).then_some(all).into_iter().collect();
     notes.extend(headers(body, missing));
     notes
