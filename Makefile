@@ -1,7 +1,7 @@
 # The library for C programs, the technician's tool and the program dm: built, and installed where other programs find them.
 #
-#     make                                    the archive, the shared object, the pkg-config file and the tool
-#     make install [PREFIX=..] [DESTDIR=..]    these, the header and the program dm; PREFIX is /usr/local if not said
+#     make                                    the archive, the shared object, the pkg-config file, the tool and the program dm
+#     make install [PREFIX=..] [DESTDIR=..]    these and the header; PREFIX is /usr/local if not said
 #     make uninstall [PREFIX=..] [DESTDIR=..]
 #     make test                               the Rust and C tests
 #
@@ -37,7 +37,7 @@ LIBRARY := $(BUILD)/libzvaigulta.a $(BUILD)/$(SHARED) $(BUILD)/zvaigulta.pc
 .NOTPARALLEL:
 .DELETE_ON_ERROR:
 
-all: library $(TOOL)
+all: library $(TOOL) $(DM)
 
 library: $(LIBRARY)
 

@@ -1,8 +1,9 @@
-//! The pages for readers say what the library does: the columns in docs/FORMAT.md, the refusals in docs/REFUSALS.md, the theorem in README.md; and no line
+//! The pages for readers say what the library does: the columns in docs/FORMAT.md, the refusals in docs/REFUSALS.md, the theorem and the programs in README.md; and no line
 //! of theirs is longer than 150 characters.
 
 use std::fs;
 use std::path::{Path, PathBuf};
+use std::process::Command;
 use zvaigulta::layout::{Column, Content, Layout, ALL};
 use zvaigulta::Reason;
 
@@ -63,6 +64,28 @@ fn the_theorem_as_it_is_proved() {
     for line in theorem.lines().filter(|line| !line.trim().is_empty() && line.trim() != "..") {
         assert!(sources.lines().any(|source| source == line), "no such line: {line}");
     }
+}
+
+/// A program that README.md prints in a language.
+fn program(language: &str) -> String {
+    let start = format!("```{language}\n");
+    page("README.md").split(&start).nth(1).and_then(|rest| rest.split("```").next()).expect(language).to_string()
+}
+
+/// The program for C, compiled and run; the one for Rust is an example that the tests run.
+#[test]
+fn the_programs_for_c_and_rust() {
+    let example = page("rust/zvaigulta/examples/judge.rs");
+    assert!(example.ends_with(&program("rust")), "README.md and examples/judge.rs differ");
+    let (source, built) = ["readme.c", "readme"].map(|name| Path::new(env!("CARGO_TARGET_TMPDIR")).join(name)).into();
+    fs::write(&source, program("c")).expect("a file");
+    let strict = ["-std=c99", "-Wall", "-Wextra", "-Werror", "-pedantic", "-Iinclude"];
+    let mut gcc = Command::new("gcc");
+    gcc.current_dir(root()).args(strict).arg(&source).arg("target/staticlib/libc_interface.a").arg("-o").arg(&built);
+    assert!(gcc.status().expect("this test needs gcc: install gcc").success());
+    let sheet = fs::File::open(root().join("crates/dm/stdin")).expect("a sheet");
+    let done = Command::new(&built).stdin(sheet).output().expect("it runs");
+    assert_eq!((done.status.code(), String::from_utf8_lossy(&done.stdout).as_ref()), (Some(0), "accepted: 9 records, 1 items\n"));
 }
 
 #[test]
