@@ -11,12 +11,12 @@ fn main() -> Result<(), Box<dyn Error>> {
         Ok(counts) => println!("{counts}"),
         Err(refusal) => {
             println!("{refusal}");
-            let explanation = explain(&bytes, refusal);
-            for fault in explanation.faults {
-                println!("{}: {}", fault.column, fault.words);
-            }
-            for note in explanation.notes {
+            let told = explain(&bytes, refusal);
+            for note in told.notes {
                 println!("{note}");
+            }
+            for fault in told.faults {
+                println!("record {}, {}: {}", fault.record, fault.column, fault.words);
             }
         }
     }
