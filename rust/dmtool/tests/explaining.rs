@@ -31,8 +31,8 @@ fn explain_prints_notes_the_refused_record_and_the_others_in_short() {
     assert_eq!(lines[0], "lost.dm: refused 5 at record 9: an integer column is malformed");
     assert_eq!(
         lines[1],
-        "record 9 starts E2, but record 7 states 2 data records, and has 1 before it: a data record of the line E2 may be lost; \
-         find it in the original before you change the count"
+        "record 9 starts E2, but record 7 states 2 data records, and has 1 before it: a data record of the line E2 may be lost \
+         or stand elsewhere; find it in the original before you change the count"
     );
     assert_eq!(lines[2], "the sheet states 9 records (5 of the sheet part and 4 behind it), 11 are there: 2 are too many");
     assert_eq!(lines[3], "record 9: 2D data of record 7, level 2");

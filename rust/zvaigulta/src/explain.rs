@@ -127,7 +127,10 @@ fn at_record(bytes: &[u8], named: &Record, reason: Reason, told: &mut Explanatio
     }
     match shift::words(bytes, named.number) {
         Some(words) => one_reason(told, named.number, words),
-        None => told.notes.extend(records_differ(bytes, named)),
+        None => {
+            let differ = records_differ(bytes, named).filter(|words| !told.notes.contains(words));
+            told.notes.extend(differ);
+        }
     }
 }
 

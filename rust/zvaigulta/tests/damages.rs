@@ -120,6 +120,41 @@ const LOST: &[Damage] = &[
         &[(2, "element count"), (2, "record count"), (7, "total"), (7, "line")],
     ),
     (
+        "an item's own record is lost behind a header",
+        || without(sheet(), 8, 8),
+        (4, 8),
+        &[
+            "2 records stand behind the header at record 7 before the note E7 at record 10, where an item is due",
+            "an item's own record may be lost before record 8",
+            "1 is missing",
+        ],
+        &[(8, "type")],
+    ),
+    (
+        "an item's own record is lost behind an item",
+        || without(sheet(), 16, 16),
+        (4, 16),
+        &[
+            "the point E5 at record 14 states 1 data record, 3 records stand before the header at record 18",
+            "an item's own record may be lost before record 16",
+        ],
+        &[(16, "type"), (14, "records")],
+    ),
+    (
+        "a data record is lost, and records made to fit",
+        || with(without(sheet(), 10, 10), 8, 31, "   1"),
+        (8, 8),
+        &["1 is missing", "look for a lost data record of it before you change a count", "not: look at the other columns first"],
+        &[(8, "data count"), (8, "records")],
+    ),
+    (
+        "a data record is lost, and both counts made to fit",
+        || with(without(sheet(), 10, 10), 8, 27, "   6   1"),
+        (10, 2),
+        &["1 is missing", "all 8 items that the sheet states are there: what is missing is a header or a data record"],
+        &[(2, "record count")],
+    ),
+    (
         "the last record is lost",
         || without(sheet(), 28, 28),
         (3, 26),
@@ -510,6 +545,71 @@ const COLUMNS: &[Damage] = &[
     ),
     ("a shift out of its range", || with(sheet(), 8, 24, "10"), (6, 8), &["is 10, must be -9 to 9"], &[(8, "shift")]),
     (
+        "an attribute that takes the next header for its data",
+        || with(sheet(), 16, 27, "   3   3"),
+        (10, 7),
+        &[
+            "record 19 reads as a header, but is taken as data of the attribute E8 at record 16, which states 3 data records",
+            "not: a header may be missing",
+        ],
+        &[(7, "total"), (16, "records")],
+    ),
+    (
+        "a layer header with the level of a group",
+        || with(sheet(), 19, 16, " 2"),
+        (10, 7),
+        &[
+            "record 19 is a header of class 22xx and stands under the layer header at record 7 of class 2100",
+            "its level 2 may be wrong, a layer's is 1",
+        ],
+        &[(7, "total"), (19, "total"), (19, "level")],
+    ),
+    (
+        "a point under another header",
+        || without([&sheet()[..7 * 84], &sheet()[21 * 84..22 * 84], &sheet()[7 * 84..]].concat(), 23, 23),
+        (10, 7),
+        &["no record and no item is missing by the sheet's counts: an item may stand under another header"],
+        &[(7, "total"), (7, "point"), (20, "total"), (20, "point")],
+    ),
+    (
+        "a line with the type of an area",
+        || with(sheet(), 8, 0, "E1"),
+        (10, 7),
+        &["no record and no item is missing by the sheet's counts", "its type or level be wrong"],
+        &[(7, "area"), (7, "line")],
+    ),
+    (
+        "data records of two items that changed places",
+        || with(with(sheet(), 9, 0, &text(15)), 15, 0, &text(9)),
+        (5, 9),
+        &[
+            "7 points are stated, the data has 1 up to record 9, and 1 record more should follow",
+            "one may stand in the wrong place",
+        ],
+        &[(9, "X 2"), (8, "data count")],
+    ),
+    (
+        "a data kind of other points",
+        || with(sheet(), 8, 20, "3"),
+        (5, 10),
+        &["7 points are stated, the data has 4 up to record 10, and behind them spaces alone"],
+        &[(10, "Z 1"), (8, "data kind"), (8, "data count")],
+    ),
+    (
+        "a record of spaces in the middle",
+        || with(sheet(), 14, 0, &" ".repeat(84)),
+        (4, 14),
+        &["record 14 holds nothing but spaces: what stood there is lost"],
+        &[(14, "type")],
+    ),
+    (
+        "a record of NUL bytes in the middle",
+        || with(sheet(), 14, 0, &"\0".repeat(84)),
+        (4, 14),
+        &["record 14 holds nothing but NUL bytes: what stood there is lost"],
+        &[(14, "type")],
+    ),
+    (
         "a total",
         || with(sheet(), 7, 18, "    4"),
         (10, 7),
@@ -899,6 +999,11 @@ const INDEXES: &[Damage] = &[
     ),
 ];
 
+/// A record of the sheet.
+fn text(record: usize) -> String {
+    String::from_utf8(sheet()[(record - 1) * RECORD_BYTES..record * RECORD_BYTES].to_vec()).expect("plain text")
+}
+
 /// The sheet in lines without the spaces at their ends.
 fn lines_without_spaces() -> Vec<u8> {
     let text = String::from_utf8(sheet()).expect("plain text");
@@ -929,7 +1034,7 @@ fn ebcdic() -> Vec<u8> {
 #[test]
 fn every_damage_is_explained() {
     let all = [LOST, REPEATED, PARTS, COLUMNS, FORMS, SHIFTS, INDEXES].concat();
-    assert!(all.len() >= 110, "{} damages", all.len());
+    assert!(all.len() >= 130, "{} damages", all.len());
     for (name, file, (number, record), words, marked) in all {
         let file = file();
         let refusal = FileKind::of(&file).judge(&file, file.len()).expect_err(name);
@@ -960,7 +1065,7 @@ fn with_listed_counts(file: &[u8], explained: &Explanation) -> Option<Vec<u8>> {
     let mut mended = file.to_vec();
     for fault in &explained.faults {
         let layout = if fault.record == 2 { &SHEET_B } else { &HEADER };
-        let column = layout.column(fault.column).expect("a count");
+        let column = layout.column(fault.column)?;
         let held = fault.words.rsplit(' ').next().and_then(|number| number.parse().ok())?;
         let start = (fault.record - 1) * RECORD_BYTES + column.start;
         write_column(&mut mended[start..start + column.width], held).ok()?;

@@ -83,18 +83,29 @@ fn sheet(bytes: &[u8], told: &mut Explanation) {
     let mut faults = sheet_counts(bytes, &body);
     let headers = body.entries.iter().zip(&body.held).filter(|(entry, _)| entry.sort() == Some(Sort::Header));
     faults.extend(headers.flat_map(|(header, held)| header_counts(header, held)));
-    told.notes.extend(lost::found(bytes, &body));
+    lost::explain(bytes, &body, told);
     let more = Records::of(bytes).is_some_and(|records| records.too_many() > 0);
     if faults.iter().any(|differs| differs.short) && !more {
-        told.notes.push(
-            "a count that is short by one often means a lost record: find it in the original before you change the count"
-                .to_string(),
-        );
+        let elsewhere = faults.iter().all(|differs| differs.fault.record != 2) && as_many_in_all(&body);
+        told.notes.push(if elsewhere { ELSEWHERE } else { LOST }.to_string());
     }
     if faults.len() > MOST_LISTED {
         told.notes.push(format!("{MOST_LISTED} columns are listed here, and {} more differ", faults.len() - MOST_LISTED));
     }
     told.faults.extend(faults.into_iter().take(MOST_LISTED).map(|differs| differs.fault));
+}
+
+const LOST: &str = "a count that is short by one often means a lost record: find it in the original before you change the count";
+
+const ELSEWHERE: &str =
+    "no record and no item is missing by the sheet's counts: an item may stand under another header, or its type or \
+                         level be wrong; find it in the original before you change a count";
+
+/// Whether all headers together state as many as they hold.
+fn as_many_in_all(body: &Body) -> bool {
+    let headers = || body.entries.iter().filter(|entry| entry.sort() == Some(Sort::Header));
+    let stated = headers().flat_map(|header| COUNTS.iter().map(|column| natural(&HEADER, column, header.bytes))).sum::<u64>();
+    stated == body.held.iter().flatten().sum::<usize>() as u64
 }
 
 /// A column that differs, and whether the file holds less than it states.

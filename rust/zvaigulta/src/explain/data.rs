@@ -1,5 +1,6 @@
 //! 8: the data kind, counts and records of an item that do not go together, and how many data records follow.
 
+use super::counts::Records;
 use super::{fault, near, Explanation, Fault};
 use crate::outline::{natural, Record, Sort, Stated};
 use crate::text::number_of;
@@ -24,13 +25,18 @@ pub fn rule(bytes: &[u8], named: &Record, told: &mut Explanation) {
             ]
         }
     });
-    told.notes.push(following(bytes, named, sort, &stated));
+    let missing = Records::of(bytes).filter(|records| records.missing() > 0);
+    let follows = following(bytes, named);
+    told.notes.extend(missing.as_ref().map(|records| records.words()));
+    told.notes.push(match missing {
+        Some(_) => format!("{follows}; look for a lost data record of it before you change a count"),
+        None => format!("{follows}{}", doubt(near::following(bytes, named) as u64, sort, &stated)),
+    });
 }
 
-/// How many records follow, and which of the columns that makes doubtful.
-fn following(bytes: &[u8], named: &Record, sort: Sort, stated: &Stated) -> String {
-    let follow = near::following(bytes, named) as u64;
-    let follows = match follow {
+/// How many records follow.
+fn following(bytes: &[u8], named: &Record) -> String {
+    let follows = match near::following(bytes, named) {
         0 => "no record follows it".to_string(),
         1 => "1 record follows it".to_string(),
         n => format!("{n} records follow it"),
@@ -39,12 +45,16 @@ fn following(bytes: &[u8], named: &Record, sort: Sort, stated: &Stated) -> Strin
         Some((number, sort)) => format!("before the {} at record {number}", sort.name()),
         None => "to the end of the file".to_string(),
     };
-    let doubt = match (follow == stated.records, follow == stated.needed) {
+    format!("{follows} {until}")
+}
+
+/// Which of the columns the number of records that follow makes doubtful.
+fn doubt(follow: u64, sort: Sort, stated: &Stated) -> String {
+    match (follow == stated.records, follow == stated.needed) {
         (true, false) => format!("; that is what records states, so look at the other columns first{}", counts_for(sort, stated)),
         (false, true) => "; that is what the other columns need, so look at records first".to_string(),
         _ => String::new(),
-    };
-    format!("{follows} {until}{doubt}")
+    }
 }
 
 /// The data counts of an element that go with the records that it states.

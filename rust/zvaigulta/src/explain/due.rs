@@ -62,7 +62,7 @@ fn lost_data(item: &Record, (number, sort): (usize, Sort), told: &mut Explanatio
     told.faults.push(fault(item.number, "records", format!("states {stated}, {before} before record {number}")));
     told.notes.push(format!(
         "record {number} starts {}, but record {} states {stated}, and has {before} before it: \
-         a data record of the {} may be lost; find it in the original before you change the count",
+         a data record of the {} may be lost or stand elsewhere; find it in the original before you change the count",
         sort.kind(),
         item.number,
         of.name()
@@ -73,7 +73,8 @@ fn lost_data(item: &Record, (number, sort): (usize, Sort), told: &mut Explanatio
 pub fn record_type(bytes: &[u8], named: &Record, told: &mut Explanation) {
     let kind = quoted(named.bytes.get(..2).unwrap_or(&[]));
     told.faults.push(fault(named.number, "type", format!("is {kind}, none of \"H \", \"E1\" to \"E8\", \"G \", \"T \"")));
-    if let Some(other) = form::blank_end(bytes, named.number).or_else(|| near::file_start(bytes, named.number)) {
+    let other = form::blank_end(bytes, named.number).or_else(|| near::file_start(bytes, named.number));
+    if let Some(other) = other.or_else(|| form::blank(named)) {
         told.notes.push(other);
     } else if !longer_part(bytes, named, told) && !type_alone(named, told) {
         item_before(bytes, named, told);
@@ -129,9 +130,12 @@ fn item_before(bytes: &[u8], named: &Record, told: &mut Explanation) {
         n => format!("{n} records stand"),
     };
     told.notes.push(match sort {
-        Sort::Header => format!("behind the header at record {} {follow} that should not, {until}", item.number),
+        Sort::Header => format!("{follow} behind the header at record {} {until}, where an item is due", item.number),
         _ => format!("the {} at record {} states {stated}, {follow} {until}", sort.name(), item.number),
     });
+    if Records::of(bytes).is_some_and(|records| records.missing() > 0) {
+        told.notes.push(format!("an item's own record may be lost before record {}: find it in the original", named.number));
+    }
     let again = near::repeated(bytes, item.number + 1, named.number);
     told.notes.extend(again.map(|again| format!("record {again} is the same as record {} before it", again - 1)));
     if sort != Sort::Header {
@@ -159,26 +163,36 @@ pub fn malformed(bytes: &[u8], named: &Record, told: &mut Explanation) {
     }
 }
 
-/// Data that ends before the last point or height that its item states: nothing but spaces from there on.
+/// Data that ends before the last point or height that is due: nothing but spaces from there on.
 fn short_data(named: &Record, item: &Record, told: &mut Explanation) {
     let Some(sort) = item.sort() else { return };
     let columns = named.judged_columns();
     let blank = columns.iter().rev().take_while(|column| column.is_spaces(named.bytes)).count();
-    let stated = Stated::of(sort, item.bytes);
-    let last = (named.number - item.number) as u64 == stated.records;
-    if !last || blank == 0 || blank != told.faults.len() {
+    if blank == 0 || blank != told.faults.len() {
         return;
     }
-    let found = stated.units(stated.records - 1, columns.len() - blank);
-    let stating: &[&str] = match sort {
+    let stated = Stated::of(sort, item.bytes);
+    let nth = (named.number - item.number) as u64;
+    let found = stated.units(nth.saturating_sub(1), columns.len() - blank);
+    let words = format!("{} {} are stated, the data has {found}", stated.count, sort.unit());
+    told.faults.extend(stating(sort).iter().map(|column| fault(item.number, column, words.clone())));
+    let ends = format!("the {} at record {}: {words} up to record {}", sort.name(), item.number, named.number);
+    told.notes.push(match nth == stated.records {
+        true => format!("{ends}, and behind them spaces alone"),
+        false => format!(
+            "{ends}, and {} more should follow: one may stand in the wrong place",
+            number_of(stated.records - nth, "record")
+        ),
+    });
+}
+
+/// The columns that state how much data an item has.
+fn stating(sort: Sort) -> &'static [&'static str] {
+    match sort {
         Sort::Grid => &["rows", "columns"],
         Sort::Net => &["triangles"],
-        _ => &["data count"],
-    };
-    let (count, unit) = (stated.count, if sort == Sort::Grid { "heights" } else { "points" });
-    let words = format!("{count} {unit} are stated, the data has {found}");
-    told.notes.push(format!("the {} at record {}: {words}; behind them stand spaces alone", sort.name(), item.number));
-    told.faults.extend(stating.iter().map(|column| fault(item.number, column, words.clone())));
+        _ => &["data kind", "data count"],
+    }
 }
 
 /// A record of the sheet part or the index that reads as another one.

@@ -1,7 +1,7 @@
 //! Files in another form than records of 84 bytes end to end: text with line ends or a byte order mark, EBCDIC, padding.
 
 use super::near;
-use crate::outline::{part, Sort};
+use crate::outline::{part, Record, Sort};
 use crate::text::{number_of, quoted};
 use crate::{FileKind, Refusal, MOST_RECORDS, RECORD_BYTES};
 
@@ -134,6 +134,18 @@ fn named(fill: &[u8]) -> String {
         fill if fill.iter().all(|byte| *byte == 0) => number_of(count, "NUL byte"),
         fill => format!("{}, {}", number_of(count, "fill byte"), quoted(fill.get(..8).unwrap_or(fill))),
     }
+}
+
+/// A record that holds one byte alone.
+pub fn blank(named: &Record) -> Option<String> {
+    let first = named.bytes.first()?;
+    let what = match first {
+        b' ' => "spaces".to_string(),
+        0 => "NUL bytes".to_string(),
+        other => format!("the byte {}", quoted(&[*other])),
+    };
+    let alone = named.bytes.iter().all(|byte| byte == first);
+    alone.then(|| format!("record {} holds nothing but {what}: what stood there is lost", named.number))
 }
 
 /// Records of spaces alone from the refused one to the end.

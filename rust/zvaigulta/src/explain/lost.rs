@@ -2,7 +2,7 @@
 
 use super::body::Body;
 use super::counts::Records;
-use super::near;
+use super::{fault, near, Explanation, Fault};
 use crate::layout::{HEADER, SHEET_B};
 use crate::outline::{natural, record, Record, Sort, Stated};
 use crate::text::{number_of, with_article};
@@ -12,32 +12,40 @@ use std::collections::BTreeMap;
 /// The most places that are named for one reason.
 const MOST_PLACES: usize = 3;
 
-/// What is seen of lost and repeated records, a line each.
-pub fn found(bytes: &[u8], body: &Body) -> Vec<String> {
+/// What is seen of lost and repeated records.
+pub fn explain(bytes: &[u8], body: &Body, told: &mut Explanation) {
     let records = Records::of(bytes);
     let missing = records.as_ref().is_some_and(|records| records.missing() > 0);
-    if records.is_some_and(|records| records.too_many() > 0) {
-        return repeated(bytes, body);
+    let taken: Vec<(&Record, (usize, Sort))> =
+        body.entries.iter().filter_map(|item| Some((item, near::hidden(bytes, item)?))).take(MOST_PLACES).collect();
+    if !taken.is_empty() {
+        taken.into_iter().for_each(|(item, hidden)| taken_as_data(item, hidden, told));
+    } else if records.is_some_and(|records| records.too_many() > 0) {
+        told.notes.extend(repeated(bytes, body));
+    } else {
+        told.notes.extend(items_there(bytes, body).filter(|_| missing));
+        told.notes.extend(headers(body, missing));
+        told.notes.extend(layers(body).iter().filter_map(Layer::wrong_level));
+        told.faults.extend(layers(body).iter().filter_map(Layer::wrong_level_fault));
     }
-    let hidden: Vec<String> = body.entries.iter().filter_map(|item| hidden(bytes, item)).take(MOST_PLACES).collect();
-    if missing && !hidden.is_empty() {
-        return hidden;
-    }
-    let stated = SHEET_B.value("element count", record(bytes, 2)).and_then(|count| usize::try_from(count).ok());
-    let items = body.items();
-    let all = format!("all {items} items that the sheet states are there: what is missing is a header or a data record");
-    let mut notes: Vec<String> = (missing && stated == Some(items)).then_some(all).into_iter().collect();
-    notes.extend(headers(body, missing));
-    notes
 }
 
 /// A header or item that is taken as data of an item before it.
-fn hidden(bytes: &[u8], item: &Record) -> Option<String> {
-    let (number, sort) = near::hidden(bytes, item)?;
-    let of = item.sort()?;
+fn taken_as_data(item: &Record, (number, sort): (usize, Sort), told: &mut Explanation) {
+    let Some(of) = item.sort() else { return };
     let records = number_of(Stated::of(of, item.bytes).records, "data record");
+    let reads = format!("record {number} reads as {}", with_article(&sort.name()));
     let taken = format!("is taken as data of the {} at record {}, which states {records}", of.name(), item.number);
-    Some(format!("record {number} reads as {}, but {taken}: one of them may be lost", with_article(&sort.name())))
+    told.notes.push(format!("{reads}, but {taken}: one of them is lost, or that is too many"));
+    told.faults.push(fault(item.number, "records", format!("states {records}, but {reads}")));
+}
+
+/// That all items are there.
+fn items_there(bytes: &[u8], body: &Body) -> Option<String> {
+    let items = body.items();
+    let stated = SHEET_B.value("element count", record(bytes, 2)).and_then(|count| usize::try_from(count).ok());
+    let all = format!("all {items} items that the sheet states are there: what is missing is a header or a data record");
+    Some(all).filter(|_| stated == Some(items))
 }
 
 /// Items and headers that are the same as those directly before them.
@@ -91,28 +99,48 @@ struct Layer {
     class: u64,
     /// Whether the header's total is not what it holds.
     differs: bool,
-    /// From which record on the class codes begin otherwise than the header's, and how.
-    other: Option<(usize, u64)>,
+    /// From which record on the class codes begin otherwise than the header's, how, and the level if it is a header.
+    other: Option<(usize, u64, Option<i64>)>,
     /// Whether they change once more.
     mixed: bool,
 }
 
 impl Layer {
-    /// One more header or item of the layer.
-    fn step(&mut self, record: usize, class: u64) {
+    /// One more header or item of the layer; a header with its level.
+    fn step(&mut self, record: usize, class: u64, header: Option<i64>) {
         let hundreds = class / 100;
         match self.other {
             None if hundreds == self.class / 100 => {}
-            None => self.other = Some((record, hundreds)),
-            Some((_, other)) => self.mixed |= hundreds != other,
+            None => self.other = Some((record, hundreds, header)),
+            Some((_, other, _)) => self.mixed |= hundreds != other,
         }
     }
 
-    /// The record from which on another layer's items seem to stand here, and why.
+    /// The item from which on another layer's items seem to stand here, and why.
     fn words(&self) -> Option<(usize, String)> {
-        let (record, hundreds) = self.other.filter(|_| !self.mixed)?;
+        let (record, hundreds, _) = self.other.filter(|(_, _, header)| !self.mixed && header.is_none())?;
         let under = format!("under the layer header at record {} of class {}", self.header, self.class);
         Some((record, format!("from record {record} on the class codes are {hundreds:02}xx, {under}")))
+    }
+
+    /// A header of another class than its layer's, where the layer's total differs: a layer header with a wrong level.
+    fn other_header(&self) -> Option<(usize, u64, i64)> {
+        let (record, hundreds, level) = self.other.filter(|_| self.differs && !self.mixed)?;
+        Some((record, hundreds, level?))
+    }
+
+    fn wrong_level(&self) -> Option<String> {
+        let (record, hundreds, level) = self.other_header()?;
+        let under = format!("stands under the layer header at record {} of class {}", self.header, self.class);
+        Some(format!(
+            "record {record} is a header of class {hundreds:02}xx and {under}: its level {level} may be wrong, a layer's is 1"
+        ))
+    }
+
+    fn wrong_level_fault(&self) -> Option<Fault> {
+        let (record, hundreds, level) = self.other_header()?;
+        let above = format!("the layer above is of class {}, this header of {hundreds:02}xx", self.class);
+        Some(fault(record, "level", format!("is {level}; {above}")))
     }
 }
 
@@ -122,7 +150,9 @@ fn layers(body: &Body) -> Vec<Layer> {
     for (entry, held) in body.entries.iter().zip(&body.held) {
         let class = entry.layout.map_or(0, |layout| natural(layout, "class", entry.bytes));
         match layers.last_mut() {
-            Some(layer) if entry.level != Some(1) => layer.step(entry.number, class),
+            Some(layer) if entry.level != Some(1) => {
+                layer.step(entry.number, class, entry.level.filter(|_| entry.sort() == Some(Sort::Header)));
+            }
             _ if entry.sort() == Some(Sort::Header) => {
                 let differs = natural(&HEADER, "total", entry.bytes) != held.iter().sum::<usize>() as u64;
                 layers.push(Layer { header: entry.number, class, differs, other: None, mixed: false });

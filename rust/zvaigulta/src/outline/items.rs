@@ -60,6 +60,14 @@ impl Sort {
         }
     }
 
+    /// What its data counts: heights of a grid, else points.
+    pub(crate) fn unit(self) -> &'static str {
+        match self {
+            Sort::Grid => "heights",
+            _ => "points",
+        }
+    }
+
     /// In words: `header`, `point E5`, `grid`, `net`.
     pub fn name(self) -> String {
         match self {
