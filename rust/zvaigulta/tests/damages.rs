@@ -561,6 +561,7 @@ const COLUMNS: &[Damage] = &[
         &[
             "record 19 is a header of class 22xx and stands under the layer header at record 7 of class 2100",
             "its level 2 may be wrong, a layer's is 1",
+            "not: a header may be missing",
         ],
         &[(7, "total"), (19, "total"), (19, "level")],
     ),

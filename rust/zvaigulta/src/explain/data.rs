@@ -71,7 +71,7 @@ fn grid(named: &Record, stated: &Stated) -> Vec<Fault> {
     let (rows, columns, repeat) = (number("rows"), number("columns"), number("repeat"));
     let needed = stated.needed;
     let records = match needed {
-        0..=MOST_GRID_RECORDS => format!("with repeat {repeat} {} are stated, must be {needed}", stated.records),
+        0..=MOST_GRID_RECORDS => format!("with repeat {repeat} it states {}, must be {needed}", stated.records),
         _ => format!("{needed} cannot be stated, {MOST_GRID_RECORDS} is the most: divide the grid"),
     };
     let due = match needed {

@@ -24,9 +24,10 @@ pub fn explain(bytes: &[u8], body: &Body, told: &mut Explanation) {
         told.notes.extend(repeated(bytes, body));
     } else {
         told.notes.extend(items_there(bytes, body).filter(|_| missing));
-        told.notes.extend(headers(body, missing));
-        told.notes.extend(layers(body).iter().filter_map(Layer::wrong_level));
-        told.faults.extend(layers(body).iter().filter_map(Layer::wrong_level_fault));
+        let layers = layers(body);
+        told.notes.extend(headers(body, &layers, missing));
+        told.notes.extend(layers.iter().filter_map(Layer::wrong_level).take(MOST_PLACES));
+        told.faults.extend(layers.iter().filter_map(Layer::wrong_level_fault).take(MOST_PLACES));
     }
 }
 
@@ -65,10 +66,10 @@ fn repeated(bytes: &[u8], body: &Body) -> Vec<String> {
 
 /// Where a header may be missing: by the totals, where records are missing; by the class codes of a layer, where records are
 /// missing or its total differs.
-fn headers(body: &Body, missing: bool) -> Vec<String> {
+fn headers(body: &Body, layers: &[Layer], missing: bool) -> Vec<String> {
     let mut seen: BTreeMap<usize, Vec<String>> = BTreeMap::new();
     let totals = by_total(body).into_iter().filter(|_| missing);
-    let classes = layers(body).into_iter().filter(|layer| missing || layer.differs).filter_map(|layer| layer.words());
+    let classes = layers.iter().filter(|layer| missing || layer.differs).filter_map(Layer::words);
     for (record, words) in totals.chain(classes) {
         seen.entry(record).or_default().push(words);
     }
