@@ -29,16 +29,17 @@ fn explain_prints_notes_the_refused_record_and_the_others_in_short() {
     let lines: Vec<&str> = text.lines().collect();
     assert_eq!((ran.status, ran.err.as_str()), (Some(1), ""));
     assert_eq!(lines[0], "lost.dm: refused 5 at record 9: an integer column is malformed");
-    assert_eq!(
-        lines[1],
-        "record 9 starts E2, but record 7 states 2 data records, and has 1 before it: a data record of the line E2 may be lost \
-         or stand elsewhere; find it in the original before you change the count"
-    );
-    assert_eq!(lines[2], "the sheet states 9 records (5 of the sheet part and 4 behind it), 11 are there: 2 are too many");
-    assert_eq!(lines[3], "record 9: 2D data of record 7, level 2");
-    assert!(lines[4].starts_with("> bytes 1-7    X 1  \"E22101 \"  malformed: "), "{text}");
-    assert_eq!(lines[4 + 12], "record 7: line E2, level 2");
-    assert_eq!(lines[4 + 13..], ["> bytes 32-35  records  \"   2\"  states 2 data records, 1 before record 9"]);
+    let notes = [
+        "record 9 starts E2, but record 7 states 2 data records, and has 1 before it",
+        "a data record of the line E2 at record 7 may be lost or stand elsewhere: \
+         find it in the original before you change the count",
+        "the sheet states 9 records (5 of the sheet part and 4 behind it), 11 are there: 2 are too many",
+    ];
+    assert_eq!(lines[1..4], notes);
+    assert_eq!(lines[4], "record 9: 2D data of record 7, level 2");
+    assert!(lines[5].starts_with("> bytes 1-7    X 1  \"E22101 \"  malformed: "), "{text}");
+    assert_eq!(lines[5 + 12], "record 7: line E2, level 2");
+    assert_eq!(lines[5 + 13..], ["> bytes 32-35  records  \"   2\"  states 2 data records, 1 before record 9"]);
 }
 
 /// Of the four reasons of 1 the one that holds, on the line that `judge`, `explain` and `show` print.

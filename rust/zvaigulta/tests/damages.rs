@@ -24,8 +24,7 @@ const LOST: &[Damage] = &[
             "27 are there: 1 is missing",
             "all 8 items that the sheet states are there",
             "a header may be missing before record 19: record 7 states 3 below it and holds 7",
-            "from record 19 on the class codes are 22xx,",
-            "under the layer header at record 7 of class 2100",
+            "the class codes from there on are 22xx, record 7 has 2100",
             "find it in the original before you change the count",
             "states 22, the file holds 21",
         ],
@@ -42,7 +41,7 @@ const LOST: &[Damage] = &[
         "the same, and the first layer's counts made to fit",
         || with(without(sheet(), 19, 19), 7, 18, "    7    1    0    2    0    0    1    0    1    02"),
         (10, 2),
-        &["1 is missing", "a header may be missing before record 19: from record 19 on the class codes are 22xx"],
+        &["1 is missing", "a header may be missing before record 19: the class codes from there on are 22xx"],
         &[(2, "record count")],
     ),
     (
@@ -69,7 +68,7 @@ const LOST: &[Damage] = &[
         (5, 10),
         &[
             "record 10 starts E7, but record 8 states 2 data records, and has 1 before it",
-            "a data record of the line E2 may be lost",
+            "a data record of the line E2 at record 8 may be lost",
         ],
         &[(8, "records"), (10, "X 1"), (10, "Y 1")],
     ),
@@ -181,9 +180,9 @@ const LOST: &[Damage] = &[
 const REPEATED: &[Damage] = &[
     (
         "a data record twice, all of it digits",
-        || twice(with(sheet(), 24, 0, &"1234567".repeat(12)), 24, 24),
+        || twice(with(sheet(), 25, 0, &format!("123456712345671102345{}", "1234567".repeat(9))), 25, 25),
         (4, 26),
-        &["the grid at record 23 states 2 data records", "record 25 is the same as record 24", "not: only the type seems wrong"],
+        &["the grid at record 23 states 2 data records", "record 26 is the same as record 25", "not: only the type seems wrong"],
         &[(26, "type"), (23, "records")],
     ),
     (

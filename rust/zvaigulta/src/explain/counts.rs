@@ -97,9 +97,8 @@ fn sheet(bytes: &[u8], told: &mut Explanation) {
 
 const LOST: &str = "a count that is short by one often means a lost record: find it in the original before you change the count";
 
-const ELSEWHERE: &str =
-    "no record and no item is missing by the sheet's counts: an item may stand under another header, or its type or \
-                         level be wrong; find it in the original before you change a count";
+const ELSEWHERE: &str = "no record and no item is missing by the sheet's counts: \
+                         an item may stand under another header, or its type or level be wrong";
 
 /// Whether all headers together state as many as they hold.
 fn as_many_in_all(body: &Body) -> bool {

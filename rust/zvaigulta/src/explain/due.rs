@@ -60,13 +60,11 @@ fn lost_data(item: &Record, (number, sort): (usize, Sort), told: &mut Explanatio
     let before = number - item.number - 1;
     told.faults.retain(|fault| (fault.record, fault.column) != (item.number, "records"));
     told.faults.push(fault(item.number, "records", format!("states {stated}, {before} before record {number}")));
-    told.notes.push(format!(
-        "record {number} starts {}, but record {} states {stated}, and has {before} before it: \
-         a data record of the {} may be lost or stand elsewhere; find it in the original before you change the count",
-        sort.kind(),
-        item.number,
-        of.name()
-    ));
+    let kind = sort.kind();
+    told.notes
+        .push(format!("record {number} starts {kind}, but record {} states {stated}, and has {before} before it", item.number));
+    let may = format!("a data record of the {} at record {} may be lost or stand elsewhere", of.name(), item.number);
+    told.notes.push(format!("{may}: find it in the original before you change the count"));
 }
 
 /// 4: what the record seems to be, and which count before it may be wrong.

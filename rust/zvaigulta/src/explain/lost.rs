@@ -37,7 +37,7 @@ fn taken_as_data(item: &Record, (number, sort): (usize, Sort), told: &mut Explan
     let records = number_of(Stated::of(of, item.bytes).records, "data record");
     let reads = format!("record {number} reads as {}", with_article(&sort.name()));
     let taken = format!("is taken as data of the {} at record {}, which states {records}", of.name(), item.number);
-    told.notes.push(format!("{reads}, but {taken}: one of them is lost, or that is too many"));
+    told.notes.push(format!("{reads}, but {taken}: one is lost, or too many"));
     told.faults.push(fault(item.number, "records", format!("states {records}, but {reads}")));
 }
 
@@ -120,8 +120,8 @@ impl Layer {
     /// The item from which on another layer's items seem to stand here, and why.
     fn words(&self) -> Option<(usize, String)> {
         let (record, hundreds, _) = self.other.filter(|(_, _, header)| !self.mixed && header.is_none())?;
-        let under = format!("under the layer header at record {} of class {}", self.header, self.class);
-        Some((record, format!("from record {record} on the class codes are {hundreds:02}xx, {under}")))
+        let own = format!("record {} has {}", self.header, self.class);
+        Some((record, format!("the class codes from there on are {hundreds:02}xx, {own}")))
     }
 
     /// A header of another class than its layer's, where the layer's total differs: a layer header with a wrong level.
