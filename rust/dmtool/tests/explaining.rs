@@ -61,11 +61,10 @@ fn one_reason_for_a_length() {
 fn a_block_is_recognised() {
     let f = Folder::new("block");
     f.put("block.dm", &block());
-    let refused = "block.dm: refused 2 at record 1: record 1 does not start with the type that was asked for";
     let words = "this is a block, a line E2 with 2 data records, level 2: use it with insert";
-    assert_eq!(f.run(&["judge", "block.dm"]).text(), format!("{refused}; {words}\n"));
+    assert_eq!(f.run(&["judge", "block.dm"]).text(), format!("block.dm: refused 2 at record 1: {words}\n"));
     let text = f.run(&["explain", "block.dm"]).text();
-    assert!(text.starts_with(&format!("{refused}; {words}\n")), "{text}");
+    assert!(text.starts_with(&format!("block.dm: refused 2 at record 1: {words}\n")), "{text}");
     assert_eq!(text.matches(words).count(), 1, "{text}");
     assert!(text.contains("\nrecord 1: line E2, level 2\n> bytes 1-2    type "), "{text}");
     assert!(f.run(&["show", "block.dm", "2"]).text().contains("\n2: 2D data of record 1, level 2: X 1=0, "));

@@ -83,8 +83,8 @@ pub fn explain(bytes: &[u8], refusal: Refusal) -> Explanation {
     told
 }
 
-/// A refusal in one line, as it displays itself, but for two: of the four reasons of 1 the one that holds; and of a file that
-/// is a block, that it is one.
+/// A refusal in one line, as it displays itself, but for two: of the four reasons of 1 the one that holds; and for 2, of a file
+/// that is a block, that it is one.
 ///
 /// ```
 /// use zvaigulta::{explain, judge_sheet, EXAMPLE};
@@ -97,7 +97,10 @@ pub fn explain(bytes: &[u8], refusal: Refusal) -> Explanation {
 pub fn line(bytes: &[u8], refusal: Refusal) -> String {
     match refusal.reason {
         Reason::Length => format!("refused {}: {}", refusal.number(), length::reason(bytes.len())),
-        Reason::FileType => block(bytes).map_or_else(|| refusal.to_string(), |block| format!("{refusal}; {block}")),
+        Reason::FileType => block(bytes).map_or_else(
+            || refusal.to_string(),
+            |block| format!("refused {} at record {}: {block}", refusal.number(), refusal.record.unwrap_or(1)),
+        ),
         _ => refusal.to_string(),
     }
 }
