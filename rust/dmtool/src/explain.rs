@@ -90,13 +90,17 @@ pub fn way_up(path: &OsStr, sheet: &[u8], record: usize, refusal: Refusal) -> Fa
     refused(path, sheet, refusal, zvaigulta::explain::way_up(sheet, record, refusal))
 }
 
-/// The refusal, then what to do, a line each.
-fn refused(path: &OsStr, file: &[u8], refusal: Refusal, words: Vec<String>) -> Failure {
-    let name = files::name(path);
-    let mut lines = vec![format!("{name}: {}", line(file, refusal))];
-    lines.extend(words);
-    if refusal.number() <= 10 && FileKind::of(file) == FileKind::Sheet {
-        lines.push(format!("'dmtool explain {name}' says what is wrong"));
+/// A refused file as the failure of a subcommand.
+pub fn file(path: &OsStr, file: &[u8], refusal: Refusal) -> Failure {
+    refused(path, file, refusal, Vec::new())
+}
+
+/// The refusal, then what to do, a line each. An index that should be a sheet is told to be one, and there is nothing to explain.
+fn refused(path: &OsStr, file: &[u8], refusal: Refusal, mut words: Vec<String>) -> Failure {
+    if refusal.number() <= 10 && (words.is_empty() || FileKind::of(file) == FileKind::Sheet) {
+        let name = if path == "-" { "-".to_string() } else { files::name(path) };
+        words.push(format!("'dmtool explain {name}' says what is wrong"));
     }
-    Failure::Refused(lines.join("\n"))
+    words.insert(0, format!("{}: {}", files::name(path), line(file, refusal)));
+    Failure::Refused(words.join("\n"))
 }

@@ -90,8 +90,3 @@ pub fn name(path: &OsStr) -> String {
 pub fn judge(bytes: &[u8]) -> Result<Counts, Refusal> {
     FileKind::of(bytes).judge(bytes, bytes.len())
 }
-
-/// A refusal as the failure of a subcommand.
-pub fn refused(path: &OsStr, refusal: Refusal) -> Failure {
-    Failure::Refused(format!("{}: {refusal}", name(path)))
-}

@@ -1,8 +1,8 @@
 //! `normal FILE`: the normal form.
 
 use crate::arguments::Arguments;
+use crate::explain;
 use crate::failure::{Done, FINE};
-use crate::files;
 use crate::replace::Job;
 use std::ffi::OsStr;
 use std::io::Write;
@@ -14,7 +14,8 @@ pub fn run(arguments: &Arguments, out: &mut impl Write) -> Done {
     let job = Job::open(arguments, path, arguments.output.as_deref().unwrap_or(OsStr::new("-")))?;
     let used = job.bytes.len();
     let mut second = vec![b' '; used];
-    let length = FileKind::of(&job.bytes).normal(&job.bytes, used, &mut second).map_err(|r| files::refused(path, r))?;
+    let length =
+        FileKind::of(&job.bytes).normal(&job.bytes, used, &mut second).map_err(|r| explain::file(path, &job.bytes, r))?;
     second.truncate(length);
     job.deliver(&second, out)?;
     Ok(FINE)

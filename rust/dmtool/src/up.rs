@@ -17,7 +17,7 @@ pub fn run(arguments: &Arguments, out: &mut impl Write) -> Done {
     // Each header stands before the record below it, so this ends; a level is at most 9, so eight headers are passed at most.
     while let Some(header) = next {
         passed.push(header.to_string());
-        next = way_up(&bytes, bytes.len(), header).map_err(|r| files::refused(path, r))?.header;
+        next = way_up(&bytes, bytes.len(), header).map_err(|r| explain::way_up(path, &bytes, header, r))?.header;
     }
     let name = files::name(path);
     let done = match way.header {

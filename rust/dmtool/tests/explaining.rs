@@ -55,6 +55,10 @@ fn one_reason_for_a_length() {
                 without that the file is accepted";
     assert_eq!(f.run(&["explain", "lines.dm"]).seen(), (Some(1), format!("{line}\n{note}\n"), true));
     assert!(f.run(&["insert", "lines.dm", "7", "lines.dm"]).err.starts_with(&format!("dmtool: {line}\n")));
+    let normal = f.run(&["normal", "lines.dm"]);
+    assert_eq!(normal.err, format!("dmtool: {line}\n'dmtool explain lines.dm' says what is wrong\n"));
+    assert_eq!((normal.status, normal.text()), (Some(1), String::new()));
+    assert!(f.run_on(&lines, &["normal", "-"]).err.ends_with("'dmtool explain -' says what is wrong\n"));
 }
 
 #[test]
