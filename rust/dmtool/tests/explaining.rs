@@ -74,36 +74,30 @@ fn a_block_is_recognised() {
     assert!(f.run(&["show", "block.dm", "2"]).text().contains("\n2: 2D data of record 1, level 2: X 1=0, "));
 }
 
+/// The words on the command line, the refusal, and what to do.
+const REFUSED: [(&[&str], &str, &str); 10] = [
+    (&["insert", "good.dm", "8", "block.dm"], "refused 11: ", "record 8 is data of the line E2 at record 7: give 7 "),
+    (&["insert", "good.dm", "11", "block.dm"], "refused 11: ", "the sheet has 9 records: there is no place 11; the last place"),
+    (&["insert", "good.dm", "7", "good.dm"], "refused 12: ", "the block is a sheet; it must be one element"),
+    (&["insert", "good.dm", "6", "block.dm"], "refused 13: ", "the block has level 2, before record 6 no item is possible"),
+    (&["insert", "index.dm", "2", "block.dm"], "refused 2 at record 1: ", "this is an index: items stand in sheets, it has none"),
+    (&["insert", "bad.dm", "7", "block.dm"], "refused 7 at record 6: ", "the sheet itself is refused"),
+    (
+        &["remove", "good.dm", "6"],
+        "refused 11: ",
+        "record 6 is a layer header, level 1, with 1 below it: only an item is removed",
+    ),
+    (&["remove", "index.dm", "1"], "refused 2 at record 1: ", "this is an index"),
+    (&["up", "good.dm", "5"], "refused 17: ", "record 5 is in the sheet part, which ends at record 5"),
+    (&["up", "index.dm", "1"], "refused 2 at record 1: ", "this is an index"),
+];
+
 /// Refused edits and ways up: the refusal, and what to do, on standard error; no file is changed.
 #[test]
 fn a_refused_edit_says_what_to_do() {
     let f = Folder::new("refused_edits");
     f.put("good.dm", &good()).put("bad.dm", &without(6)).put("index.dm", INDEX).put("block.dm", &block());
-    let cases: [(&[&str], &str, &str); 10] = [
-        (&["insert", "good.dm", "8", "block.dm"], "refused 11: ", "record 8 is data of the line E2 at record 7: give 7 "),
-        (
-            &["insert", "good.dm", "11", "block.dm"],
-            "refused 11: ",
-            "the sheet has 9 records: there is no place 11; the last place",
-        ),
-        (&["insert", "good.dm", "7", "good.dm"], "refused 12: ", "the block is a sheet; it must be one element"),
-        (&["insert", "good.dm", "6", "block.dm"], "refused 13: ", "the block has level 2, before record 6 no item is possible"),
-        (
-            &["insert", "index.dm", "2", "block.dm"],
-            "refused 2 at record 1: ",
-            "this is an index: items stand in sheets, it has none",
-        ),
-        (&["insert", "bad.dm", "7", "block.dm"], "refused 7 at record 6: ", "the sheet itself is refused"),
-        (
-            &["remove", "good.dm", "6"],
-            "refused 11: ",
-            "record 6 is a layer header, level 1, with 1 below it: only an item is removed",
-        ),
-        (&["remove", "index.dm", "1"], "refused 2 at record 1: ", "this is an index"),
-        (&["up", "good.dm", "5"], "refused 17: ", "record 5 is in the sheet part, which ends at record 5"),
-        (&["up", "index.dm", "1"], "refused 2 at record 1: ", "this is an index"),
-    ];
-    for (words, refused, said) in cases {
+    for (words, refused, said) in REFUSED {
         let before = f.get(words[1]);
         let ran = f.run(words);
         assert_eq!((ran.status, ran.text()), (Some(1), String::new()), "{words:?}");

@@ -1046,6 +1046,8 @@ fn every_damage_is_explained() {
             let (part, due) = part.strip_prefix("not: ").map_or((*part, true), |part| (part, false));
             assert_eq!(said.iter().any(|said| said.contains(part)), due, "{name}: {part}: {explained:#?}");
         }
+        let twice = |note: &String| explained.notes.iter().filter(|other| *other == note).count() > 1;
+        assert!(!explained.notes.iter().any(twice), "{name}: {explained:#?}");
         let is = |(record, column): (usize, &str)| explained.faults.iter().any(|f| (f.record, f.column) == (record, column));
         assert!(marked.iter().all(|at| is(*at)), "{name}: {explained:#?}");
         assert!(number == 1 || marked.iter().any(|(at, _)| *at == record), "{name}: a column of the refused record is asked for");
