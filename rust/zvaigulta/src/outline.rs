@@ -12,6 +12,7 @@ use What::{Data, Entry, Part, Unknown};
 
 /// What a record is.
 #[derive(Clone, Copy, Debug, PartialEq, Eq)]
+#[non_exhaustive]
 pub enum What {
     /// A record of the sheet part or of an index.
     Part,
@@ -28,6 +29,7 @@ pub enum What {
 
 /// A record with its number and name.
 #[derive(Clone, Copy, Debug)]
+#[non_exhaustive]
 pub struct Record<'a> {
     /// Its number, from 1.
     pub number: usize,
