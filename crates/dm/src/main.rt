@@ -58,15 +58,12 @@ fn printed_length(written: Written) -> usize
     }
 }
 
-// Reads the input, puts the line for it at the start of a buffer, and answers the line's length. A part of the input gets no answer.
+// Reads the input, puts the line for it at the start of a buffer, and answers the line's length.
 fn put_line(input: &mut [u8], out: &mut [u8]) -> usize
     ensures { λ r. ⌜ Counts r (now (out .exit)) ⌝ }
 {
     let read = read_input(STDIN_FILENO, input);
-    if read.failed {
-        return printed_length(report::report_unread(out));
-    }
-    printed_length(report::report(&input[..read.used], out))
+    printed_length(report::report_read(input, read.used, read.failed, out))
 }
 
 fn main() {

@@ -1,9 +1,9 @@
 -- What the program prints. Assumes nothing.
-use mathlib.Core.Bool.{cond}
+use mathlib.Core.Bool.{Bool, cond}
 use mathlib.Core.List.{List, [], _∷_, _++_}
 use Prim.Native.Nat.{ℕ}
 use lib.Dec.{leb}
-use lib.ListN.{length, drop}
+use lib.ListN.{length, take, drop}
 use Rattle.format.specs.Text.{bytes, begins}
 use Rattle.format.specs.Basics.{Answer, given, refused, Outcome}
 use Rattle.format.specs.Column.{digits}
@@ -41,5 +41,6 @@ reportTo input out = lineTo (printed input) out
 unfoldable pub unread : List ℕ
 unread = bytes "not judged: read error" ++ (10 ∷ [])
 
-unfoldable pub unreadTo : (out : List ℕ) → Outcome ℕ
-unreadTo out = lineTo unread out
+-- the line for what reading came to: the first bytes of a buffer, and whether a read failed
+unfoldable pub readTo : (buffer : List ℕ) → (used : ℕ) → (failed : Bool) → (out : List ℕ) → Outcome ℕ
+readTo buffer used failed out = cond failed (lineTo unread out) (reportTo (take used buffer) out)

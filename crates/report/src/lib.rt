@@ -7,7 +7,7 @@ ghost use Rattle.format.specs.Column.{digits};
 ghost use Rattle.format.specs.Text.{begins};
 ghost use Rattle.format.specs.Answers.{judgedAnswer, writtenAnswer};
 ghost use Rattle.format.specs.Program.{judgeInput};
-ghost use Rattle.format.specs.Program.{lineTo, reportTo, unreadTo};
+ghost use Rattle.format.specs.Program.{lineTo, reportTo, readTo};
 ghost use Rattle.files.specs.Buffers.{putAt};
 ghost use Rattle.report.specs.Steps.{numberLine, lineFor};
 use format::Judged;
@@ -143,9 +143,15 @@ pub fn report(input: &[u8], out: &mut [u8]) -> Written
     put_answer(out, judged)
 }
 
-// Puts the line that the program prints where its input could not be read to the end at the start of a buffer, if it has room there.
-pub fn report_unread(out: &mut [u8]) -> Written
-    ensures { λ r. ⌜ record { answer = writtenAnswer r; bytes = now (out .exit) } ≡ unreadTo (now (out .entry)) ⌝ }
+// The same for what reading an input came to: the first `used` bytes of a buffer, and whether a read failed. A part of an input gets no answer.
+pub fn report_read(buffer: &[u8], used: usize, failed: bool, out: &mut [u8]) -> Written
+    ensures { λ r. ⌜ record { answer = writtenAnswer r; bytes = now (out .exit) } ≡ readTo (now (buffer .entry)) used failed (now (out .entry)) ⌝ }
 {
-    put_text_line(out, b"not judged: read error\n")
+    if failed {
+        return put_text_line(out, b"not judged: read error\n");
+    }
+    if buffer.len() < used {
+        return report(buffer, out);
+    }
+    report(&buffer[..used], out)
 }
