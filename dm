@@ -19,7 +19,7 @@ fail() {
 
 case $# in
 0) file= ;;
-1) file=$1 ;;
+1) file=$1; [ -n "$file" ] || { echo "dm: the file's name is empty" >&2; exit 2; } ;;
 *) echo "$usage" >&2; exit 2 ;;
 esac
 if [ "$file" = --help ] || [ "$file" = -h ]; then
@@ -49,6 +49,7 @@ if stale; then
 fi
 exec 9>&-
 # building ends here
+[ -x "$program" ] || fail "$program is missing; install it again"
 
 if [ -n "$file" ]; then
     [ -e "$file" ] || fail "$file: there is no such file; check the name and the folder"

@@ -14,7 +14,7 @@
  *
  *     cc -std=c99 example.c $(pkg-config --cflags --libs zvaigulta) -o example
  *
- * links the shared object, and
+ * links the shared object (once after the first installation, `ldconfig`; under another PREFIX, LD_LIBRARY_PATH), and
  *
  *     cc -std=c99 example.c $(pkg-config --cflags zvaigulta) $(pkg-config --variable=libdir zvaigulta)/libzvaigulta.a -o example
  *

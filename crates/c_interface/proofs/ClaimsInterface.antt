@@ -1,5 +1,5 @@
 -- Claims: every refusal of the interface has a number of at least 1 and every header that it answers a record number of at least 1, so that a struct with
--- `refusal` 0 is an answer and one with `header` 0 is none; and two answers with the same struct are the same. A C program loses nothing.
+-- `refusal` 0 is an answer and one with `header` 0 is none; and two answers with the same struct are the same; of two columns, what is described of them.
 -- And the header's rooms for texts are enough. Assumes nothing.
 use mathlib.Core.Path.{_≡_, refl, ap, ap₂}
 use mathlib.Core.List.{List}

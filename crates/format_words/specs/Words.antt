@@ -79,7 +79,8 @@ letterOf blank = 88
 letterOf (integral rule) = ruleLetter rule
 letterOf integralOrSpaces = 83
 
--- start, width, letter, and the least and the greatest number that it may hold, which are what `Least` and `Greatest` of crate layouts say
+-- start, width, letter, and the least and the greatest number that it may hold: of an integer what `Least` and `Greatest` of crate layouts say, 0 of
+-- text and blanks
 unfoldable pub describedOf : Answer Col → Described
 describedOf (given c) = Described.Column (c .start) (c .width) (letterOf (c .what)) (lowIn c) (highIn c)
 describedOf (refused n r) = Described.Refused n r

@@ -49,6 +49,7 @@ fn executable(path: &Path, text: &str) {
 fn where_no_answer_comes() {
     no_answer(dm(&["no such file"]), "no such file: there is no such file");
     no_answer(dm(&["crates"]), "crates: it is a folder");
+    no_answer(dm(&[""]), "the file's name is empty");
     no_answer(dm(&["crates/dm/stdin", "crates/dm/stdin"]), "usage: dm [FILE]");
 }
 

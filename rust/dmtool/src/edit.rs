@@ -6,6 +6,7 @@ use crate::replace::Job;
 use crate::{explain, files, system};
 use std::ffi::OsStr;
 use std::io::Write;
+use zvaigulta::text::number_of;
 use zvaigulta::{Counts, Sheet, RECORD_BYTES};
 
 /// A place for an insertion: a record number, or none for `end`.
@@ -46,7 +47,7 @@ pub fn insert(arguments: &Arguments, out: &mut impl Write) -> Done {
     let place = at.unwrap_or(used / RECORD_BYTES + 1);
     let mut sheet = copied(&job.bytes, block.len());
     let counts = sheet.insert(place, &block).map_err(|r| explain::insertion(path, &job.bytes, place, &block, r))?;
-    let done = format!("inserted {} records at record {place}", block.len() / RECORD_BYTES);
+    let done = format!("inserted {} at record {place}", records(block.len()));
     finish(job, to, &sheet, counts, &done, out)
 }
 
@@ -58,8 +59,13 @@ pub fn remove(arguments: &Arguments, out: &mut impl Write) -> Done {
     let mut sheet = copied(&job.bytes, 0);
     let counts = sheet.remove(place).map_err(|r| explain::removal(path, &job.bytes, place, r))?;
     let removed = job.bytes.len() - sheet.as_bytes().len();
-    let done = format!("removed {} records at record {place}", removed / RECORD_BYTES);
+    let done = format!("removed {} at record {place}", records(removed));
     finish(job, to, &sheet, counts, &done, out)
+}
+
+/// How many records so many bytes are, in words.
+fn records(bytes: usize) -> String {
+    number_of((bytes / RECORD_BYTES) as u64, "record")
 }
 
 /// Puts the sheet where it goes and says what was done.

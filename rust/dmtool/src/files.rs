@@ -1,5 +1,6 @@
 //! Files as they are named, read and judged.
 
+use crate::closed::{self, Standard};
 use crate::failure::Failure;
 use crate::system;
 use std::ffi::OsStr;
@@ -67,6 +68,9 @@ pub fn unwritten(path: &OsStr, error: &io::Error) -> Failure {
 
 /// Reads a file, or standard input for `-`, into a buffer.
 pub fn read_into(path: &OsStr, into: &mut Vec<u8>) -> Result<(), Failure> {
+    if path == "-" {
+        closed::refuse(Standard::Input)?;
+    }
     let done = if path == "-" { take_all(io::stdin().lock(), into) } else { File::open(path).and_then(|f| take_file(&f, into)) };
     done.map(|_| ()).map_err(|e| unread(path, &e))
 }

@@ -5,6 +5,7 @@
 mod arguments;
 mod batch;
 mod beside;
+mod closed;
 mod edit;
 mod explain;
 mod failure;
@@ -23,6 +24,7 @@ mod up;
 mod words;
 
 use arguments::Arguments;
+use closed::Standard;
 use failure::{complain, output_failed, Done, Failure};
 use std::ffi::OsString;
 use std::io::{self, BufWriter, Write};
@@ -45,7 +47,7 @@ fn run(name: &str, words: &[OsString], out: &mut impl Write) -> Done {
         "remove" => edit::remove(&arguments, out),
         "up" => up::run(&arguments, out),
         "normal" => normal::run(&arguments, out),
-        _ => batch::run(&arguments, &mut io::stdin().lock(), out),
+        _ => closed::refuse(Standard::Input).and_then(|()| batch::run(&arguments, &mut io::stdin().lock(), out)),
     }
 }
 
@@ -67,7 +69,7 @@ fn start(words: &[OsString], out: &mut impl Write) -> Done {
 fn main() -> ExitCode {
     let words: Vec<OsString> = std::env::args_os().skip(1).collect();
     let mut out = BufWriter::with_capacity(1 << 16, io::stdout().lock());
-    let done = start(&words, &mut out);
+    let done = closed::refuse(Standard::Output).and_then(|()| start(&words, &mut out));
     let done = done.and_then(|status| out.flush().map(|()| status).map_err(output_failed));
     // What is still in the buffer after a failure is not written: the answer would be half an answer.
     let (_out, _unwritten) = out.into_parts();

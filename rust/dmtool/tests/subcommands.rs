@@ -140,7 +140,7 @@ fn remove() {
     assert_eq!(f.run(&["remove", "good.dm", "7"]).status, Some(0));
     assert_eq!(f.get("good.dm"), f.get("other.dm"));
     let ran = f.run(&["remove", "large.dm", "200000"]);
-    assert!(ran.text().starts_with("large.dm: removed 1 records at record 200000, now 199999 records "), "{}", ran.text());
+    assert!(ran.text().starts_with("large.dm: removed 1 record at record 200000, now 199999 records "), "{}", ran.text());
     assert_eq!(f.run(&["remove", "large.dm", "6"]).status, Some(1));
     assert_eq!(f.run(&["remove", "damaged.dm", "7"]).status, Some(1));
     assert_eq!(f.run(&["remove", "empty.dm", "7"]).status, Some(1));

@@ -91,6 +91,29 @@ fn a_closed_pipe_is_quiet() {
     }
 }
 
+/// Closed from the start: there is no answer, so the status is 2, and an edit is not made. What is asked to go to `/dev/null` is no such case.
+#[test]
+fn closed_from_the_start() {
+    let f = Folder::new("closed");
+    f.put("good.dm", &good());
+    let on = |words: &str| {
+        let line = format!("exec \"$0\" {words}");
+        run(Command::new("sh").args(["-c", &line, env!("CARGO_BIN_EXE_dmtool")]).current_dir(&f.0), b"")
+    };
+    for words in ["judge good.dm >&-", "remove good.dm 7 >&-", "--help >&-", "judge - <&-", "batch <&-", "normal good.dm >&-"] {
+        let ran = on(words);
+        assert_eq!((ran.status, ran.text(), f.get("good.dm")), (Some(2), String::new(), good()), "{words}");
+        assert!(
+            ran.err.starts_with("dmtool: standard ") && ran.err.contains(" is closed; nothing was done"),
+            "{words}: {}",
+            ran.err
+        );
+    }
+    for words in ["judge good.dm >/dev/null", "judge good.dm 1>>/dev/null", "batch </dev/null"] {
+        assert_eq!(on(words).status, Some(0), "{words}");
+    }
+}
+
 #[test]
 fn a_full_disk_is_an_error_in_words() {
     let f = Folder::new("full_disk");

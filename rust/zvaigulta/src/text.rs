@@ -32,6 +32,6 @@ pub(crate) fn with_article(name: &str) -> String {
 }
 
 /// A number of things: `1 data record`, `2 data records`.
-pub(crate) fn number_of(count: u64, thing: &str) -> String {
+pub fn number_of(count: u64, thing: &str) -> String {
     format!("{count} {thing}{}", if count == 1 { "" } else { "s" })
 }
