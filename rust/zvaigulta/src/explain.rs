@@ -29,6 +29,7 @@ mod joined;
 mod length;
 mod lost;
 mod near;
+mod other;
 mod own;
 mod shift;
 
@@ -56,6 +57,9 @@ pub struct Fault {
 fn fault(record: usize, column: &'static str, words: String) -> Fault {
     Fault { record, column, words }
 }
+
+/// What ends each note after which a changed count would make a file accepted that has lost data.
+const CAUTION: &str = "find it in the original before you change the count";
 
 /// The columns at fault, and what else there is to say.
 #[derive(Clone, Debug, Default, PartialEq, Eq)]

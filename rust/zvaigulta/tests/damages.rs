@@ -382,6 +382,11 @@ const PARTS: &[Damage] = &[
     ),
 ];
 
+/// The sheet with six points of the line at record 8, a full record of them.
+fn full_line() -> Vec<u8> {
+    with(with(without(sheet(), 10, 10), 8, 27, "   6   1"), 2, 37, "     21")
+}
+
 /// Columns of headers, items and data.
 const COLUMNS: &[Damage] = &[
     ("a letter O for a zero", || with(sheet(), 9, 13, "O"), (5, 9), &["malformed: \"O\" is no digit"], &[(9, "Y 1")]),
@@ -449,7 +454,9 @@ const COLUMNS: &[Damage] = &[
             "is 13: needs 3 data records",
             "is 2, must be 3 for data kind 2 and count 13",
             "2 records follow it before the note E7 at record 11;",
-            "that is what records states, so look at the other columns first: a data count of 7 to 12 goes with 2",
+            "that is what records states, so look at the other columns first: a data count of 7 to 12 goes with 2;",
+            "goes with 2; find it in the original before you change the count",
+            "not: the data kind of record 8",
         ],
         &[(8, "data count"), (8, "records")],
     ),
@@ -498,6 +505,33 @@ const COLUMNS: &[Damage] = &[
         (8, 8),
         &["is 4, must be 2 or 3 or 6 for E2"],
         &[(8, "data kind")],
+    ),
+    (
+        "a data kind that needs more records",
+        || with(full_line(), 8, 20, "3"),
+        (8, 8),
+        &[
+            "the data kind of record 8 may be wrong: 2 goes with a data count of 6 and 1 data record, and what follows reads so",
+            "a data count of 1 to 4 goes with 1; find it in the original before you change the count",
+        ],
+        &[(8, "data kind"), (8, "data count"), (8, "records")],
+    ),
+    (
+        "the same, and a number of the data malformed",
+        || with(with(full_line(), 8, 20, "3"), 9, 6, "O"),
+        (8, 8),
+        &["2 goes with a data count of 6 and 1 data record", "not: and what follows reads so", "find it in the original"],
+        &[(8, "data kind"), (8, "data count"), (8, "records")],
+    ),
+    (
+        "a data kind of a point without data",
+        || with(sheet(), 14, 20, "0"),
+        (8, 14),
+        &[
+            "the data kind of record 14 may be wrong: 2 goes with a data count of 1 and 1 data record",
+            "find it in the original before you change the count",
+        ],
+        &[(14, "data kind"), (14, "data count"), (14, "records")],
     ),
     ("a data kind out of its list", || with(sheet(), 8, 20, "7"), (6, 8), &["is 7, must be 0 to 6"], &[(8, "data kind")]),
     (
@@ -1057,7 +1091,7 @@ fn every_damage_is_explained() {
 
 #[test]
 fn the_undamaged_files_are_accepted() {
-    for file in [sheet(), index()] {
+    for file in [sheet(), full_line(), index()] {
         FileKind::of(&file).judge(&file, file.len()).expect("accepted");
     }
 }

@@ -1,7 +1,7 @@
 //! 8: the data kind, counts and records of an item that do not go together, and how many data records follow.
 
 use super::counts::Records;
-use super::{fault, near, Explanation, Fault};
+use super::{fault, near, other, Explanation, Fault, CAUTION};
 use crate::outline::{natural, Record, Sort, Stated};
 use crate::text::number_of;
 
@@ -28,6 +28,7 @@ pub fn rule(bytes: &[u8], named: &Record, told: &mut Explanation) {
     let missing = Records::of(bytes).filter(|records| records.missing() > 0);
     let follows = following(bytes, named);
     told.notes.extend(missing.as_ref().map(|records| records.words()));
+    other::kind(bytes, named, told);
     told.notes.push(match missing {
         Some(_) => format!("{follows}; look for a lost data record of it before you change a count"),
         None => format!("{follows}{}", doubt(near::following(bytes, named) as u64, sort, &stated)),
@@ -51,9 +52,12 @@ fn following(bytes: &[u8], named: &Record) -> String {
 /// Which of the columns the number of records that follow makes doubtful.
 fn doubt(follow: u64, sort: Sort, stated: &Stated) -> String {
     match (follow == stated.records, follow == stated.needed) {
-        (true, false) => format!("; that is what records states, so look at the other columns first{}", counts_for(sort, stated)),
+        (true, false) => {
+            let counts = counts_for(sort, stated);
+            format!("; that is what records states, so look at the other columns first{counts}; {CAUTION}")
+        }
         (false, true) => "; that is what the other columns need, so look at records first".to_string(),
-        _ => String::new(),
+        _ => format!("; {CAUTION}"),
     }
 }
 
@@ -98,6 +102,12 @@ fn allowed(n: u8, kind: u64, count: u64) -> (&'static [u64], bool, &'static str)
         7 => (&[4], count >= 1, "1 or more"),
         _ => (&[5], count >= 1, "1 or more"),
     }
+}
+
+/// Whether an element of a type may have a data kind, with the data count and the records that it states.
+pub fn is_right(n: u8, kind: u64, stated: &Stated) -> bool {
+    let (kinds, count_right, _) = allowed(n, kind, stated.count);
+    kinds.contains(&kind) && count_right && stated.records == stated.needed
 }
 
 fn element(named: &Record, n: u8, kind: u64, stated: &Stated) -> Vec<Fault> {

@@ -119,7 +119,8 @@ impl Stated {
         Stated { layout: Some(layout), records, needed: count.div_ceil(a_record), count, a_record, columns }
     }
 
-    fn of_element(kind: u64, count: u64, records: u64) -> Stated {
+    /// Of an element with a data kind, a data count and a number of records.
+    pub(crate) fn of_element(kind: u64, count: u64, records: u64) -> Stated {
         match kind {
             2 => Stated::points(&DATA_2D, records, count, 6, 2),
             3 | 6 => Stated::points(&DATA_3D, records, count, 4, 3),
