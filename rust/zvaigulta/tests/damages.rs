@@ -482,7 +482,11 @@ const COLUMNS: &[Damage] = &[
         "a data count with data that ends before it",
         || with(sheet(), 8, 27, "   9"),
         (5, 10),
-        &["the line E2 at record 8: 9 points are stated, the data has 7"],
+        &[
+            "the line E2 at record 8: 9 points are stated, the data has 7 up to record 10, and behind that spaces alone",
+            "a point may be lost: find it in the original before you change the count",
+            "not: the data kind of record 8 may be wrong",
+        ],
         &[(10, "X 2"), (8, "data count")],
     ),
     (
@@ -545,7 +549,10 @@ const COLUMNS: &[Damage] = &[
         "rows of a grid within its records",
         || with(sheet(), 23, 18, "   3"),
         (5, 25),
-        &["the grid at record 23: 21 heights are stated, the data has 14"],
+        &[
+            "the grid at record 23: 21 heights are stated, the data has 14",
+            "a height may be lost: find it in the original before you change the count",
+        ],
         &[(25, "height 3"), (23, "rows"), (23, "columns")],
     ),
     (
@@ -626,8 +633,23 @@ const COLUMNS: &[Damage] = &[
         "a data kind of other points",
         || with(sheet(), 8, 20, "3"),
         (5, 10),
-        &["7 points are stated, the data has 4 up to record 10, and behind them spaces alone"],
+        &[
+            "7 points are stated, the data has 4 and a part of one more up to record 10, and behind that spaces alone",
+            "the data kind of record 8 may be wrong: 2 goes with a data count of 7 and 2 data records, and what follows reads so",
+            "a point may be lost: find it in the original before you change the count",
+        ],
         &[(10, "Z 1"), (8, "data kind"), (8, "data count")],
+    ),
+    (
+        "points of a line that are spaces, and one behind them",
+        || with(with(sheet(), 8, 27, "   8"), 10, 28, "   7000      0"),
+        (5, 10),
+        &[
+            "8 points are stated, the data has 7 up to record 10, then spaces, and more behind them",
+            "a point may be lost: find it in the original before you change the count",
+            "not: spaces alone",
+        ],
+        &[(10, "X 2"), (8, "data count")],
     ),
     (
         "a record of spaces in the middle",

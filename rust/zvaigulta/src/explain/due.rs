@@ -1,7 +1,7 @@
 //! 3, 4 and 5: a record that is not what is due where it stands, and the column before it that may say so wrongly.
 
 use super::counts::Records;
-use super::{fault, form, index, near, own, Explanation, Fault};
+use super::{fault, form, index, near, other, own, Explanation, Fault, CAUTION};
 use crate::layout::*;
 use crate::outline::{natural, part, record, Outline, Record, Sort, Stated, What};
 use crate::text::{number_of, quoted, with_article};
@@ -64,7 +64,7 @@ fn lost_data(item: &Record, (number, sort): (usize, Sort), told: &mut Explanatio
     told.notes
         .push(format!("record {number} starts {kind}, but record {} states {stated}, and has {before} before it", item.number));
     let may = format!("a data record of the {} at record {} may be lost or stand elsewhere", of.name(), item.number);
-    told.notes.push(format!("{may}: find it in the original before you change the count"));
+    told.notes.push(format!("{may}: {CAUTION}"));
 }
 
 /// 4: what the record seems to be, and which count before it may be wrong.
@@ -153,7 +153,7 @@ pub fn malformed(bytes: &[u8], named: &Record, told: &mut Explanation) {
             let Some(item) = Outline::of(bytes).nth(item - 1) else { return };
             match near::hidden(bytes, &item) {
                 Some(hidden) => lost_data(&item, hidden, told),
-                None => short_data(named, &item, told),
+                None => short_data(bytes, named, &item, told),
             }
         }
         What::Part => other_part(bytes, named, told),
@@ -161,8 +161,8 @@ pub fn malformed(bytes: &[u8], named: &Record, told: &mut Explanation) {
     }
 }
 
-/// Data that ends before the last point or height that is due: nothing but spaces from there on.
-fn short_data(named: &Record, item: &Record, told: &mut Explanation) {
+/// Data that ends before the last point or height that is due: nothing but spaces in the judged columns from there on.
+fn short_data(bytes: &[u8], named: &Record, item: &Record, told: &mut Explanation) {
     let Some(sort) = item.sort() else { return };
     let columns = named.judged_columns();
     let blank = columns.iter().rev().take_while(|column| column.is_spaces(named.bytes)).count();
@@ -170,18 +170,28 @@ fn short_data(named: &Record, item: &Record, told: &mut Explanation) {
         return;
     }
     let stated = Stated::of(sort, item.bytes);
-    let nth = (named.number - item.number) as u64;
-    let found = stated.units(nth.saturating_sub(1), columns.len() - blank);
-    let words = format!("{} {} are stated, the data has {found}", stated.count, sort.unit());
+    let (nth, filled) = ((named.number - item.number) as u64, columns.len() - blank);
+    let part = if stated.ends_inside(filled) { " and a part of one more" } else { "" };
+    let found = stated.units(nth.saturating_sub(1), filled);
+    let words = format!("{} {} are stated, the data has {found}{part}", stated.count, sort.unit());
     told.faults.extend(stating(sort).iter().map(|column| fault(item.number, column, words.clone())));
     let ends = format!("the {} at record {}: {words} up to record {}", sort.name(), item.number, named.number);
-    told.notes.push(match nth == stated.records {
-        true => format!("{ends}, and behind them spaces alone"),
-        false => format!(
+    told.notes.push(match (nth == stated.records, spaces_from(named, filled)) {
+        (true, true) => format!("{ends}, and behind that spaces alone"),
+        (true, false) => format!("{ends}, then spaces, and more behind them"),
+        (false, _) => format!(
             "{ends}, and {} more should follow: one may stand in the wrong place",
             number_of(stated.records - nth, "record")
         ),
     });
+    other::kind_that_reads(bytes, item, told);
+    told.notes.push(format!("a {} may be lost: {CAUTION}", sort.unit().trim_end_matches('s')));
+}
+
+/// Whether nothing but spaces stands in a record from one of its columns on, counted from 0.
+fn spaces_from(named: &Record, column: usize) -> bool {
+    let start = named.judged_columns().get(column).map_or(named.bytes.len(), |column| column.start);
+    named.bytes.iter().skip(start).all(|byte| *byte == b' ')
 }
 
 /// The columns that state how much data an item has.

@@ -1,26 +1,45 @@
 //! What an item reads as if one column, its data kind, were another: all other columns and what follows go together then.
 
 use super::{data, fault, near, Explanation};
+use crate::layout::ELEMENT;
 use crate::outline::{natural, record, Record, Sort, Stated};
 use crate::text::number_of;
 
 /// That another data kind of an element goes with its counts: the data kind may be wrong. Those that what follows reads as are
 /// named alone, if there are any.
 pub fn kind(bytes: &[u8], item: &Record, told: &mut Explanation) {
-    let Some(Sort::Element(n)) = item.sort() else { return };
-    let number = |name| item.layout.map_or(0, |layout| natural(layout, name, item.bytes));
-    let (own, count, records) = (number("data kind"), number("data count"), number("records"));
-    let fitting = |kind: &u64| *kind != own && data::is_right(n, *kind, &Stated::of_element(*kind, count, records));
-    let (read, unread): (Vec<u64>, Vec<u64>) =
-        (0..=6).filter(fitting).partition(|kind| follows(bytes, item, &Stated::of_element(*kind, count, records)));
-    let (kinds, so) = if read.is_empty() { (unread, "") } else { (read, ", and what follows reads so") };
-    if kinds.is_empty() {
-        return;
+    let kinds = kinds(item);
+    if !kind_that_reads(bytes, item, told) && !kinds.is_empty() {
+        name_kinds(item, &kinds, "", told);
     }
-    let list = kinds.iter().map(u64::to_string).collect::<Vec<String>>().join(" or ");
-    let goes = format!("{list} goes with a data count of {count} and {}", number_of(records, "data record"));
+}
+
+/// The same, of the data kinds alone that what follows reads as; whether there are any.
+pub fn kind_that_reads(bytes: &[u8], item: &Record, told: &mut Explanation) -> bool {
+    let mut kinds = kinds(item);
+    kinds.retain(|(_, stated)| follows(bytes, item, stated));
+    if !kinds.is_empty() {
+        name_kinds(item, &kinds, ", and what follows reads so", told);
+    }
+    !kinds.is_empty()
+}
+
+/// The other data kinds of an element that go with its type and counts, and what it states with each.
+fn kinds(item: &Record) -> Vec<(u64, Stated)> {
+    let Some(Sort::Element(n)) = item.sort() else { return Vec::new() };
+    let number = |name| natural(&ELEMENT, name, item.bytes);
+    let others = (0..=6).filter(|kind| *kind != number("data kind"));
+    let all = others.map(|kind| (kind, Stated::of_element(kind, number("data count"), number("records"))));
+    all.filter(|(kind, stated)| data::is_right(n, *kind, stated)).collect()
+}
+
+fn name_kinds(item: &Record, kinds: &[(u64, Stated)], so: &str, told: &mut Explanation) {
+    let number = |name| natural(&ELEMENT, name, item.bytes);
+    let list = kinds.iter().map(|(kind, _)| kind.to_string()).collect::<Vec<String>>().join(" or ");
+    let records = number_of(number("records"), "data record");
+    let goes = format!("{list} goes with a data count of {} and {records}", number("data count"));
     if !told.faults.iter().any(|fault| (fault.record, fault.column) == (item.number, "data kind")) {
-        told.faults.push(fault(item.number, "data kind", format!("is {own}; {goes}")));
+        told.faults.push(fault(item.number, "data kind", format!("is {}; {goes}", number("data kind"))));
     }
     told.notes.push(format!("the data kind of record {} may be wrong: {goes}{so}", item.number));
 }

@@ -141,6 +141,11 @@ impl Stated {
         nth.saturating_mul(self.a_record) + columns.checked_div(self.columns).unwrap_or(0) as u64
     }
 
+    /// Whether so many columns of a data record end inside one of its units.
+    pub(crate) fn ends_inside(&self, columns: usize) -> bool {
+        columns.checked_rem(self.columns).is_some_and(|over| over > 0)
+    }
+
     /// How many columns of the n-th data record, from 0, are judged: those of used points; of a note or an attribute all.
     pub fn judged(&self, nth: u64) -> usize {
         let all = self.layout.map_or(0, |l| l.columns.len());
