@@ -609,14 +609,39 @@ const COLUMNS: &[Damage] = &[
         "a point under another header",
         || without([&sheet()[..7 * 84], &sheet()[21 * 84..22 * 84], &sheet()[7 * 84..]].concat(), 23, 23),
         (10, 7),
-        &["no record and no item is missing by the sheet's counts: an item may stand under another header"],
+        &[
+            "no record and no item is missing by the sheet's counts: an item may stand under another header",
+            "find it in the original before you change a count",
+        ],
         &[(7, "total"), (7, "point"), (20, "total"), (20, "point")],
+    ),
+    (
+        "an item at the end of the layer before its own",
+        || without([&sheet()[..18 * 84], &sheet()[21 * 84..22 * 84], &sheet()[18 * 84..]].concat(), 23, 23),
+        (10, 7),
+        &[
+            "record 19 may belong under another header: the class codes from there on are 22xx, record 7 has 2100",
+            "no record and no item is missing by the sheet's counts",
+            "find it in the original before you change a count",
+            "not: a header may be missing",
+        ],
+        &[(7, "total"), (7, "point"), (20, "total"), (20, "point")],
+    ),
+    (
+        "an item with the level of the layer above its group",
+        || with(sheet(), 16, 16, " 2"),
+        (10, 7),
+        &["its type or level be wrong; find it in the original before you change a count"],
+        &[(7, "total"), (7, "attribute"), (13, "total"), (13, "attribute")],
     ),
     (
         "a line with the type of an area",
         || with(sheet(), 8, 0, "E1"),
         (10, 7),
-        &["no record and no item is missing by the sheet's counts", "its type or level be wrong"],
+        &[
+            "no record and no item is missing by the sheet's counts",
+            "its type or level be wrong; find it in the original before you change a count",
+        ],
         &[(7, "area"), (7, "line")],
     ),
     (

@@ -83,10 +83,10 @@ fn sheet(bytes: &[u8], told: &mut Explanation) {
     let mut faults = sheet_counts(bytes, &body);
     let headers = body.entries.iter().zip(&body.held).filter(|(entry, _)| entry.sort() == Some(Sort::Header));
     faults.extend(headers.flat_map(|(header, held)| header_counts(header, held)));
-    lost::explain(bytes, &body, told);
+    let elsewhere = faults.iter().all(|differs| differs.fault.record != 2) && as_many_in_all(&body);
+    lost::explain(bytes, &body, elsewhere, told);
     let more = Records::of(bytes).is_some_and(|records| records.too_many() > 0);
     if faults.iter().any(|differs| differs.short) && !more {
-        let elsewhere = faults.iter().all(|differs| differs.fault.record != 2) && as_many_in_all(&body);
         told.notes.push(if elsewhere { ELSEWHERE } else { LOST }.to_string());
     }
     if faults.len() > MOST_LISTED {
@@ -98,7 +98,8 @@ fn sheet(bytes: &[u8], told: &mut Explanation) {
 const LOST: &str = "a count that is short by one often means a lost record: find it in the original before you change the count";
 
 const ELSEWHERE: &str = "no record and no item is missing by the sheet's counts: \
-                         an item may stand under another header, or its type or level be wrong";
+                         an item may stand under another header, or its type or level be wrong; \
+                         find it in the original before you change a count";
 
 /// Whether all headers together state as many as they hold.
 fn as_many_in_all(body: &Body) -> bool {

@@ -12,8 +12,9 @@ use std::collections::BTreeMap;
 /// The most places that are named for one reason.
 const MOST_PLACES: usize = 3;
 
-/// What is seen of lost and repeated records.
-pub fn explain(bytes: &[u8], body: &Body, told: &mut Explanation) {
+/// What is seen of lost and repeated records. `elsewhere`: none is lost by the counts, but items stand under other headers than
+/// these state.
+pub fn explain(bytes: &[u8], body: &Body, elsewhere: bool, told: &mut Explanation) {
     let records = Records::of(bytes);
     let missing = records.as_ref().is_some_and(|records| records.missing() > 0);
     let taken: Vec<(&Record, (usize, Sort))> =
@@ -25,7 +26,8 @@ pub fn explain(bytes: &[u8], body: &Body, told: &mut Explanation) {
     } else {
         told.notes.extend(items_there(bytes, body).filter(|_| missing));
         let layers = layers(body);
-        told.notes.extend(headers(body, &layers, missing));
+        told.notes.extend(headers(body, &layers, missing).into_iter().filter(|_| !elsewhere));
+        told.notes.extend(layers.iter().filter_map(Layer::other_item).filter(|_| elsewhere).take(MOST_PLACES));
         told.notes.extend(layers.iter().filter_map(Layer::wrong_level).take(MOST_PLACES));
         told.faults.extend(layers.iter().filter_map(Layer::wrong_level_fault).take(MOST_PLACES));
     }
@@ -122,6 +124,12 @@ impl Layer {
         let (record, hundreds, _) = self.other.filter(|(_, _, header)| !self.mixed && header.is_none())?;
         let own = format!("record {} has {}", self.header, self.class);
         Some((record, format!("the class codes from there on are {hundreds:02}xx, {own}")))
+    }
+
+    /// The same where no header is missing.
+    fn other_item(&self) -> Option<String> {
+        let (record, why) = self.words().filter(|_| self.differs)?;
+        Some(format!("record {record} may belong under another header: {why}"))
     }
 
     /// A header of another class than its layer's, where the layer's total differs: a layer header with a wrong level.
