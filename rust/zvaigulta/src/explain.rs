@@ -82,7 +82,7 @@ pub fn explain(bytes: &[u8], refusal: Refusal) -> Explanation {
     at_record(bytes, &named, refusal.reason, &mut told);
     // Another form of file is the one reason; what else is seen follows from it.
     if let Some(form) = form::of(bytes, Some(named.number)) {
-        one_reason(&mut told, named.number, form);
+        one_reason(&mut told, named.number, vec![form]);
     }
     told
 }
@@ -110,8 +110,8 @@ pub fn line(bytes: &[u8], refusal: Refusal) -> String {
 }
 
 /// One reason for all that is seen: no other is said, and no other record than the refused one blamed.
-fn one_reason(told: &mut Explanation, refused: usize, reason: String) {
-    told.notes = vec![reason];
+fn one_reason(told: &mut Explanation, refused: usize, reason: Vec<String>) {
+    told.notes = reason;
     told.faults.retain(|fault| fault.record == refused);
 }
 
@@ -132,8 +132,8 @@ fn at_record(bytes: &[u8], named: &Record, reason: Reason, told: &mut Explanatio
     if !matches!(reason, Reason::RecordType | Reason::Malformed | Reason::OutsideRange | Reason::Level | Reason::DataRule) {
         return;
     }
-    match shift::words(bytes, named.number) {
-        Some(words) => one_reason(told, named.number, words),
+    match shift::notes(bytes, named.number) {
+        Some(notes) => one_reason(told, named.number, notes),
         None => {
             let differ = records_differ(bytes, named).filter(|words| !told.notes.contains(words));
             told.notes.extend(differ);

@@ -928,6 +928,7 @@ const SHIFTS: &[Damage] = &[
         (1, 0),
         &[
             "the bytes seem to shift at record 11 or shortly before it: from record 13 on the file reads in order 16 bytes later",
+            "so 184 bytes are too many there (2 records and 16 bytes)",
             "look at byte 1 of record 11: 184 NUL bytes",
         ],
         &[(11, "type")],
@@ -967,7 +968,11 @@ const SHIFTS: &[Damage] = &[
         "a byte lost in record b",
         || shifted(sheet(), 2, 20, 1, b""),
         (1, 0),
-        &["the bytes seem to shift at record 2 or shortly before it: from record 7 on"],
+        &[
+            "the bytes seem to shift at record 2 or shortly before it: from record 7 on",
+            "1 byte is lost there, or 83 bytes are too many, and perhaps whole records as well",
+            "not: the sheet states",
+        ],
         &[(2, "upper right X")],
     ),
     (
@@ -985,12 +990,50 @@ const SHIFTS: &[Damage] = &[
         &[(28, "X 2")],
     ),
     (
+        "200 bytes lost",
+        || shifted(sheet(), 9, 20, 200, b""),
+        (1, 0),
+        &[
+            "reads in order 32 bytes earlier, so by the counts 200 bytes are lost there (2 records and 32 bytes)",
+            "the sheet states 28 records (6 of the sheet part and 22 behind it), 2352 bytes; the file has 2152",
+            "not: too many",
+        ],
+        &[(9, "X 2")],
+    ),
+    (
+        "220 bytes lost: the records read in order 52 bytes earlier, or 32 later",
+        || shifted(sheet(), 9, 20, 220, b""),
+        (1, 0),
+        &["reads in order 52 bytes earlier, so by the counts 220 bytes are lost there (2 records and 52 bytes)", "not: too many"],
+        &[(9, "X 2")],
+    ),
+    (
+        "200 bytes twice",
+        || [&sheet()[..1400], &sheet()[1200..]].concat(),
+        (1, 0),
+        &[
+            "reads in order 32 bytes later, so by the counts 200 bytes are too many there (2 records and 32 bytes)",
+            "2352 bytes; the file has 2552",
+            "not: lost",
+        ],
+        &[],
+    ),
+    (
+        "80 NUL bytes in the middle",
+        || shifted(sheet(), 14, 0, 0, &[0; 80]),
+        (1, 0),
+        &["80 bytes later, so 80 bytes are too many there; look at byte 1 of record 14: 80 NUL bytes"],
+        &[(14, "type")],
+    ),
+    (
         "a byte lost, and one too many later",
         || shifted(shifted(sheet(), 9, 20, 1, b""), 23, 2, 0, b"0"),
         (5, 9),
         &[
             "the bytes seem to shift at record 9 or shortly before it:",
             "from record 11 on the file reads in order 1 byte earlier",
+            "1 byte is lost there, or 83 bytes are too many, and perhaps whole records as well",
+            "2352 bytes; the file has 2352",
         ],
         &[(9, "X 2")],
     ),

@@ -46,13 +46,37 @@ impl Records {
         self.there.saturating_sub(self.stated())
     }
 
-    /// In words.
-    pub fn words(&self) -> String {
+    /// The same of a file in which bytes are lost or too many at a record: only where no record that states them stands behind.
+    pub fn before(bytes: &[u8], number: usize) -> Option<Records> {
+        let last = match FileKind::of(bytes) {
+            FileKind::Sheet => part(bytes).len(),
+            FileKind::Index => 1,
+        };
+        Records::of(bytes).filter(|_| number > last)
+    }
+
+    /// How many bytes a file of a length has too many; below 0 how many too few.
+    pub fn bytes_too_many(&self, length: usize) -> isize {
+        length as isize - self.stated() as isize * RECORD_BYTES as isize
+    }
+
+    /// In words, with the bytes of a file of a length.
+    pub fn words_in_bytes(&self, length: usize) -> String {
+        format!("{}, {} bytes; the file has {length}", self.states(), self.stated() * RECORD_BYTES as u64)
+    }
+
+    /// What is stated, in words.
+    fn states(&self) -> String {
         let parts = format!("{} of the sheet part and {} behind it", self.part, self.behind);
-        let states = match self.kind {
+        match self.kind {
             FileKind::Sheet => format!("the sheet states {} ({parts})", number_of(self.stated(), "record")),
             FileKind::Index => format!("the index states {}", number_of(self.stated(), "record")),
-        };
+        }
+    }
+
+    /// In words.
+    pub fn words(&self) -> String {
+        let states = self.states();
         let differ = match (self.missing(), self.too_many()) {
             (0, 0) => return format!("{states}, and as many are there"),
             (0, 1) => "1 is too many".to_string(),

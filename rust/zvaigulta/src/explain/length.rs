@@ -55,7 +55,7 @@ fn broken(bytes: &[u8], whole: &[u8], refusal: Refusal, told: &mut Explanation) 
         (Reason::MissingRecord | Reason::Count, Some(short)) => {
             let only = format!("record {} has only {odd} of its {RECORD_BYTES} bytes", records + 1);
             let cut = || format!("{only}: the file is cut off, or bytes of that record are lost; {}", short.words());
-            told.notes.push(shift::words(bytes, records + 1).unwrap_or_else(cut));
+            told.notes.extend(shift::notes(bytes, records + 1).unwrap_or_else(|| vec![cut()]));
         }
         _ => {
             let mut inner = Explanation::default();
@@ -63,8 +63,12 @@ fn broken(bytes: &[u8], whole: &[u8], refusal: Refusal, told: &mut Explanation) 
             told.faults.extend(inner.faults.into_iter().filter(|fault| fault.record == named.number));
             let first = format!("record {} is the first that breaks ({})", named.number, refusal.reason);
             let more = number_of(odd as u64, "byte");
-            let plain = || format!("the file has {records} records of {RECORD_BYTES} bytes and {more} more; {first}");
-            told.notes.push(shift::words(bytes, named.number).unwrap_or_else(plain));
+            let plain = || {
+                let stated = Records::before(bytes, named.number).map(|records| records.words_in_bytes(bytes.len()));
+                let breaks = format!("the file has {records} records of {RECORD_BYTES} bytes and {more} more; {first}");
+                [breaks].into_iter().chain(stated).collect()
+            };
+            told.notes.extend(shift::notes(bytes, named.number).unwrap_or_else(plain));
         }
     }
 }

@@ -1,5 +1,6 @@
 //! Bytes lost or too many somewhere in a file: behind them the records read in order again, a few bytes later or earlier.
 
+use super::counts::Records;
 use super::near;
 use crate::layout::INDEX_C;
 use crate::outline::{Outline, Record, Stated, What};
@@ -12,52 +13,106 @@ const IN_ORDER: usize = 6;
 /// How many bytes may be lost or too many, where the file's length does not tell.
 const MOST_BYTES: isize = 4;
 
-/// Where the records read in order again, and how many bytes later (or earlier, below 0) than they should.
+/// Where the records read in order again, and how many bytes later (or earlier, below 0) than they should. Whole records that are
+/// lost or too many as well do not show in it.
+#[derive(Clone, Copy)]
 struct Shift {
     record: usize,
     by: isize,
 }
 
-/// What is seen of a shift at the refused record or shortly before it.
-pub fn words(bytes: &[u8], refused: usize) -> Option<String> {
-    let shift = find(bytes, refused)?;
-    let count = number_of(shift.by.unsigned_abs() as u64, "byte");
-    let (way, cause) = match shift.by {
-        1 => ("later", "is too many"),
-        2.. => ("later", "are too many"),
-        -1 => ("earlier", "is lost"),
-        _ => ("earlier", "are lost"),
-    };
-    let stray = stray(bytes, refused, shift.record).filter(|_| shift.by > 0).unwrap_or_default();
-    let again = format!("from record {} on the file reads in order {count} {way}", shift.record);
-    Some(format!("the bytes seem to shift at record {refused} or shortly before it: {again}, so {count} {cause} there{stray}"))
+/// Control characters side by side.
+struct Fill<'a> {
+    place: usize,
+    bytes: &'a [u8],
 }
 
-/// The first byte among the records at which the bytes shift that is a control character.
-fn control(bytes: &[u8], refused: usize, until: usize) -> Option<usize> {
+/// What is seen of a shift at the refused record or shortly before it; and how many records and bytes the file states.
+pub fn notes(bytes: &[u8], refused: usize) -> Option<Vec<String>> {
+    let shift = find(bytes, refused)?;
+    let same = |count: isize| (count - shift.by) % RECORD_BYTES as isize == 0;
+    let fill = fill(bytes, refused, shift.record).filter(|fill| same(fill.bytes.len() as isize));
+    let records = Records::before(bytes, refused);
+    let by_counts = || records.as_ref().map(|records| records.bytes_too_many(bytes.len())).filter(|count| same(*count));
+    let count = fill.as_ref().map(|fill| fill.bytes.len() as isize).or_else(by_counts);
+    let look = fill.map_or(String::new(), |fill| fill.words());
+    // A fill is seen; of counts it must be said that they tell more than the shift.
+    let by = if look.is_empty() && count.is_some_and(|count| count != shift.by) { "by the counts " } else { "" };
+    let (shift, cause) = (shift.towards(count), shift.cause(count));
+    let again = format!("from record {} on the file reads in order {}", shift.record, shift.way());
+    let seen = format!("the bytes seem to shift at record {refused} or shortly before it: {again}, so {by}{cause}{look}");
+    Some([seen].into_iter().chain(records.map(|records| records.words_in_bytes(bytes.len()))).collect())
+}
+
+impl Shift {
+    /// The same shift, told as bytes too many where the count is above 0, as lost bytes where it is below.
+    fn towards(self, count: Option<isize>) -> Shift {
+        match count.map_or(0, isize::signum) - self.by.signum() {
+            2 => Shift { record: self.record.saturating_sub(1).max(1), by: self.by + RECORD_BYTES as isize },
+            -2 => Shift { record: self.record + 1, by: self.by - RECORD_BYTES as isize },
+            _ => self,
+        }
+    }
+
+    /// How far, and in which way.
+    fn way(&self) -> String {
+        let way = if self.by > 0 { "later" } else { "earlier" };
+        format!("{} {way}", number_of(self.by.unsigned_abs() as u64, "byte"))
+    }
+
+    /// The bytes lost or too many, in all if that is known.
+    fn cause(&self, count: Option<isize>) -> String {
+        let other = amount(self.by - self.by.signum() * RECORD_BYTES as isize);
+        match count {
+            Some(count) => format!("{} there{}", amount(count), in_records(count)),
+            None => format!("{} there, or {other}, and perhaps whole records as well", amount(self.by)),
+        }
+    }
+}
+
+/// Bytes that are too many, or lost where the count is below 0.
+fn amount(count: isize) -> String {
+    let is = if count.abs() == 1 { "is" } else { "are" };
+    let what = if count > 0 { "too many" } else { "lost" };
+    format!("{} {is} {what}", number_of(count.unsigned_abs() as u64, "byte"))
+}
+
+/// The same number of bytes in whole records and some bytes more.
+fn in_records(count: isize) -> String {
+    match (count.unsigned_abs() / RECORD_BYTES, count.unsigned_abs() % RECORD_BYTES) {
+        (0, _) => String::new(),
+        (records, more) => format!(" ({} and {})", number_of(records as u64, "record"), number_of(more as u64, "byte")),
+    }
+}
+
+/// The first control characters side by side among the records at which the bytes shift.
+fn fill(bytes: &[u8], refused: usize, until: usize) -> Option<Fill<'_>> {
     let from = refused.saturating_sub(2) * RECORD_BYTES;
     let region = bytes.get(from..(until * RECORD_BYTES).min(bytes.len()))?;
-    Some(from + region.iter().position(|byte| *byte < b' ')?)
+    let place = from + region.iter().position(|byte| *byte < b' ')?;
+    let rest = bytes.get(place..)?;
+    let count = rest.iter().take_while(|byte| **byte < b' ').count();
+    Some(Fill { place, bytes: rest.get(..count)? })
 }
 
-/// That byte, and those like it behind it, in words.
-fn stray(bytes: &[u8], refused: usize, until: usize) -> Option<String> {
-    let place = control(bytes, refused, until)?;
-    let first = *bytes.get(place)?;
-    let alike = bytes.get(place..)?.iter().take_while(|byte| **byte == first).count();
-    let what = match first {
-        b'\r' | b'\n' => "a line end".to_string(),
-        0 => number_of(alike as u64, "NUL byte"),
-        other => format!("the byte {}", quoted(&[other])),
-    };
-    Some(format!("; look at byte {} of record {}: {what}", place % RECORD_BYTES + 1, place / RECORD_BYTES + 1))
+impl Fill<'_> {
+    /// Where it stands and what it is.
+    fn words(&self) -> String {
+        let first = self.bytes.first().copied().unwrap_or(0);
+        let alike = self.bytes.iter().take_while(|byte| **byte == first).count();
+        let what = match first {
+            b'\r' | b'\n' => "a line end".to_string(),
+            0 => number_of(alike as u64, "NUL byte"),
+            other => format!("the byte {}", quoted(&[other])),
+        };
+        format!("; look at byte {} of record {}: {what}", self.place % RECORD_BYTES + 1, self.place / RECORD_BYTES + 1)
+    }
 }
 
 /// By how many bytes the records may have shifted, the likeliest first: none, what the length is off by, as many as there are
 /// control characters side by side (the fill of a tape block), a few.
 fn candidates(bytes: &[u8], refused: usize) -> Vec<isize> {
-    let fill = control(bytes, refused, refused + 1).and_then(|place| bytes.get(place..)).unwrap_or(&[]);
-    let fill = (fill.iter().take_while(|byte| **byte < b' ').count() % RECORD_BYTES) as isize;
+    let fill = fill(bytes, refused, refused + 1).map_or(0, |fill| (fill.bytes.len() % RECORD_BYTES) as isize);
     let odd = (bytes.len() % RECORD_BYTES) as isize;
     let by_length = if odd * 2 > RECORD_BYTES as isize { odd - RECORD_BYTES as isize } else { odd };
     // In an index the columns are too few to tell a shift without the length.
