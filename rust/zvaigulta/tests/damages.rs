@@ -892,6 +892,13 @@ const FORMS: &[Damage] = &[
         &[(1, "type")],
     ),
     (
+        "a block with a line end behind each record",
+        || ended(&sheet()[7 * 84..10 * 84], b"\n"),
+        (1, 0),
+        &["take the line ends out; without that it is a sound block, a line E2 with 2 data records, level 2", "not: refused"],
+        &[],
+    ),
+    (
         "a block without its last record",
         || sheet()[7 * 84..9 * 84].to_vec(),
         (2, 1),

@@ -47,7 +47,11 @@ pub fn judged(block: &[u8]) -> Result<Item, String> {
     if !block.len().is_multiple_of(RECORD_BYTES) {
         let more = number_of((block.len() % RECORD_BYTES) as u64, "byte");
         let plain = || format!("the block has {} and {more} more", number_of((block.len() / RECORD_BYTES) as u64, "record"));
-        return Err(form::of(block, None).map_or_else(plain, |words| format!("in the block {words}")));
+        let of_block = |words: String| match words.strip_prefix("the file ") {
+            Some(words) => format!("the block {words}"),
+            None => format!("in the block {words}"),
+        };
+        return Err(form::of(block, None).map_or_else(plain, of_block));
     }
     let sort = item_sort(block)?;
     let level = sort.layout().value("level", block).unwrap_or(0);

@@ -1,6 +1,6 @@
 //! Files in another form than records of 84 bytes end to end: text with line ends or a byte order mark, EBCDIC, padding.
 
-use super::near;
+use super::{block, near};
 use crate::outline::{part, Record, Sort};
 use crate::text::{number_of, quoted};
 use crate::{FileKind, Refusal, MOST_RECORDS, RECORD_BYTES};
@@ -84,6 +84,13 @@ fn line_ends(text: &[u8], end: &[u8], name: &str) -> Option<String> {
 
 /// What becomes of the file without what does not belong there.
 pub fn without(bytes: &[u8]) -> String {
+    let item = Sort::of(bytes).is_some_and(|sort| sort != Sort::Header);
+    if item && bytes.len().is_multiple_of(RECORD_BYTES) {
+        return match block::judged(bytes) {
+            Ok(item) => format!("without that it is a sound block, {}", item.words()),
+            Err(words) => format!("without that it would be refused as a block: {words}"),
+        };
+    }
     match FileKind::of(bytes).judge(bytes, bytes.len()) {
         Ok(_) => "without that the file is accepted".to_string(),
         Err(Refusal { reason, record: Some(record), .. }) => {
