@@ -285,22 +285,43 @@ const PARTS: &[Damage] = &[
         "record f is lost",
         || without(sheet(), 6, 6),
         (5, 6),
-        &["record 6 is a header, where sheet f is due: the sheet part is shorter than stated"],
+        &[
+            "record 6 is a header, where sheet f is due: the sheet part is shorter than stated, or a record of it is lost:",
+            "find it in the original before you change the count",
+        ],
         &[(6, "scale 1"), (4, "f records")],
     ),
     (
         "record e twice",
         || twice(sheet(), 5, 5),
         (5, 6),
-        &["record 6 reads as sheet e, where sheet f is due", "1 is too many"],
-        &[(6, "scale 1")],
+        &[
+            "record 6 reads as sheet e, where sheet f is due",
+            "1 is too many",
+            "find it in the original before you change the count or take a record out",
+        ],
+        &[(6, "scale 1"), (4, "f records")],
     ),
     (
         "record f twice",
         || twice(sheet(), 6, 6),
         (4, 7),
-        &["record 7 is no header but reads as sheet f: the sheet part is longer than record 4 states"],
+        &[
+            "record 7 is no header but reads as sheet f: the sheet part is longer than record 4 states;",
+            "find it in the original before you change the count or take a record out",
+        ],
         &[(7, "type"), (4, "f records")],
+    ),
+    (
+        "f records that are there and not stated",
+        || with(with(twice(sheet(), 4, 6), 1, 65, " 1"), 4, 9, "0"),
+        (5, 6),
+        &[
+            "record 6 reads as sheet f, where sheet d is due",
+            "states 0; may be 0 or, for 2 courses, 1",
+            "find it in the original before you change the count or take a record out",
+        ],
+        &[(6, "courses"), (4, "f records")],
     ),
     (
         "one revision more than stated",
@@ -313,14 +334,21 @@ const PARTS: &[Damage] = &[
         "one revision less than stated",
         || with(sheet(), 1, 65, " 1"),
         (5, 7),
-        &["record 7 is a header, where sheet d is due", "states 1; the first header stands at record 7"],
+        &[
+            "record 7 is a header, where sheet d is due: the sheet part is shorter than stated, or a record of it is lost:",
+            "find it in the original before you change the count",
+            "states 1; the first header stands at record 7",
+        ],
         &[(7, "courses"), (1, "revisions")],
     ),
     (
         "the file ends in the sheet part",
         || without(sheet(), 5, 28),
         (3, 1),
-        &["the file ends after record 4, where sheet e is due as record 5", "4 are there: 24 are missing"],
+        &[
+            "the file ends after record 4, where sheet e is due as record 5: find it in the original before you change the count",
+            "4 are there: 24 are missing",
+        ],
         &[(1, "revisions")],
     ),
     (

@@ -39,7 +39,7 @@ fn missing_part(bytes: &[u8], told: &mut Explanation) {
     }
     let (due, there) = (part(bytes), bytes.len() / RECORD_BYTES);
     let next = due.get(there).map_or("", |layout| layout.name);
-    told.notes.push(format!("the file ends after record {there}, where {next} is due as record {}", there + 1));
+    told.notes.push(format!("the file ends after record {there}, where {next} is due as record {}: {CAUTION}", there + 1));
     let revisions = natural(&SHEET_A, "revisions", record(bytes, 1));
     let words = format!("states {revisions}: the sheet part has {} records, the file {there}", due.len());
     told.faults.push(fault(1, "revisions", words));
@@ -96,7 +96,7 @@ fn longer_part(bytes: &[u8], named: &Record, told: &mut Explanation) -> bool {
         (Fault { words: format!("{}, so the sheet part ends before record {number}", f.words), ..f }, "f")
     };
     told.notes.push(format!(
-        "record {number} is no header but reads as sheet {what}: the sheet part is longer than record {} states",
+        "record {number} is no header but reads as sheet {what}: the sheet part is longer than record {} states; {CAUTION} or take a record out",
         wrong.record
     ));
     told.faults.push(wrong);
@@ -213,7 +213,8 @@ fn other_part(bytes: &[u8], named: &Record, told: &mut Explanation) {
     }
     if near::reads_as(named.bytes) == Some(Sort::Header) {
         told.notes.push(format!(
-            "record {number} is a header, where {due} is due: the sheet part is shorter than stated, or a record of it is lost"
+            "record {number} is a header, where {due} is due: \
+             the sheet part is shorter than stated, or a record of it is lost: {CAUTION}"
         ));
         let revisions = natural(&SHEET_A, "revisions", record(bytes, 1));
         if revisions > 0 {
@@ -225,14 +226,28 @@ fn other_part(bytes: &[u8], named: &Record, told: &mut Explanation) {
     }
     let others = [&SHEET_B, &SHEET_D, &SHEET_E, &SHEET_F].into_iter().filter(|_| FileKind::of(bytes) == FileKind::Sheet);
     if let Some(other) = others.filter(|layout| layout.name != due).find(|layout| layout.fits(named.bytes)) {
+        told.faults.extend(f_against_courses(bytes, named, other));
         told.notes.push(format!(
-            "record {number} reads as {}, where {due} is due: a record of the sheet part before it is lost or too many",
+            "record {number} reads as {}, where {due} is due: a record of the sheet part before it is lost or too many, \
+             or a count of it wrong; {CAUTION} or take a record out",
             other.name
         ));
     }
     if told.notes.is_empty() && told.faults.len() > 2 {
         told.notes.push(format!(
-            "record {number} does not read as {due}: a record may be lost or too many before it, or this one is damaged"
+            "record {number} does not read as {due}: a record may be lost or too many before it, or this one is damaged; \
+             {CAUTION} or take a record out"
         ));
     }
+}
+
+/// The f records that a d record states, where an f record is due and another stands, or the other way round and the courses
+/// need more than it states.
+fn f_against_courses(bytes: &[u8], named: &Record, reads_as: &Layout) -> Option<Fault> {
+    let f = f_records(bytes, &part(bytes), named.number - 1)?;
+    let number = |name| natural(&SHEET_D, name, record(bytes, f.record));
+    let (courses, needed) = (number("courses"), number("courses").div_ceil(3));
+    let fewer = *reads_as == SHEET_F && number("f records") < needed;
+    let words = format!("{}; may be 0 or, for {courses} courses, {needed}", f.words);
+    (fewer || named.layout == Some(&SHEET_F)).then_some(Fault { words, ..f })
 }
