@@ -132,6 +132,7 @@ fn at_record(bytes: &[u8], named: &Record, reason: Reason, told: &mut Explanatio
     if !matches!(reason, Reason::RecordType | Reason::Malformed | Reason::OutsideRange | Reason::Level | Reason::DataRule) {
         return;
     }
+    other::sort(bytes, named, told);
     match shift::notes(bytes, named.number) {
         Some(notes) => one_reason(told, named.number, notes),
         None => {

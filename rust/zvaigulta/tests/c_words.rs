@@ -24,7 +24,8 @@ fn nines(digits: usize) -> i64 {
 
 /// Letter, least and greatest number of a column.
 fn content(column: &Column) -> (char, i64, i64) {
-    let any = (1 - 10i64.pow(u32::try_from(column.width - 1).expect("a width")), nines(column.width.min(18)));
+    let width = column.width.min(18);
+    let any = (-nines(width - 1), nines(width));
     match column.content {
         Content::Text => ('A', 0, 0),
         Content::Blank => ('X', 0, 0),

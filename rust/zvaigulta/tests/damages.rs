@@ -442,6 +442,7 @@ const COLUMNS: &[Damage] = &[
         &[
             "is 5, may be at most 3 here: record 13 before it is a group header, level 2",
             "a header of level 4 is missing before record 14",
+            "not: the type",
         ],
         &[(14, "level"), (13, "level")],
     ),
@@ -474,6 +475,45 @@ const COLUMNS: &[Damage] = &[
         &[(14, "type")],
     ),
     ("the type of a header", || with(sheet(), 19, 0, "HX"), (4, 19), &["the other columns read as a header's"], &[(19, "type")]),
+    (
+        "a header with the type of a line",
+        || with(sheet(), 19, 0, "E2"),
+        (5, 19),
+        &["the other columns of record 19 and what follows it read as a header: only the type seems wrong"],
+        &[(19, "type")],
+    ),
+    (
+        "a line with the type of a header",
+        || with(sheet(), 8, 0, "H "),
+        (5, 8),
+        &["the other columns of record 8 and what follows it read as a line E2: only the type seems wrong"],
+        &[(8, "type")],
+    ),
+    (
+        "a line with the type of a note",
+        || with(sheet(), 8, 0, "E7"),
+        (8, 8),
+        &["is E7; the other columns read as a line E2", "read as a line E2: only the type seems wrong"],
+        &[(8, "type"), (8, "data kind")],
+    ),
+    (
+        "a grid with the type of a net",
+        || with(sheet(), 23, 0, "T "),
+        (5, 23),
+        &["read as a grid: only the type seems wrong"],
+        &[(23, "type")],
+    ),
+    (
+        "a data kind with which another type goes too",
+        || with(sheet(), 14, 20, "5"),
+        (8, 14),
+        &[
+            "the data kind of record 14 may be wrong: 2 goes with a data count of 1 and 1 data record, and what follows reads so",
+            "read as an attribute E8: the type may be wrong",
+            "not: only the type",
+        ],
+        &[(14, "data kind"), (14, "type")],
+    ),
     (
         "a data count too large",
         || with(sheet(), 8, 27, "  13"),
@@ -535,7 +575,7 @@ const COLUMNS: &[Damage] = &[
         "a data kind that a line has not",
         || with(sheet(), 8, 20, "4"),
         (8, 8),
-        &["is 4, must be 2 or 3 or 6 for E2"],
+        &["is 4, must be 2 or 3 or 6 for E2", "not: the type"],
         &[(8, "data kind")],
     ),
     (

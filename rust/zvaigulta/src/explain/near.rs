@@ -19,13 +19,18 @@ pub fn fits(sort: Sort, record: &[u8]) -> bool {
 /// The sort of a record that reads as a header or item with a wrong type. As the type does not tell, its counts must go
 /// together too: numbers of seven digits side by side fit many columns.
 pub fn fits_but_for_type(record: &[u8]) -> Option<Sort> {
-    let together = |sort: Sort| match sort {
+    let sorts = [Sort::Header, Sort::Element(1), Sort::Grid, Sort::Net];
+    sorts.into_iter().find(|sort| fits(*sort, record) && together(*sort, record))
+}
+
+/// Whether the counts of a header or item go together.
+pub fn together(sort: Sort, record: &[u8]) -> bool {
+    match sort {
         Sort::Header => {
             natural(&HEADER, "total", record) == COUNTS.iter().map(|name| natural(&HEADER, name, record)).sum::<u64>()
         }
         item => Stated::of(item, record).records == Stated::of(item, record).needed,
-    };
-    [Sort::Header, Sort::Element(1), Sort::Grid, Sort::Net].into_iter().find(|sort| fits(*sort, record) && together(*sort))
+    }
 }
 
 /// The first record behind a number that reads as a header or item.

@@ -1,9 +1,11 @@
-//! What an item reads as if one column, its data kind, were another: all other columns and what follows go together then.
+//! What a header or item reads as if one column, its data kind or its type, were another: all other columns and what follows go
+//! together then.
 
+use super::body::Body;
 use super::{data, fault, near, Explanation};
-use crate::layout::ELEMENT;
-use crate::outline::{natural, record, Record, Sort, Stated};
-use crate::text::number_of;
+use crate::layout::{ELEMENT, HEADER};
+use crate::outline::{natural, record, Record, Sort, Stated, COUNTS};
+use crate::text::{number_of, with_article};
 
 /// That another data kind of an element goes with its counts: the data kind may be wrong. Those that what follows reads as are
 /// named alone, if there are any.
@@ -52,4 +54,61 @@ fn follows(bytes: &[u8], item: &Record, stated: &Stated) -> bool {
         columns.iter().take(stated.judged(nth)).all(|column| !column.is_malformed(data) && !column.is_outside(data))
     };
     near::following(bytes, item) as u64 == stated.records && (0..stated.records).all(in_order)
+}
+
+/// All sorts of headers and items.
+const SORTS: [Sort; 11] = [
+    Sort::Header,
+    Sort::Element(1),
+    Sort::Element(2),
+    Sort::Element(3),
+    Sort::Element(4),
+    Sort::Element(5),
+    Sort::Element(6),
+    Sort::Element(7),
+    Sort::Element(8),
+    Sort::Grid,
+    Sort::Net,
+];
+
+/// That a record which is refused as a header or item of its type reads as one of another type. Those of which the header above
+/// it states more than it holds are named alone, if there are any.
+pub fn sort(bytes: &[u8], named: &Record, told: &mut Explanation) {
+    let Some(own) = named.sort() else { return };
+    let reading: Vec<Sort> = SORTS.into_iter().filter(|sort| reads_with(bytes, named, *sort)).collect();
+    if reading.is_empty() || reading.contains(&own) {
+        return;
+    }
+    let body = Body::of(bytes);
+    let short: Vec<Sort> = reading.iter().copied().filter(|sort| is_short(&body, named, *sort)).collect();
+    // Columns in order by another layout are no accident; those of another element are, unless a header misses one.
+    let sure = !short.is_empty() || reading.iter().all(|sort| sort.layout() != own.layout());
+    let sorts = if short.is_empty() { reading } else { short };
+    let list = sorts.iter().map(|sort| with_article(&sort.name())).collect::<Vec<String>>().join(" or ");
+    told.faults.push(fault(named.number, "type", format!("is {}; the other columns read as {list}", own.kind())));
+    let reads = format!("the other columns of record {} and what follows it read as {list}", named.number);
+    match sure {
+        true => told.notes.insert(0, format!("{reads}: only the type seems wrong")),
+        false => told.notes.push(format!("{reads}: the type may be wrong")),
+    }
+}
+
+/// Whether a record with another type would be in order by itself, and what follows it too.
+fn reads_with(bytes: &[u8], named: &Record, sort: Sort) -> bool {
+    let stated = Stated::of(sort, named.bytes);
+    let right = match sort {
+        Sort::Element(n) => data::is_right(n, natural(&ELEMENT, "data kind", named.bytes), &stated),
+        _ => near::together(sort, named.bytes),
+    };
+    let levels = if sort == Sort::Header { 1..=8 } else { 2..=9 };
+    let level = sort.layout().value("level", named.bytes);
+    right && level.is_some_and(|level| levels.contains(&level)) && near::fits(sort, named.bytes) && follows(bytes, named, &stated)
+}
+
+/// Whether the header above a record states more of a sort than it holds.
+fn is_short(body: &Body, named: &Record, sort: Sort) -> bool {
+    let level = sort.layout().value("level", named.bytes).unwrap_or(0);
+    let Some(place) = body.header_for(named.number, level) else { return false };
+    let stated = natural(&HEADER, COUNTS[sort.count()], body.entries[place].bytes);
+    (body.held[place][sort.count()] as u64) < stated
 }
