@@ -133,13 +133,25 @@ fn at_record(bytes: &[u8], named: &Record, reason: Reason, told: &mut Explanatio
         return;
     }
     other::sort(bytes, named, told);
-    match shift::notes(bytes, named.number) {
-        Some(notes) => one_reason(told, named.number, notes),
-        None => {
+    match (shift::notes(bytes, named.number), hole(bytes, named, told)) {
+        (Some(notes), _) => one_reason(told, named.number, notes),
+        (None, Some(hole)) if hole.nul => one_reason(told, named.number, vec![hole.words()]),
+        (None, hole) => {
+            told.notes.splice(..0, hole.map(|hole| hole.words()));
             let differ = records_differ(bytes, named).filter(|words| !told.notes.contains(words));
             told.notes.extend(differ);
         }
     }
+}
+
+/// Bytes that seem lost at a column at fault. Where they are more than one record, the note that tells of that one is left out.
+fn hole(bytes: &[u8], named: &Record, told: &mut Explanation) -> Option<form::Hole> {
+    let blank = form::blank(named);
+    let is_blank = |note: &String| Some(note) == blank.as_ref();
+    let told_already = told.notes.iter().any(is_blank);
+    let hole = form::Hole::at(bytes, named, &told.faults).filter(|hole| !(told_already && hole.is_record()))?;
+    told.notes.retain(|note| !is_blank(note));
+    Some(hole)
 }
 
 /// How many records the file states and has, where that differs and the refused record does not decide it.

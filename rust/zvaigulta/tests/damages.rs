@@ -759,6 +759,41 @@ const COLUMNS: &[Damage] = &[
         &[(14, "type")],
     ),
     (
+        "NUL bytes from inside a record to inside another",
+        || with(sheet(), 9, 38, &"\0".repeat(200)),
+        (5, 9),
+        &[
+            "bytes 711 to 910 of the file are NUL bytes,",
+            "from byte 39 of record 9 to byte 70 of record 11: what stood there is lost",
+            "not: the line E2 at record 8",
+        ],
+        &[(9, "Y 3"), (9, "X 4")],
+    ),
+    (
+        "NUL bytes from inside a text to the next header",
+        || with(sheet(), 18, 40, &"\0".repeat(50)),
+        (4, 19),
+        &["of the file are NUL bytes, from byte 41 of record 18 to byte 6 of record 19: what stood there is lost", "not: states"],
+        &[(19, "type")],
+    ),
+    (
+        "spaces from inside a record to inside another",
+        || with(sheet(), 9, 38, &" ".repeat(200)),
+        (5, 9),
+        &["of the file are spaces, from byte 36 of record 9 to byte 83 of record 11: what stood there may be lost"],
+        &[(9, "X 4")],
+    ),
+    (
+        "two records of spaces in the middle",
+        || with(sheet(), 14, 0, &" ".repeat(168)),
+        (4, 14),
+        &[
+            "of the file are spaces, from byte 84 of record 13 to byte 84 of record 15: what stood there may be lost",
+            "not: holds nothing",
+        ],
+        &[(14, "type")],
+    ),
+    (
         "a total",
         || with(sheet(), 7, 18, "    4"),
         (10, 7),

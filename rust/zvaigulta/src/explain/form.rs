@@ -1,9 +1,10 @@
 //! Files in another form than records of 84 bytes end to end: text with line ends or a byte order mark, EBCDIC, padding.
 
-use super::{block, near};
+use super::{block, near, Fault};
 use crate::outline::{part, Record, Sort};
 use crate::text::{number_of, quoted};
 use crate::{FileKind, Refusal, MOST_RECORDS, RECORD_BYTES};
+use std::ops::Range;
 
 /// The form that is recognised, and what to do about it. `refused` is the refused record, if the refusal names one.
 pub fn of(bytes: &[u8], refused: Option<usize>) -> Option<String> {
@@ -153,6 +154,51 @@ pub fn blank(named: &Record) -> Option<String> {
     };
     let alone = named.bytes.iter().all(|byte| byte == first);
     alone.then(|| format!("record {} holds nothing but {what}: what stood there is lost", named.number))
+}
+
+/// Bytes of a file that seem lost: all of them NUL, or spaces.
+pub struct Hole {
+    place: Range<usize>,
+    pub nul: bool,
+}
+
+impl Hole {
+    /// The one that takes in a column at fault of a record: NUL bytes side by side, or spaces over a record's length. What
+    /// reaches to the end of the file is a fill.
+    pub fn at(bytes: &[u8], named: &Record, faults: &[Fault]) -> Option<Hole> {
+        let start = (named.number - 1) * RECORD_BYTES;
+        let column = |fault: &Fault| {
+            let column = named.layout.and_then(|layout| layout.column(fault.column));
+            column.map_or(0..2, |column| column.start..column.start + column.width)
+        };
+        let mut places = faults.iter().filter(|fault| fault.record == named.number).flat_map(column);
+        places.find_map(|byte| Hole::around(bytes, start + byte)).filter(|hole| hole.place.end < bytes.len())
+    }
+
+    /// The same around one byte.
+    fn around(bytes: &[u8], at: usize) -> Option<Hole> {
+        let byte = *bytes.get(at).filter(|byte| matches!(byte, 0 | b' '))?;
+        let from = bytes.get(..at)?.iter().rposition(|other| *other != byte).map_or(0, |last| last + 1);
+        let to = at + bytes.get(at..)?.iter().take_while(|other| **other == byte).count();
+        let least = if byte == 0 { 2 } else { RECORD_BYTES };
+        (to - from >= least).then_some(Hole { place: from..to, nul: byte == 0 })
+    }
+
+    /// Whether it is one record, which `blank` tells; among spaces those before and behind it may belong to other records.
+    pub fn is_record(&self) -> bool {
+        let whole = (self.place.end / RECORD_BYTES).saturating_sub(self.place.start.div_ceil(RECORD_BYTES));
+        whole == 1 && (!self.nul || self.place.len() == RECORD_BYTES)
+    }
+
+    /// Where it is.
+    pub fn words(&self) -> String {
+        let at = |byte: usize| format!("byte {} of record {}", byte % RECORD_BYTES + 1, byte / RECORD_BYTES + 1);
+        let (from, to) = (self.place.start, self.place.end - 1);
+        // Spaces may also be right there, in texts.
+        let (what, lost) = if self.nul { ("NUL bytes", "is lost") } else { ("spaces", "may be lost") };
+        let records = format!("from {} to {}", at(from), at(to));
+        format!("bytes {} to {} of the file are {what}, {records}: what stood there {lost}", from + 1, to + 1)
+    }
 }
 
 /// Records of spaces alone from the refused one to the end.
