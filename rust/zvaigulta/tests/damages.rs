@@ -966,6 +966,20 @@ const FORMS: &[Damage] = &[
         &[],
     ),
     (
+        "a tar archive",
+        || [&[b'n'; 257][..], b"ustar", &[0; 250], &sheet(), &[0; 1088]].concat(),
+        (1, 0),
+        &["the file is a tar archive; unpack it first", "not: NUL bytes"],
+        &[],
+    ),
+    (
+        "a file of another type with NUL bytes at its end",
+        || [&b"T\x03data"[..], &[b'x'; 100], &[0; 3]].concat(),
+        (1, 0),
+        &["this is neither a sheet nor an index", "not: that part is lost"],
+        &[(1, "type")],
+    ),
+    (
         "two sheets one behind the other",
         || [sheet(), sheet()].concat(),
         (4, 29),

@@ -27,6 +27,7 @@ fn start(bytes: &[u8]) -> Option<String> {
         }
         [0xd4, 0x40, ..] => ("the file is in EBCDIC: it starts with \"M \" in that code", "have it translated to ASCII"),
         [0xc9, 0x40, ..] => ("the file is in EBCDIC: it starts with \"I \" in that code", "have it translated to ASCII"),
+        _ if bytes.get(257..262) == Some(b"ustar") => ("the file is a tar archive", "unpack it first"),
         [b'P', b'K', 3, 4, ..] | [0x1f, 0x8b, ..] => ("the file is packed (ZIP or GZIP)", "unpack it first"),
         _ if mostly_ebcdic(bytes) => {
             ("the file is in EBCDIC: it starts with spaces and digits of that code", "have it translated to ASCII")
@@ -101,10 +102,14 @@ pub fn without(bytes: &[u8]) -> String {
     }
 }
 
+/// Whether the file starts as a sheet, an index, the layers of a sheet or a block.
+fn ours(bytes: &[u8]) -> bool {
+    bytes.starts_with(b"M ") || bytes.starts_with(b"I ") || Sort::of(bytes).is_some()
+}
+
 /// Lines that lost the spaces at their ends.
 fn spaces_lost(bytes: &[u8]) -> Option<String> {
-    let ours = bytes.starts_with(b"M ") || bytes.starts_with(b"I ") || Sort::of(bytes).is_some();
-    let text = bytes.strip_suffix(b"\n").filter(|text| ours && text.contains(&b'\n'))?;
+    let text = bytes.strip_suffix(b"\n").filter(|text| ours(bytes) && text.contains(&b'\n'))?;
     let mut lines = text.split(|byte| *byte == b'\n').map(|line| line.strip_suffix(b"\r").unwrap_or(line));
     if lines.clone().any(|line| line.len() > RECORD_BYTES) {
         return None;
@@ -121,7 +126,9 @@ fn tail(bytes: &[u8], refused: Option<usize>) -> Option<String> {
     let fill = bytes.get(kept..).filter(|fill| !fill.is_empty())?;
     let (record, byte) = (kept / RECORD_BYTES + 1, kept % RECORD_BYTES + 1);
     // Free text may end so as well: the refusal must be one of these bytes', or of records that an index does not state.
-    let blamed = refused.is_none_or(|refused| record <= refused || part(bytes).len() < record && refused == 1);
+    // In a file of another type nothing is known of its end.
+    let blamed = refused.is_none_or(|refused| record <= refused || part(bytes).len() < record && refused == 1)
+        && (kept == 0 || ours(bytes));
     let what = named(fill);
     match byte {
         _ if !blamed => None,
