@@ -966,6 +966,27 @@ const FORMS: &[Damage] = &[
         &[],
     ),
     (
+        "the length of the record before each",
+        || sheet().chunks(84).flat_map(|record| [&b"\0\x58\0\0"[..], record].concat()).collect(),
+        (1, 0),
+        &["every record has 4 bytes before it, 88 bytes in all: take these out; without that the file is accepted"],
+        &[],
+    ),
+    (
+        "the length of the record before and behind each",
+        || sheet().chunks(84).flat_map(|record| [&b"T\0\0\0"[..], record, b"T\0\0\0"].concat()).collect(),
+        (1, 0),
+        &["every record has 4 bytes before it and 4 bytes behind it, 92 bytes in all", "without that the file is accepted"],
+        &[],
+    ),
+    (
+        "quotation marks around each record, and a line end",
+        || sheet().chunks(84).flat_map(|record| [&b"\""[..], record, b"\"\r\n"].concat()).collect(),
+        (1, 0),
+        &["every record has 1 byte before it and 3 bytes behind it, 88 bytes in all", "without that the file is accepted"],
+        &[],
+    ),
+    (
         "a tar archive",
         || [&[b'n'; 257][..], b"ustar", &[0; 250], &sheet(), &[0; 1088]].concat(),
         (1, 0),

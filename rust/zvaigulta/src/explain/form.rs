@@ -1,6 +1,7 @@
 //! Files in another form than records of 84 bytes end to end: text with line ends or a byte order mark, EBCDIC, padding.
 
 use super::{block, near, Fault};
+use crate::layout::{Layout, SHEET_A, SHEET_B};
 use crate::outline::{part, Record, Sort};
 use crate::text::{number_of, quoted};
 use crate::{FileKind, Refusal, MOST_RECORDS, RECORD_BYTES};
@@ -8,7 +9,7 @@ use std::ops::Range;
 
 /// The form that is recognised, and what to do about it. `refused` is the refused record, if the refusal names one.
 pub fn of(bytes: &[u8], refused: Option<usize>) -> Option<String> {
-    let whole = || lines(bytes).or_else(|| spaces_lost(bytes)).or_else(|| utf_8(bytes));
+    let whole = || framed(bytes).or_else(|| lines(bytes)).or_else(|| spaces_lost(bytes)).or_else(|| utf_8(bytes));
     start(bytes).or_else(whole).or_else(|| tail(bytes, refused))
 }
 
@@ -35,6 +36,26 @@ fn start(bytes: &[u8]) -> Option<String> {
         _ => return None,
     };
     Some(format!("{seen}; {advice}"))
+}
+
+/// The most bytes before a record, or behind it, that are known as no part of it: lengths of records, quotation marks.
+const MOST_AROUND: usize = 8;
+
+/// A sheet with some bytes before each record, and perhaps behind it.
+fn framed(bytes: &[u8]) -> Option<String> {
+    let fits = |layout: &Layout, start: usize| bytes.get(start..start + RECORD_BYTES).is_some_and(|record| layout.fits(record));
+    let starts = |n: &usize| bytes.get(*n..*n + 2) == Some(b"M ") && fits(&SHEET_A, *n);
+    let before = (1..=MOST_AROUND).find(starts)?;
+    let least = before + RECORD_BYTES;
+    let whole = |stride: &usize| bytes.len().is_multiple_of(*stride) && fits(&SHEET_B, stride + before);
+    let stride = (least..=least + MOST_AROUND).find(whole)?;
+    let plain: Vec<u8> = bytes.chunks(stride).flat_map(|framed| framed.get(before..least).unwrap_or(&[])).copied().collect();
+    let behind = match stride - least {
+        0 => String::new(),
+        n => format!(" and {} behind it", number_of(n as u64, "byte")),
+    };
+    let around = format!("{} before it{behind}", number_of(before as u64, "byte"));
+    Some(format!("every record has {around}, {stride} bytes in all: take these out; {}", without(&plain)))
 }
 
 /// Whether two thirds of the first records are the spaces and digits of EBCDIC.
