@@ -17,7 +17,9 @@ pub fn of(bytes: &[u8], refused: Option<usize>) -> Option<String> {
 fn start(bytes: &[u8]) -> Option<String> {
     let (seen, advice) = match bytes {
         [0xef, 0xbb, 0xbf, rest @ ..] => {
-            return Some(format!("the file starts with a byte order mark (EF BB BF): take it out; {}", without(rest)));
+            let more = lines(rest).or_else(|| tail(rest, None).filter(|_| !rest.len().is_multiple_of(RECORD_BYTES)));
+            let behind = more.map_or_else(|| without(rest), |more| format!("then, {more}"));
+            return Some(format!("the file starts with a byte order mark (EF BB BF): take it out; {behind}"));
         }
         [0xff, 0xfe, ..] | [0xfe, 0xff, ..] => (
             "the file starts with the byte order mark of UTF-16, two bytes for each letter",
