@@ -98,6 +98,7 @@ fn no_line_is_too_long() {
         "docs/DECISIONS.md",
         "docs/ARCHITECTURE.md",
         "docs/PERFORMANCE.md",
+        "docs/PROMISES.md",
     ] {
         for (place, line) in page(name).lines().enumerate() {
             assert!(line.chars().count() <= 150, "{name}:{}: {} characters", place + 1, line.chars().count());
