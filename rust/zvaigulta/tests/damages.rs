@@ -876,6 +876,13 @@ const FORMS: &[Damage] = &[
         &[],
     ),
     (
+        "lines wrapped at 80 bytes",
+        || sheet().chunks(80).flat_map(|line| [line, b"\r\n"].concat()).collect(),
+        (1, 0),
+        &["the file is text in lines that are no records: take the line ends out; without that the file is accepted"],
+        &[],
+    ),
+    (
         "a byte order mark",
         || [&b"\xef\xbb\xbf"[..], &sheet()].concat(),
         (1, 0),

@@ -9,7 +9,7 @@ use std::ops::Range;
 
 /// The form that is recognised, and what to do about it. `refused` is the refused record, if the refusal names one.
 pub fn of(bytes: &[u8], refused: Option<usize>) -> Option<String> {
-    let whole = || framed(bytes).or_else(|| lines(bytes)).or_else(|| spaces_lost(bytes)).or_else(|| utf_8(bytes));
+    let whole = || framed(bytes).or_else(|| lines(bytes)).or_else(|| other_lines(bytes)).or_else(|| utf_8(bytes));
     start(bytes).or_else(whole).or_else(|| tail(bytes, refused))
 }
 
@@ -130,14 +130,19 @@ fn ours(bytes: &[u8]) -> bool {
     bytes.starts_with(b"M ") || bytes.starts_with(b"I ") || Sort::of(bytes).is_some()
 }
 
-/// Lines that lost the spaces at their ends.
-fn spaces_lost(bytes: &[u8]) -> Option<String> {
+/// Text in lines that are no records: wrapped at another length, or without the spaces at their ends.
+fn other_lines(bytes: &[u8]) -> Option<String> {
     let text = bytes.strip_suffix(b"\n").filter(|text| ours(bytes) && text.contains(&b'\n'))?;
-    let mut lines = text.split(|byte| *byte == b'\n').map(|line| line.strip_suffix(b"\r").unwrap_or(line));
+    let lines = text.split(|byte| *byte == b'\n').map(|line| line.strip_suffix(b"\r").unwrap_or(line));
+    let joined: Vec<u8> = lines.clone().flatten().copied().collect();
+    if FileKind::of(&joined).judge(&joined, joined.len()).is_ok() {
+        let wrapped = "the file is text in lines that are no records: take the line ends out";
+        return Some(format!("{wrapped}; {}", without(&joined)));
+    }
     if lines.clone().any(|line| line.len() > RECORD_BYTES) {
         return None;
     }
-    let (short, line) = lines.by_ref().enumerate().find(|(_, line)| line.len() < RECORD_BYTES)?;
+    let (short, line) = lines.enumerate().find(|(_, line)| line.len() < RECORD_BYTES)?;
     let has = number_of(line.len() as u64, "byte");
     let advice = format!("fill each line with spaces up to {RECORD_BYTES} and take the line ends out");
     Some(format!("the file is text in lines, and spaces at their ends are lost: line {} has {has}; {advice}", short + 1))
