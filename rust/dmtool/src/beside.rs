@@ -51,6 +51,7 @@ impl Beside {
 
 /// A file of these bytes under a name that nothing has yet, on the disk. Where something has it, fails with `AlreadyExists`.
 pub fn put_new(target: &Path, bytes: &[u8]) -> io::Result<()> {
+    clear_unlocked(target);
     if let Some(file) = unnamed(target, 0o666) {
         fill(&file, bytes, None)?;
         match system::link(&file, target) {
@@ -59,6 +60,8 @@ pub fn put_new(target: &Path, bytes: &[u8]) -> io::Result<()> {
         }
     }
     let (beside, file) = named(target, 0o666)?;
+    // It is held until the end. Where there are no locks, nobody clears it either.
+    let _ = file.try_lock();
     fill(&file, bytes, None)?;
     match system::rename_to_new(&beside.0, target) {
         // Shares that know no such renaming have a second name for a file instead; the first one goes with `beside`.
@@ -72,15 +75,25 @@ pub fn put_new(target: &Path, bytes: &[u8]) -> io::Result<()> {
 /// Removes what killed edits of a file left beside it. Only who holds the lock of the file may call it: nobody else alive is
 /// then about to replace it.
 pub fn clear(target: &Path) {
-    let start = name_start(target);
-    let Ok(entries) = fs::read_dir(folder(target)) else {
-        return;
-    };
-    for entry in entries.flatten() {
-        if is_left_behind(&start, &entry.file_name()) {
-            let _ = fs::remove_file(entry.path());
+    for path in left_behind(target) {
+        let _ = fs::remove_file(path);
+    }
+}
+
+/// The same beside a name that nothing has yet, and so no lock: what nobody alive is writing. Who writes such a file has a lock of its own.
+fn clear_unlocked(target: &Path) {
+    for path in left_behind(target) {
+        if File::open(&path).is_ok_and(|file| file.try_lock().is_ok()) {
+            let _ = fs::remove_file(path);
         }
     }
+}
+
+/// What edits of a file have beside it.
+fn left_behind(target: &Path) -> Vec<PathBuf> {
+    let start = name_start(target);
+    let entries = fs::read_dir(folder(target)).into_iter().flatten().flatten();
+    entries.filter(|entry| is_left_behind(&start, &entry.file_name())).map(|entry| entry.path()).collect()
 }
 
 /// Whether a name is a start, numbers and `.tmp`. Anything else between them belongs to a file of another name.

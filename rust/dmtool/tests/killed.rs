@@ -95,8 +95,8 @@ fn what_is_left_is_cleared_by_the_next_edit_of_that_sheet_alone() {
     assert_eq!(left_behind(&f), [".sheet.dm.dmtool-notes.tmp"]);
 }
 
-/// A new file is whole or not there; what is left where files without a name are not to be had is cleared by its first edit, a
-/// second name of it too.
+/// A new file is whole or not there; what is left where files without a name are not to be had is cleared by the next run that makes it, or by its
+/// first edit, a second name of it too.
 #[test]
 fn a_new_file_is_whole_or_not_there() {
     let (f, faults) = (Folder::new("killed_new"), Faults::new("killed_new"));
@@ -114,8 +114,21 @@ fn a_new_file_is_whole_or_not_there() {
         assert_eq!(f.names().contains(&"sheet.dm".to_string()), made, "{fault}");
         let again = f.run(&["normal", "town.dm", "-o", "sheet.dm"]);
         assert_eq!((again.status, f.get("sheet.dm")), (Some(if made { 2 } else { 0 }), good()), "{fault}");
+        assert!(made || f.names() == ["sheet.dm", "town.dm"], "{fault}: {:?}", f.names());
         assert_eq!(f.run(&["remove", "sheet.dm", "7"]).status, Some(0), "{fault}");
         assert_eq!(f.names(), ["sheet.dm", "town.dm"], "{fault}");
         std::fs::remove_file(f.0.join("sheet.dm")).unwrap();
     }
+}
+
+/// What somebody alive is still writing is not cleared: the slower of two that make the same new file finds it there, and loses nothing.
+#[test]
+fn a_new_file_that_is_being_written_is_left_alone() {
+    let (f, faults) = (Folder::new("alive"), Faults::new("alive"));
+    f.put("town.dm", &good());
+    let other = format!("'{}' normal town.dm -o sheet.dm && cat .sheet.dm.dmtool-*.tmp >seen", env!("CARGO_BIN_EXE_dmtool"));
+    let ran = faults.run(&f, "tmpfile 95,fsync run", &other, &["normal", "town.dm", "-o", "sheet.dm"]);
+    assert_eq!((ran.status, f.get("sheet.dm"), f.get("seen")), (Some(2), good(), good()), "{}", ran.err);
+    assert!(ran.err.contains("which exists already"), "{}", ran.err);
+    assert_eq!(f.names(), ["seen", "sheet.dm", "town.dm"]);
 }
