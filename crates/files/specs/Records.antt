@@ -1,9 +1,9 @@
 -- The records of a file, by how far one starts behind the one before it; stage one. Assumes nothing.
-use mathlib.Core.Bool.{Bool, _&&_}
+use mathlib.Core.Bool.{Bool}
 use mathlib.Core.List.{List, [], _∷_}
-use Prim.Native.Nat.{ℕ, zero, suc, _*_, _/_, _%_}
-use lib.Dec.{leb, ltb, eqb}
+use Prim.Native.Nat.{ℕ, zero, suc, _/_}
 use lib.ListN.{length, take, drop}
+use Rattle.format.specs.Basics as Basics
 use Rattle.files.specs.declared.Stride.{Stride}
 use Rattle.files.specs.declared.Stride.the-variants.{Plain, Lines}
 
@@ -21,6 +21,6 @@ spaced stride (suc n) bs = take 84 bs ∷ spaced stride n (drop stride bs)
 unfoldable pub recordsOf : Stride → List ℕ → List (List ℕ)
 recordsOf stride file = spaced (strideOf stride) (length file / strideOf stride) file
 
--- "used length 0, above the buffer, not a multiple of 84, or above 200,000 records" is 1; for `Plain` format's `stageOneOk`, by `plain-length` of proofs/StageOne
+-- "used length 0, above the buffer, not a multiple of 84, or above 200,000 records" is 1; for `Plain` format's `stageOneOk`
 unfoldable pub lengthOk : Stride → (used : ℕ) → List ℕ → Bool
-lengthOk stride used buffer = ltb 0 used && leb used (length buffer) && eqb (used % strideOf stride) 0 && leb used (strideOf stride * 200000)
+lengthOk stride used buffer = Basics.lengthOk (strideOf stride) used buffer

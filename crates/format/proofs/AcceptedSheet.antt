@@ -3,9 +3,8 @@
 use mathlib.Core.Path.{_≡_, ap, ap₂, sym, _∙_}
 use mathlib.Core.Bool.{Bool, true}
 use mathlib.Core.List.{List, [], _++_}
-use Prim.Native.Nat.{ℕ, _+_, _-_, _*_, _/_, _%_, _≤_, _<_}
+use Prim.Native.Nat.{ℕ, _+_, _-_, _*_, _/_, _≤_, _<_}
 use native.Mathlib.Omega.{arith}
-use borrow.Author.Tests.{le-leb, eq-eqb, lt-ltb}
 use lib.ListN.{length, take, drop, getD, length-append, length-drop, length-map, take-append-drop}
 use lib.Seq.{length-take-le, drop-at, getD-drop}
 use Rattle.format.specs.Basics.{Answer, given, refused, Fault, none, chunks, flat, stageOneOk}
@@ -15,10 +14,9 @@ use Rattle.format.specs.Judge.{Counts, accepted, fileOf, judge, judgeRec
 use Rattle.format.specs.Edit.{RecordList, absent, dueBehind, openBehind, before, after, bodyPlace}
 use Rattle.format.specs.Calls.{Edit, plain}
 use Rattle.format.specs.Run.{bufferOf, listOf, call}
-use Rattle.format.proofs.Basics.{true-and}
 use Rattle.format.proofs.JudgeWalks.{Passes, sort, passes-split}
 use Rattle.format.proofs.JudgeAccepted.{accepted-ok, ok-accepted}
-use Rattle.format.proofs.JudgeStages.{Whole, stage-one, stage-given, part-given}
+use Rattle.format.proofs.JudgeStages.{Whole, whole-ok, stage-one, stage-given, part-given}
 use Rattle.format.proofs.Lists.{Wide, wide-chunks, wide-get, getD-views, chunks-flat, flat-chunks, length-flat, length-chunks}
 use Rattle.format.proofs.EditInsert.{fine-none}
 use Rattle.format.proofs.EditRecords.{AcceptedList, items-few}
@@ -155,4 +153,4 @@ list-accepted g k =
     inside-flat = rw (length-append (flat (g .records)) (g .tail)) (omega (arith, length-flat (g .records) (k .wide)))
 
     stage-ok : stageOneOk ((bufferOf g) .used) ((bufferOf g) .bytes) ≡ true
-    stage-ok = true-and _ _ (true-and _ _ (true-and _ _ (lt-ltb 0 (84 * length (g .records)) (omega (arith, theLaws .two (g .records) (k .sheet), theLaws .inside (g .records) (k .sheet)))) (le-leb (84 * length (g .records)) (length (flat (g .records) ++ g .tail)) inside-flat)) (eq-eqb (84 * length (g .records) % 84) 0 (omega arith))) (le-leb (84 * length (g .records)) (84 * 200000) (omega (arith, k .few)))
+    stage-ok = whole-ok 84 (84 * length (g .records)) (flat (g .records) ++ g .tail) (record { some = omega (arith, theLaws .two (g .records) (k .sheet), theLaws .inside (g .records) (k .sheet)); inside = inside-flat; even = omega arith; few = omega (arith, k .few) })

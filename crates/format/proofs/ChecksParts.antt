@@ -24,7 +24,7 @@ use Rattle.format.proofs.ChecksOrder.{Says, Decides, decides-says, deci
 use Rattle.format.proofs.ChecksRecords.{outside-says, columns-first, decides-rounded}
 
 -- ---- 2
-same-decides : (xs ys : List ℕ) → Decides (same xs ys) (xs ≡ ys)
+pub same-decides : (xs ys : List ℕ) → Decides (same xs ys) (xs ≡ ys)
 same-decides [] [] = record { yes = λ e. refl; no = λ e. absurd (false≢true (sym e)) }
 same-decides [] (y ∷ ys) = record { yes = λ e. absurd (false≢true e); no = λ e q. let x : _≡_ {A = ℕ} 0 1 = cc in omega arith }
 same-decides (x ∷ xs) [] = record { yes = λ e. absurd (false≢true e); no = λ e q. let x : _≡_ {A = ℕ} 0 1 = cc in omega arith }

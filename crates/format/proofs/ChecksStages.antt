@@ -8,9 +8,9 @@ use native.Mathlib.Omega.{arith}
 use lib.Dec.{ltb}
 use lib.ListN.{length}
 use borrow.Author.Tests.{ltb-true, ltb-false}
-use Rattle.format.specs.Basics.{Answer, given, refused, Fault, none, fault, orElse, stageOneOk}
+use Rattle.format.specs.Basics.{Answer, given, refused, Fault, none, fault, orElse, lengthOk, stageOneOk}
 use Rattle.format.specs.Judge.{Counts, items, accepted, verdict, afterStageOne}
-use Rattle.format.specs.Checks.{StageOneFails, Refusal, stageOne, stageTwo, stageThree}
+use Rattle.format.specs.Checks.{LengthFails, StageOneFails, Refusal, stageOne, stageTwo, stageThree}
 use Rattle.format.proofs.ChecksOrder.{Says, says-map, says-and, says-eqb, says-leb}
 
 -- ---- Stage one
@@ -26,11 +26,14 @@ sum-left (inr (inl q)) = inl (inl (inr q))
 sum-left (inr (inr (inl r))) = inl (inr r)
 sum-left (inr (inr (inr s))) = inr s
 
-pub stage-one-says : (used : ℕ) (buffer : List ℕ) → Says (stageOneOk used buffer) (StageOneFails used buffer)
-stage-one-says used buffer = says-map sum-right sum-left (says-and (says-and (says-and some (says-leb used (length buffer))) (says-eqb (used % 84) 0)) (says-leb used (84 * 200000)))
+pub length-says : (width used : ℕ) (buffer : List ℕ) → Says (lengthOk width used buffer) (LengthFails width used buffer)
+length-says width used buffer = says-map sum-right sum-left (says-and (says-and (says-and some (says-leb used (length buffer))) (says-eqb (used % width) 0)) (says-leb used (width * 200000)))
   where
     some : Says (ltb 0 used) (used ≡ 0)
     some = record { yes = λ e. omega (arith, ltb-false 0 used e); no = λ e q. omega (arith, ltb-true 0 used e) }
+
+pub stage-one-says : (used : ℕ) (buffer : List ℕ) → Says (stageOneOk used buffer) (StageOneFails used buffer)
+stage-one-says = length-says 84
 
 -- the values of an accepted file
 recordsIn : Answer Counts → ℕ

@@ -2,9 +2,9 @@
 use mathlib.Core.Path.{_≡_, refl, ap, sym, _∙_}
 use mathlib.Core.Bool.{true}
 use mathlib.Core.List.{List, _++_}
-use Prim.Native.Nat.{ℕ, _*_, _/_, _%_, _≤_, _<_}
+use Prim.Native.Nat.{ℕ, _*_, _/_, _≤_, _<_}
 use native.Mathlib.Omega.{arith}
-use borrow.Author.Tests.{lt-ltb, eq-eqb, le-leb, lt-leb}
+use borrow.Author.Tests.{le-leb, lt-leb}
 use lib.ListN.{length, take, drop, length-append, length-drop}
 use lib.Seq.{take-at, drop-at}
 use Rattle.format.specs.Basics.{Answer, given, refused, Outcome, chunks, flat, stageOneOk}
@@ -12,9 +12,8 @@ use Rattle.format.specs.Layout.{Col}
 use Rattle.format.specs.Judge.{Counts, accepted, afterStageOne}
 use Rattle.format.specs.Normal.{normalTo}
 use Rattle.format.specs.JudgedColumns.{NormalForm}
-use Rattle.format.proofs.Basics.{true-and}
 use Rattle.format.proofs.Lists.{Wide, wide-chunks, length-flat, chunks-flat, length-chunks}
-use Rattle.format.proofs.JudgeStages.{Whole, stage-one, stage-given}
+use Rattle.format.proofs.JudgeStages.{Whole, whole-ok, stage-one, stage-given}
 use Rattle.format.proofs.NormalFiles.{Done}
 
 -- ---- refused as judging does; 15 where the second buffer is short; or written
@@ -36,7 +35,7 @@ module _ (used : ℕ) (buffer : List ℕ) (w : Whole used buffer) where
   wide = wide-chunks (used / 84) buffer (omega (arith, w .inside))
 
   for-all : (other : List ℕ) → used ≤ length other → stageOneOk used other ≡ true
-  for-all other l = true-and _ _ (true-and _ _ (true-and _ _ (lt-ltb 0 used (w .some)) (le-leb used (length other) l)) (eq-eqb (used % 84) 0 (w .even))) (le-leb used (84 * 200000) (w .few))
+  for-all other l = whole-ok 84 used other (record { some = w .some; inside = l; even = w .even; few = w .few })
 
 module _ (judged : List (List Col)) (ns : List (List ℕ)) (used : ℕ) (buffer second : List ℕ) (w : Whole used buffer) (l : used ≤ length second) (d : Done judged (chunks (used / 84) buffer) ns) where
   many : length ns ≡ used / 84

@@ -266,9 +266,12 @@ indexFaults (Index.due-b bs cs) r = columnFaults ⊥ indexB ⊥ ⊥ r
 indexFaults (Index.due-c cs) r = columnFaults ⊥ indexC ⊥ ⊥ r
 indexFaults Index.over r = columnFaults ⊥ [] ⊥ ⊥ r
 
--- ---- Stage one: "used length 0, above the buffer, not a multiple of 84, or above 200,000 records"
+-- ---- Stage one: "used length 0, above the buffer, not a multiple of 84, or above 200,000 records"; of records that have so many bytes
+abbrev pub LengthFails : (width used : ℕ) → List ℕ → Type 0
+LengthFails width used buffer = (used ≡ 0) ⊎ (length buffer < used) ⊎ (used % width ≢ 0) ⊎ (width * 200000 < used)
+
 abbrev pub StageOneFails : (used : ℕ) → List ℕ → Type 0
-StageOneFails used buffer = (used ≡ 0) ⊎ (length buffer < used) ⊎ (used % 84 ≢ 0) ⊎ (84 * 200000 < used)
+StageOneFails used buffer = LengthFails 84 used buffer
 
 -- ---- Stage two: "a walk from the front"
 -- what is due when a record is reached, and what its faults are
