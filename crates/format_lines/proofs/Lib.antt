@@ -1,0 +1,5 @@
+pub mod PlainFiles
+pub mod LineEnds
+pub mod LineEndsBytes
+pub mod LineEndsRefused
+pub mod Claims

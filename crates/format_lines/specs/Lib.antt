@@ -1,0 +1,3 @@
+pub mod LineEnds
+pub mod LineEndsChecks
+pub mod LineEndsExamples
