@@ -26,6 +26,10 @@ use Rattle.format.proofs.SheetCounts.{theLaws}
 abbrev pub accepted-by : {used : ℕ} {l : List ℕ} {n m : ℕ} → judgeSheet used l ≡ accepted n m → AcceptedSheet used l
 accepted-by {n = n} {m = m} e = record { counts = record { records = n; items = m }; judged = e }
 
+abbrev recordsIn : Answer Counts → ℕ
+recordsIn (given counts) = counts .records
+recordsIn (refused number at) = 0
+
 abbrev itemsIn : Answer Counts → ℕ
 itemsIn (given counts) = counts .items
 itemsIn (refused number at) = 0
@@ -114,6 +118,9 @@ module _ {used : ℕ} {l : List ℕ} (a : AcceptedSheet used l) where
 
   pub verdict-is : judgeSheet used l ≡ accepted (used / 84) (statedElements (getD (chunks (used / 84) l) 1 []))
   verdict-is = a .judged ∙ sym body-judged ∙ ok-accepted (sheetIn used l) (accepted-list .ok) ∙ ap₂ accepted all-records (sym (accepted-list .ok .statedElements))
+
+  pub counted-are : used / 84 ≡ a .counts .records
+  counted-are = ap recordsIn (sym verdict-is ∙ a .judged)
 
   pub elements-are : statedElements (getD (chunks (used / 84) l) 1 []) ≡ a .counts .items
   elements-are = ap itemsIn (sym verdict-is ∙ a .judged)

@@ -15,6 +15,7 @@ pub mod JudgeWalks
 pub mod JudgeCounts
 pub mod JudgeAccepted
 pub mod JudgeStages
+pub mod JudgeRecords
 pub mod JudgeMeaning
 pub mod JudgeSteps
 pub mod Above

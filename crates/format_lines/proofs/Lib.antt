@@ -1,4 +1,3 @@
-pub mod PlainFiles
 pub mod LineEnds
 pub mod LineEndsBytes
 pub mod LineEndsRefused

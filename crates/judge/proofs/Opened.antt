@@ -67,13 +67,3 @@ module _ (used : ℕ) (buffer : List ℕ) (before : ℕ) (s : Sheet) (is : s ≡
 -- a place by its record number, as edits have it, stands behind one record less
 pub before-place : (f : File) (place : ℕ) → bodyBefore f (place - 1) ≡ take (bodyPlace f place) (f .body)
 before-place f place = let e : place - 1 - f .partLength ≡ place - suc (f .partLength) = omega arith in ap (λ (n : ℕ). take n (f .body)) e
-
--- ---- the verdict alone
-module _ (used : ℕ) (buffer : List ℕ) (s : Sheet) (is : s ≡ openedIn used buffer 0) where
-  pub verdict-refused : (s .fault ≡ 0 → ⊥) → judgedAnswer (Refused (s .fault) (s .at)) ≡ judgeSheet used buffer
-  unfolding judgedAnswer
-  verdict-refused ne = sym (sheet-refused-is used buffer 0 s is ne)
-
-  pub verdict-accepted : s .fault ≡ 0 → judgedAnswer (Accepted (used / 84) (s .items)) ≡ judgeSheet used buffer
-  unfolding judgedAnswer
-  verdict-accepted z = let o = opened-sheet used buffer 0 s is z in sym (verdict-is (o .accepted) ∙ rw (o .items-are))

@@ -8,9 +8,11 @@ use Rattle.format.specs.Basics.{Answer, given, refused, chunks}
 use Rattle.format.specs.Record.{View}
 use Rattle.format.specs.Layout.{numberAt, sheetB}
 use Rattle.format.specs.Sheet.{corners}
-use Rattle.format.specs.Judge.{Counts, File, fileOf, judgeRecords, judgeSheet}
+use Rattle.format.specs.Judge.{Counts, File, fileOf, judgeRecords, judgeSheet, afterStageOne}
 use Rattle.format.specs.Edit.{dueBehind, openBehind, lastHeader}
 use Rattle.format.specs.Above.{lastStart}
+use Rattle.files.specs.declared.Stride.{Stride}
+use Rattle.files.specs.Records.{recordsOf, lengthOk}
 use Rattle.judge.specs.declared.Sheet.{Sheet}
 
 -- the values of a function, `count` of them from a number on
@@ -62,3 +64,7 @@ recordsSheet records before = openedSheet (judgeRecords records) records before
 -- the sheet file in the first `used` bytes of a buffer, and the place behind `before` of its records
 unfoldable pub openedIn : (used : ℕ) → List ℕ → (before : ℕ) → Sheet
 openedIn used buffer before = openedSheet (judgeSheet used buffer) (chunks (used / 84) buffer) before
+
+-- ---- Judging alone, of records at a stride: stage one, then the records
+unfoldable pub judgeBy : (List (List ℕ) → Answer Counts) → Stride → (used : ℕ) → List ℕ → Answer Counts
+judgeBy ofRecords stride used buffer = afterStageOne (lengthOk stride used buffer) (ofRecords (recordsOf stride (take used buffer)))

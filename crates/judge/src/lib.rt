@@ -4,9 +4,9 @@ use files::Stride;
 use format::Judged;
 use part_and_index::FourCorners;
 ghost use mathlib.Core.Path.{_≡_};
-ghost use Rattle.format.specs.Judge.{judgeSheet, judgeIndex};
+ghost use Rattle.format.specs.Judge.{judgeRecords, judgeIndexRecords, judgeSheet, judgeIndex};
 ghost use Rattle.format.specs.Answers.{judgedAnswer};
-ghost use Rattle.judge.specs.Sheet.{openedIn};
+ghost use Rattle.judge.specs.Sheet.{judgeBy, openedIn};
 
 mod body_records;
 mod opening;
@@ -38,27 +38,46 @@ pub fn open_sheet(buffer: &[u8], used: usize, before: usize) -> Sheet
     opening::open_file(&buffer[..used], Stride::Plain, before)
 }
 
+// Judges the first `used` bytes of the buffer as a sheet file whose records stand at a stride.
+pub fn judge_sheet_by(buffer: &[u8], used: usize, stride: Stride) -> Judged
+    ensures { λ r. ⌜ judgedAnswer r ≡ judgeBy judgeRecords stride used (now (buffer .entry)) ⌝ }
+{
+    if !files::length_ok(buffer, used, stride) {
+        return Judged::Refused(1, 0);
+    }
+    let file = &buffer[..used];
+    let sheet = opening::open_file(file, stride, 0);
+    if sheet.fault != 0 {
+        return Judged::Refused(sheet.fault, sheet.at);
+    }
+    Judged::Accepted(files::count(file, stride), sheet.items)
+}
+
+// The same as an index file.
+pub fn judge_index_by(buffer: &[u8], used: usize, stride: Stride) -> Judged
+    ensures { λ r. ⌜ judgedAnswer r ≡ judgeBy judgeIndexRecords stride used (now (buffer .entry)) ⌝ }
+{
+    if !files::length_ok(buffer, used, stride) {
+        return Judged::Refused(1, 0);
+    }
+    let file = &buffer[..used];
+    let found = part_and_index::index_fault(file, stride);
+    if found.number != 0 {
+        return Judged::Refused(found.number, found.at);
+    }
+    Judged::Accepted(files::count(file, stride), 0)
+}
+
 // Judges the first `used` bytes of the buffer as a sheet file.
 pub fn judge_sheet(buffer: &[u8], used: usize) -> Judged
     ensures { λ r. ⌜ judgedAnswer r ≡ judgeSheet used (now (buffer .entry)) ⌝ }
 {
-    let sheet = open_sheet(buffer, used, 0);
-    if sheet.fault != 0 {
-        return Judged::Refused(sheet.fault, sheet.at);
-    }
-    Judged::Accepted(used / files::RECORD, sheet.items)
+    judge_sheet_by(buffer, used, Stride::Plain)
 }
 
 // Judges the first `used` bytes of the buffer as an index file.
 pub fn judge_index(buffer: &[u8], used: usize) -> Judged
     ensures { λ r. ⌜ judgedAnswer r ≡ judgeIndex used (now (buffer .entry)) ⌝ }
 {
-    if !files::length_ok(buffer, used, Stride::Plain) {
-        return Judged::Refused(1, 0);
-    }
-    let found = part_and_index::index_fault(&buffer[..used], Stride::Plain);
-    if found.number != 0 {
-        return Judged::Refused(found.number, found.at);
-    }
-    Judged::Accepted(used / files::RECORD, 0)
+    judge_index_by(buffer, used, Stride::Plain)
 }

@@ -1,17 +1,14 @@
--- `judge_sheet` is the verdict of opening. Assumes nothing.
-use Rattle.judge.proofs.Opened.{verdict-refused, verdict-accepted}
+-- `judge_sheet` judges records end to end. Assumes nothing.
+use Rattle.judge.proofs.FileLaws.{plain-sheet}
 use borrow.Author.Needs.{needs}
 use Rattle.judge.proofs.judge_sheet.Statement.{statement}
 use Rattle.judge.proofs.judge_sheet.Tie as tie
 
-open-sheet-requires : tie.Need-open-sheet-requires
-open-sheet-requires c κs = search needs
+judge-sheet-by-requires : tie.Need-judge-sheet-by-requires
+judge-sheet-by-requires c κs = search needs
 
 returns : tie.Need-returns
-returns c = search verdict-refused
-
-returns-2 : tie.Need-returns-2
-returns-2 c = search verdict-accepted
+returns c = search plain-sheet
 
 pub judge-sheet-spec : {M : Type 1} → statement M
-judge-sheet-spec = tie.close (tie.spec open-sheet-requires returns returns-2)
+judge-sheet-spec = tie.close (tie.spec judge-sheet-by-requires returns)

@@ -1,4 +1,4 @@
--- A plain file whose length is right, by its records. Assumes nothing.
+-- A file whose length is right is judged by its records. Assumes nothing.
 use mathlib.Core.Path.{_≡_, ap, sym, _∙_}
 use mathlib.Core.Bool.{Bool}
 use mathlib.Core.List.{List, _++_}
