@@ -10,7 +10,7 @@ ghost use Rattle.files.specs.Records.{strideOf, recordsOf, lengthOk};
 pub const RECORD: usize = 84;
 
 // The same with a line end of two bytes behind it.
-const LINE: usize = RECORD + 2;
+pub const LINE: usize = RECORD + 2;
 
 // "above 200,000 records"
 pub const MOST: usize = 200000;

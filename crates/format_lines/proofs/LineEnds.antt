@@ -129,7 +129,7 @@ pub plain-form : (used : ℕ) (b : List ℕ) → plainFault used b ≡ none → 
 unfolding plainFault
 plain-form used b e = length-ok 84 used b (unless-zero (lengthOk 84 used b) 0 (toFault-none (unless (lengthOk 84 used b) 1) 0 e))
 
-lined-form : (used : ℕ) (b : List ℕ) → lineFault used b ≡ none → WholeOf 86 used b × (endFault 1 (lines (used / 86) b) ≡ none)
+pub lined-form : (used : ℕ) (b : List ℕ) → lineFault used b ≡ none → WholeOf 86 used b × (endFault 1 (lines (used / 86) b) ≡ none)
 unfolding lineFault
 lined-form used b e = let p = orElse-none (toFault (unless (lengthOk 86 used b) 1) 0) (endFault 1 (lines (used / 86) b)) e in (length-ok 86 used b (unless-zero (lengthOk 86 used b) 0 (toFault-none (unless (lengthOk 86 used b) 1) 0 (p .0))), p .1)
 

@@ -30,7 +30,7 @@ ended-decides : (l : List ℕ) → length l ≡ 86 → Decides (endOk l) ((getD 
 unfolding endOk
 ended-decides l e = decides-map (λ q. let p : getD l 84 0 ∷ getD l 85 0 ∷ [] ≡ lineEnd = sym (two-bytes l e) ∙ q in let a : getD l 84 0 ≡ 13 = cc in let b : getD l 85 0 ≡ 10 = cc in (a, b)) (λ q. two-bytes l e ∙ ap₂ (λ (x y : ℕ). x ∷ y ∷ []) (q .0) (q .1)) (same-decides (drop 84 l) lineEnd)
 
-first-decides : (bs : List ℕ) → 86 ≤ length bs → Decides (endOk (take 86 bs)) (Ended bs 0)
+pub first-decides : (bs : List ℕ) → 86 ≤ length bs → Decides (endOk (take 86 bs)) (Ended bs 0)
 first-decides bs h = decides-map (λ q. (sym (getD-take 86 bs 84 0 (omega arith)) ∙ q .0, sym (getD-take 86 bs 85 0 (omega arith)) ∙ q .1)) (λ q. (getD-take 86 bs 84 0 (omega arith) ∙ q .0, getD-take 86 bs 85 0 (omega arith) ∙ q .1)) (ended-decides (take 86 bs) (length-take-le 86 bs h))
 
 -- line k behind the first is line k + 1
