@@ -4,7 +4,7 @@ use crate::arguments::Arguments;
 use crate::failure::{output_failed, Done, Failure, FINE};
 use crate::words::{hex, Words};
 use std::io::{BufRead, Write};
-use zvaigulta::{FileKind, Refusal};
+use zvaigulta::{FileKind, Form, Refusal};
 
 /// Answers every line of the input, each as soon as it is read.
 pub fn run(arguments: &Arguments, input: &mut impl BufRead, out: &mut impl Write) -> Done {
@@ -29,6 +29,9 @@ fn answer(line: &str) -> Result<String, String> {
     let name = words.word("a command")?;
     let command = match name {
         "judge" => judge,
+        "judge86" => judge_lines,
+        "to86" => to_lines,
+        "from86" => from_lines,
         "read" => read,
         "write" => write,
         "join" => join,
@@ -64,8 +67,26 @@ fn kind(words: &mut Words) -> Result<FileKind, String> {
 }
 
 fn judge(words: &mut Words) -> Answer {
+    judge_in(Form::Plain, words)
+}
+
+fn judge_lines(words: &mut Words) -> Answer {
+    judge_in(Form::Lines, words)
+}
+
+fn judge_in(form: Form, words: &mut Words) -> Answer {
     let (kind, used, buffer) = (kind(words)?, words.size("USED")?, words.bytes("BUF")?);
-    Ok(said(kind.judge(&buffer, used).map(|c| format!("{} {}", c.records, c.items))))
+    Ok(said(kind.judge_in(form, &buffer, used).map(|c| format!("{} {}", c.records, c.items))))
+}
+
+fn to_lines(words: &mut Words) -> Answer {
+    let (used, buffer, mut target) = (words.size("USED")?, words.bytes("BUF")?, words.bytes("BUF2")?);
+    Ok(said(zvaigulta::to_lines(&buffer, used, &mut target).map(|n| format!("{n} {}", hex(&target)))))
+}
+
+fn from_lines(words: &mut Words) -> Answer {
+    let (used, buffer, mut target) = (words.size("USED")?, words.bytes("BUF")?, words.bytes("BUF2")?);
+    Ok(said(zvaigulta::from_lines(&buffer, used, &mut target).map(|n| format!("{n} {}", hex(&target)))))
 }
 
 fn read(words: &mut Words) -> Answer {

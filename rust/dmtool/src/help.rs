@@ -126,6 +126,9 @@ Usage: dmtool batch
 Reads one command a line from standard input and answers each with one line, at once. Bytes are lower-case hex, - for none; numbers are decimal.
 
   judge sheet|index USED BUF           ok RECORDS ITEMS
+  judge86 sheet|index USED BUF         ok RECORDS ITEMS, with line ends
+  to86 USED BUF BUF2                   ok LENGTH BUF2-AFTER, line ends put in
+  from86 USED BUF BUF2                 ok LENGTH BUF2-AFTER, line ends taken out
   read BYTES                           ok VALUE
   write WIDTH VALUE                    ok BYTES
   join UNIT WHOLE FRACTION             ok MM

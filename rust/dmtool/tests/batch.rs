@@ -140,6 +140,82 @@ fn thousands_of_lines_as_the_reference_answers_them() {
     assert!(accepted > 3_000 && errors > 500, "{accepted} accepted, {errors} errors");
 }
 
+/// The bytes of a record with its line end.
+const LINE: usize = RECORD + 2;
+
+fn with_line_ends(plain: &[u8]) -> Vec<u8> {
+    plain.chunks(RECORD).flat_map(|record| [record, b"\r\n"].concat()).collect()
+}
+
+/// 1 by a stride, then, for lines, 18 with the first record whose end is another.
+fn length_and_ends(buffer: &[u8], used: usize, stride: usize) -> Result<&[u8], String> {
+    let file = buffer.get(..used).filter(|file| !file.is_empty() && file.len() % stride == 0).ok_or("no 1 0")?;
+    let wrong = file.chunks(stride).position(|line| stride == LINE && !line.ends_with(b"\r\n"));
+    wrong.map_or(Ok(file), |place| Err(format!("no 18 {}", place + 1)))
+}
+
+/// What a writer answers: the result at the start of the target, whose other bytes stay.
+fn written(result: &[u8], target: &[u8]) -> String {
+    match target.get(result.len()..) {
+        Some(rest) => format!("ok {} {}", result.len(), hex(&[result, rest].concat())),
+        None => "no 15 0".to_string(),
+    }
+}
+
+/// A command of order 1 on a buffer, and its answer; for the plain twin of a file with line ends that of the reference.
+fn on_buffer(command: usize, kind: &str, buffer: &[u8], used: usize, target: &[u8]) -> (String, String) {
+    let (buf, buf2) = (hex(buffer), hex(target));
+    let file = |stride| length_and_ends(buffer, used, stride);
+    let twin = || file(LINE).map(|file| file.chunks(LINE).flat_map(|line| &line[..RECORD]).copied().collect::<Vec<u8>>());
+    let judged = |twin: Vec<u8>| answer(&format!("judge {kind} {} {}", twin.len(), hex(&twin))).expect("an answer");
+    let (line, expected) = match command {
+        0 => (format!("judge86 {kind} {used} {buf}"), twin().map(judged)),
+        1 => (format!("from86 {used} {buf} {buf2}"), twin().map(|twin| written(&twin, target))),
+        _ => (format!("to86 {used} {buf} {buf2}"), file(RECORD).map(|file| written(&with_line_ends(file), target))),
+    };
+    (line, expected.unwrap_or_else(|no| no))
+}
+
+/// The same on a file with line ends most often, damaged in its records or its ends, with bytes behind it.
+fn on_lines(r: &mut Random) -> (String, String) {
+    let (index, size) = (r.once_in(4), r.below(4));
+    let plain = if index { sheets::index(r) } else { sheets::sheet(r, size) };
+    let plain = if r.once_in(3) { sheets::damaged(r, &plain) } else { plain };
+    let command = r.below(3);
+    let as_is = if r.once_in(8) { command < 2 } else { command == 2 };
+    let mut buffer = if as_is { plain } else { with_line_ends(&plain) };
+    if r.once_in(4) {
+        let at = r.below(buffer.len() / LINE + 1) * LINE + RECORD + r.below(2);
+        let byte = *r.pick(b"\r\n \0");
+        buffer.iter_mut().skip(at).take(1).for_each(|old| *old = byte);
+    }
+    let used = if r.once_in(12) { r.below(buffer.len() + 2) } else { buffer.len() };
+    buffer.extend((0..r.below(2) * r.below(200)).map(|_| b'~'));
+    let kind = if index != r.once_in(30) { "index" } else { "sheet" };
+    let near = (buffer.len() as i64 + r.between(-2, 2) * r.between(0, 100)).max(0) as usize;
+    on_buffer(command, kind, &buffer, used, &vec![b'.'; if r.once_in(2) { near } else { 2 * buffer.len() }])
+}
+
+#[test]
+fn thousands_of_lines_on_files_with_line_ends() {
+    let mut r = Random(86);
+    let (lines, expected): (Vec<String>, Vec<String>) = (0..6_000).map(|_| on_lines(&mut r)).unzip();
+    let ran = Folder::new("batch_lines_86").run_on((lines.join("\n") + "\n").as_bytes(), &["batch"]);
+    let text = ran.text();
+    let answers: Vec<&str> = text.lines().collect();
+    assert_eq!((ran.status, answers.len()), (Some(0), lines.len()));
+    for ((line, ours), theirs) in lines.iter().zip(&answers).zip(&expected) {
+        assert!(ours == theirs, "{line}\nours   {ours}\ntheirs {theirs}");
+    }
+    let count = |start: &str| answers.iter().filter(|ours| ours.starts_with(start)).count();
+    for start in ["ok ", "no 1 0", "no 2 ", "no 3 ", "no 5 ", "no 10 ", "no 15 0", "no 18 1", "no 18 9"] {
+        assert!(count(start) > 10, "{start}: {}", count(start));
+    }
+    for wrong in ["judge86 sheet 86", "judge86 other 1 00", "to86 1 00", "from86 1 00 00 00", "to86 x 00 00", "from86 -1 00 00"] {
+        assert!(Folder::new("batch_86").run_on(wrong.as_bytes(), &["batch"]).text().starts_with("error "), "{wrong}");
+    }
+}
+
 #[test]
 fn the_program_and_its_longest_input() {
     let mut input = good();

@@ -260,6 +260,91 @@ pub fn way_up(buffer: &[u8], used: usize, number: usize) -> Result<WayUp, Refusa
     answer(raw.refusal, raw.at, WayUp { header, passed: raw.passed })
 }
 
+/// Judges a sheet with line ends, the first `used` bytes of the buffer: behind each record of 84 bytes stand carriage return and line feed, 86
+/// bytes in all. Answers as [`judge_sheet`] does for its plain twin, the same records without their ends; records have the same numbers.
+///
+/// # Errors
+/// 1, by multiples of 86; then 18 with the first record of the file that does not end so; then those of the plain twin, 2 to 10.
+///
+/// ```
+/// use zvaigulta::{judge_sheet_lines, to_lines, Reason, EXAMPLE};
+///
+/// let mut sheet = vec![0; 9 * 86];
+/// to_lines(EXAMPLE, EXAMPLE.len(), &mut sheet)?;
+/// assert_eq!(judge_sheet_lines(&sheet, sheet.len())?.to_string(), "accepted 9 records 1 items");
+/// // Without its last record the item at record 7 lacks data, as in the plain form.
+/// let refusal = judge_sheet_lines(&sheet, 8 * 86).unwrap_err();
+/// assert_eq!((refusal.reason, refusal.record), (Reason::MissingRecord, Some(7)));
+/// // A wrong end is told before anything else.
+/// sheet[8 * 86 + 85] = b' ';
+/// let refusal = judge_sheet_lines(&sheet, sheet.len()).unwrap_err();
+/// assert_eq!((refusal.reason, refusal.record), (Reason::LineEnd, Some(9)));
+/// # Ok::<(), zvaigulta::Refusal>(())
+/// ```
+pub fn judge_sheet_lines(buffer: &[u8], used: usize) -> Result<Counts, Refusal> {
+    counts(raw::judge_sheet_lines(buffer, used))
+}
+
+/// Judges an index with line ends: as [`judge_sheet_lines`], with the answer of [`judge_index`] for its plain twin.
+///
+/// # Errors
+/// 1, by multiples of 86; then 18; then those of the plain twin, 2 to 6 and 10.
+///
+/// ```
+/// let index = b"I  9City survey office              0 0   0002008Regulation                    10   \r\n";
+/// let counts = zvaigulta::judge_index_lines(index, index.len())?;
+/// assert_eq!((counts.records, counts.items), (1, 0));
+/// # Ok::<(), zvaigulta::Refusal>(())
+/// ```
+pub fn judge_index_lines(buffer: &[u8], used: usize) -> Result<Counts, Refusal> {
+    counts(raw::judge_index_lines(buffer, used))
+}
+
+/// Writes the records of a plain file, the first `used` bytes of the buffer, to a target with carriage return and line feed behind each;
+/// answers the result's length, 86 bytes a record. Bytes of the target past it stay. Nothing else is judged: any bytes are records, a block
+/// as well as a file.
+///
+/// # Errors
+/// 1; then 15 where the target is too short. The target is then unchanged.
+///
+/// ```
+/// use zvaigulta::{from_lines, to_lines, Reason, EXAMPLE};
+///
+/// let mut lines = vec![0; 800];
+/// assert_eq!(to_lines(EXAMPLE, EXAMPLE.len(), &mut lines)?, 9 * 86);
+/// assert_eq!(&lines[84..86], b"\r\n");
+/// // Over and back gives the same bytes.
+/// let mut plain = [0; 9 * 84];
+/// assert_eq!(from_lines(&lines, 9 * 86, &mut plain)?, 9 * 84);
+/// assert_eq!(&plain, EXAMPLE);
+/// assert_eq!(to_lines(EXAMPLE, EXAMPLE.len(), &mut lines[..9 * 86 - 1]).unwrap_err().reason, Reason::Room);
+/// # Ok::<(), zvaigulta::Refusal>(())
+/// ```
+pub fn to_lines(buffer: &[u8], used: usize, target: &mut [u8]) -> Result<usize, Refusal> {
+    length(raw::to_lines(buffer, used, target))
+}
+
+/// Writes the records of a file with line ends, the first `used` bytes of the buffer, to a target without their ends; answers the result's
+/// length, 84 bytes a record. Bytes of the target past it stay. Nothing else is judged.
+///
+/// # Errors
+/// 1, by multiples of 86; then 18 with the first record that does not end in carriage return and line feed; then 15 where the target is too
+/// short. The target is then unchanged.
+///
+/// ```
+/// use zvaigulta::{from_lines, Reason};
+///
+/// // Line feed before carriage return is no line end.
+/// let mut lines = [b' '; 2 * 86];
+/// lines[84..86].copy_from_slice(b"\r\n");
+/// lines[170..].copy_from_slice(b"\n\r");
+/// let refusal = from_lines(&lines, lines.len(), &mut [0; 2 * 84]).unwrap_err();
+/// assert_eq!((refusal.reason, refusal.record), (Reason::LineEnd, Some(2)));
+/// ```
+pub fn from_lines(buffer: &[u8], used: usize, target: &mut [u8]) -> Result<usize, Refusal> {
+    length(raw::from_lines(buffer, used, target))
+}
+
 /// Puts the line that the program `dm` prints on an input, with its line end, at the start of a buffer; answers the line's length. Bytes
 /// behind it stay.
 ///

@@ -34,6 +34,7 @@ mod own;
 mod shift;
 
 pub use block::block;
+pub(crate) use block::is_block;
 pub use edits::{insertion, removal, way_up};
 
 use crate::layout::{INDEX_A, SHEET_A, SHEET_B, SHEET_D};
@@ -262,7 +263,7 @@ mod tests {
                 }
             }
             let record = Some(r.below(file.len() / RECORD_BYTES + 3)).filter(|record| *record > 0 || n % 2 == 0);
-            let refusal = Refusal { reason: Reason::from_number(r.below(19) as u64), record };
+            let refusal = Refusal { reason: Reason::from_number(r.below(20) as u64), record };
             let block = damaged(&mut r, n + 1);
             let at = r.below(block.len() / RECORD_BYTES + 1) * RECORD_BYTES;
             let place = *r.pick(&[0, 1, 7, file.len() / RECORD_BYTES, usize::MAX]);

@@ -1,6 +1,6 @@
 //! Which of the two files a buffer holds.
 
-use crate::{judge_index, judge_sheet, normal_index, normal_sheet, Counts, Refusal};
+use crate::{judge_index, judge_index_lines, judge_sheet, judge_sheet_lines, normal_index, normal_sheet, Counts, Form, Refusal};
 use std::fmt;
 
 /// A sheet file or an index file.
@@ -40,6 +40,27 @@ impl FileKind {
         match self {
             FileKind::Sheet => judge_sheet(buffer, used),
             FileKind::Index => judge_index(buffer, used),
+        }
+    }
+
+    /// The same in a form: also [`judge_sheet_lines`] or [`judge_index_lines`].
+    ///
+    /// # Errors
+    /// Theirs.
+    ///
+    /// ```
+    /// use zvaigulta::{FileKind, Form};
+    ///
+    /// let index = b"I  9City survey office              0 0   0002008Regulation                    10   \r\n";
+    /// let (kind, form) = (FileKind::of(index), Form::of(index));
+    /// assert_eq!(kind.judge_in(form, index, index.len())?.records, 1);
+    /// # Ok::<(), zvaigulta::Refusal>(())
+    /// ```
+    pub fn judge_in(self, form: Form, buffer: &[u8], used: usize) -> Result<Counts, Refusal> {
+        match (form, self) {
+            (Form::Plain, kind) => kind.judge(buffer, used),
+            (Form::Lines, FileKind::Sheet) => judge_sheet_lines(buffer, used),
+            (Form::Lines, FileKind::Index) => judge_index_lines(buffer, used),
         }
     }
 

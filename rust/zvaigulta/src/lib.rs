@@ -1,8 +1,12 @@
 //! Japan's digital mapping files, judged, read and edited by a library that is proved against the build scope ("document 01").
 //!
-//! A file is bytes in a buffer: records of 84 bytes without line ends, a sheet or an index. Every call answers every input, any bytes and
+//! A file is bytes in a buffer: records of 84 bytes end to end, a sheet or an index. Every call answers every input, any bytes and
 //! any number, and never panics; a refused call changes no buffer and says why by a [`Refusal`]. `used` is the length of the file in its
 //! buffer, which may be longer; records number from 1.
+//!
+//! Files with line ends, carriage return and line feed behind each record, are judged by [`judge_sheet_lines`] and [`judge_index_lines`];
+//! [`from_lines`] makes the plain file of one, which every other call takes, and [`to_lines`] goes back. [`Form`] tells which of the two
+//! forms a file has.
 //!
 //! ```
 //! // The example of document 01: five sheet records, one layer, one line of seven points.
@@ -25,6 +29,7 @@
 
 mod calls;
 pub mod explain;
+mod form;
 mod kind;
 pub mod layout;
 pub mod outline;
@@ -35,9 +40,10 @@ pub mod text;
 mod unit;
 
 pub use calls::{
-    insert, join, judge_index, judge_sheet, normal_index, normal_sheet, read_column, remove, report, split, way_up, write_column,
-    Corner, Counts, WayUp,
+    from_lines, insert, join, judge_index, judge_index_lines, judge_sheet, judge_sheet_lines, normal_index, normal_sheet,
+    read_column, remove, report, split, to_lines, way_up, write_column, Corner, Counts, WayUp,
 };
+pub use form::{Form, LINE_END};
 pub use kind::FileKind;
 pub use refusal::{Reason, Refusal};
 pub use sheet::{Item, Sheet};
@@ -45,6 +51,9 @@ pub use unit::Unit;
 
 /// Bytes of a record.
 pub const RECORD_BYTES: usize = 84;
+
+/// Bytes of a record with its line end.
+pub const LINE_RECORD_BYTES: usize = RECORD_BYTES + LINE_END.len();
 
 /// The most records that a file may have.
 pub const MOST_RECORDS: usize = 200_000;

@@ -53,6 +53,10 @@ extern "C" {
     fn zv_insert(buffer: *mut u8, length: usize, used: usize, place: usize, block: *const u8, block_length: usize) -> Length;
     fn zv_remove(buffer: *mut u8, length: usize, used: usize, place: usize) -> Length;
     fn zv_way_up(buffer: *const u8, length: usize, used: usize, number: usize) -> Way;
+    fn zv_judge_sheet_lines(buffer: *const u8, length: usize, used: usize) -> Counts;
+    fn zv_judge_index_lines(buffer: *const u8, length: usize, used: usize) -> Counts;
+    fn zv_to_lines(buffer: *const u8, length: usize, used: usize, target: *mut u8, target_length: usize) -> Length;
+    fn zv_from_lines(buffer: *const u8, length: usize, used: usize, target: *mut u8, target_length: usize) -> Length;
     fn zv_report(input: *const u8, input_length: usize, out: *mut u8, out_length: usize) -> Length;
 }
 
@@ -109,6 +113,26 @@ pub fn remove(buffer: &mut [u8], used: usize, place: usize) -> Length {
 pub fn way_up(buffer: &[u8], used: usize, number: usize) -> Way {
     // SAFETY: the slice lends `length` bytes to read for the call; `used` and `number` may be any numbers; no pointer is kept.
     unsafe { zv_way_up(buffer.as_ptr(), buffer.len(), used, number) }
+}
+
+pub fn judge_sheet_lines(buffer: &[u8], used: usize) -> Counts {
+    // SAFETY: the slice lends `length` bytes to read for the call; `used` may be any number; no pointer is kept.
+    unsafe { zv_judge_sheet_lines(buffer.as_ptr(), buffer.len(), used) }
+}
+
+pub fn judge_index_lines(buffer: &[u8], used: usize) -> Counts {
+    // SAFETY: the slice lends `length` bytes to read for the call; `used` may be any number; no pointer is kept.
+    unsafe { zv_judge_index_lines(buffer.as_ptr(), buffer.len(), used) }
+}
+
+pub fn to_lines(buffer: &[u8], used: usize, target: &mut [u8]) -> Length {
+    // SAFETY: both slices are lent for the call, the target alone to be written; the borrow rules keep them apart.
+    unsafe { zv_to_lines(buffer.as_ptr(), buffer.len(), used, target.as_mut_ptr(), target.len()) }
+}
+
+pub fn from_lines(buffer: &[u8], used: usize, target: &mut [u8]) -> Length {
+    // SAFETY: both slices are lent for the call, the target alone to be written; the borrow rules keep them apart.
+    unsafe { zv_from_lines(buffer.as_ptr(), buffer.len(), used, target.as_mut_ptr(), target.len()) }
 }
 
 pub fn report(input: &[u8], out: &mut [u8]) -> Length {

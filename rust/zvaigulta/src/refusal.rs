@@ -2,7 +2,7 @@
 
 use std::fmt;
 
-/// Why a call refused: document 01's seventeen numbers.
+/// Why a call refused: document 01's seventeen numbers, and 18 of order 1 of document 02.
 ///
 /// ```
 /// use zvaigulta::Reason;
@@ -16,7 +16,7 @@ use std::fmt;
 #[derive(Clone, Copy, Debug, PartialEq, Eq, Hash)]
 #[non_exhaustive]
 pub enum Reason {
-    /// 1: the used length is 0, above the buffer, not a multiple of 84, or above 200,000 records.
+    /// 1: the used length is 0, above the buffer, not a multiple of 84 (of a file with line ends: 86), or above 200,000 records.
     Length,
     /// 2: record 1 does not start with the asked type.
     FileType,
@@ -50,12 +50,14 @@ pub enum Reason {
     Number,
     /// 17: the record number is outside the file, or in the sheet part.
     RecordNumber,
-    /// A number above 17, from a later edition of the library.
+    /// 18: a record of a file with line ends does not end in carriage return and line feed.
+    LineEnd,
+    /// A number above 18, from a later edition of the library.
     Other(u64),
 }
 
 /// The reasons in the order of their numbers, from 1.
-const REASONS: [Reason; 17] = [
+const REASONS: [Reason; 18] = [
     Reason::Length,
     Reason::FileType,
     Reason::MissingRecord,
@@ -73,23 +75,24 @@ const REASONS: [Reason; 17] = [
     Reason::Room,
     Reason::Number,
     Reason::RecordNumber,
+    Reason::LineEnd,
 ];
 
 impl Reason {
-    /// The reason of a number; [`Reason::Other`] for one that is not among 1 to 17.
+    /// The reason of a number; [`Reason::Other`] for one that is not among 1 to 18.
     pub fn from_number(number: u64) -> Reason {
         let place = usize::try_from(number).ok().and_then(|n| n.checked_sub(1));
         place.and_then(|n| REASONS.get(n)).copied().unwrap_or(Reason::Other(number))
     }
 
-    /// Document 01's number.
+    /// Its number on paper.
     pub fn number(self) -> u64 {
         self.number_and_words().0
     }
 
     fn number_and_words(self) -> (u64, &'static str) {
         match self {
-            Reason::Length => (1, "the length is 0, above the buffer, not a multiple of 84 bytes, or above 200,000 records"),
+            Reason::Length => (1, "the length is 0, above the buffer, no multiple of 84 (lines: 86) or above 200,000 records"),
             Reason::FileType => (2, "record 1 does not start with the type that was asked for"),
             Reason::MissingRecord => (3, "a record that is needed is missing"),
             Reason::RecordType => (4, "the record is not H, E1 to E8, G or T, where one of these is due"),
@@ -106,6 +109,7 @@ impl Reason {
             Reason::Room => (15, "the buffer is too short for the result"),
             Reason::Number => (16, "the number does not fit, the width or unit is not allowed, or the corner cannot be split"),
             Reason::RecordNumber => (17, "the record number is outside the file or in the sheet part"),
+            Reason::LineEnd => (18, "a record does not end in carriage return and line feed"),
             Reason::Other(number) => (number, "this edition of the wrapper does not know the number"),
         }
     }
@@ -140,7 +144,7 @@ pub struct Refusal {
 }
 
 impl Refusal {
-    /// Document 01's number of the reason.
+    /// The reason's number on paper.
     pub fn number(&self) -> u64 {
         self.reason.number()
     }
@@ -167,7 +171,7 @@ mod tests {
             assert_eq!(reason.number(), number);
             assert_eq!(Reason::from_number(number), *reason);
         }
-        for number in [0, 18, 255, 256, u64::MAX] {
+        for number in [0, 19, 255, 256, u64::MAX] {
             assert_eq!(Reason::from_number(number), Reason::Other(number));
         }
     }

@@ -31,6 +31,11 @@ pub fn block(bytes: &[u8]) -> Option<String> {
     })
 }
 
+/// Whether bytes are a sound block.
+pub fn is_block(bytes: &[u8]) -> bool {
+    Sort::of(bytes).is_some_and(|sort| sort != Sort::Header) && bytes.len().is_multiple_of(RECORD_BYTES) && judged(bytes).is_ok()
+}
+
 impl Item {
     /// In words: `a line E2 with 2 data records, level 2`.
     pub fn words(&self) -> String {

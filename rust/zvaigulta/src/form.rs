@@ -1,0 +1,142 @@
+//! The two forms of a file: records end to end, or with a line end behind each.
+
+use crate::{explain, from_lines, to_lines, FileKind, Refusal, LINE_RECORD_BYTES, RECORD_BYTES};
+use std::borrow::Cow;
+use std::fmt;
+
+/// What stands behind each record of a file with line ends: carriage return and line feed.
+pub const LINE_END: &[u8; 2] = b"\r\n";
+
+/// How the records of a file stand in it.
+///
+/// ```
+/// use zvaigulta::{FileKind, Form, EXAMPLE};
+///
+/// assert_eq!(Form::of(EXAMPLE), Form::Plain);
+/// let file = Form::Lines.file(EXAMPLE)?;
+/// assert_eq!((Form::of(&file), file.len()), (Form::Lines, 9 * 86));
+/// assert_eq!(FileKind::of(&file).judge_in(Form::of(&file), &file, file.len())?.items, 1);
+/// // Calls that know no line ends take the plain twin.
+/// assert_eq!(Form::Lines.plain(&file)?, EXAMPLE.as_slice());
+/// # Ok::<(), zvaigulta::Refusal>(())
+/// ```
+#[derive(Clone, Copy, Debug, PartialEq, Eq, Hash)]
+pub enum Form {
+    /// Records of 84 bytes, end to end.
+    Plain,
+    /// Records of 84 bytes with carriage return and line feed behind each, 86 bytes in all.
+    Lines,
+}
+
+impl Form {
+    /// The form in which bytes, a file or a block, are to be read: with line ends where at least as many of their records end so as do not,
+    /// counted anew behind a line of another length; else plain. What is accepted as a plain file, or is a sound plain block, is always plain.
+    ///
+    /// So a file with line ends is known for one while some of them are broken or bytes of it are lost, and judging then says where.
+    ///
+    /// ```
+    /// use zvaigulta::{judge_sheet_lines, Form, EXAMPLE};
+    ///
+    /// let mut file = Form::Lines.file(EXAMPLE)?.into_owned();
+    /// file[85] = b' ';
+    /// assert_eq!(Form::of(&file), Form::Lines);
+    /// assert_eq!(judge_sheet_lines(&file, file.len()).unwrap_err().to_string(),
+    ///     "refused 18 at record 1: a record does not end in carriage return and line feed");
+    /// # Ok::<(), zvaigulta::Refusal>(())
+    /// ```
+    pub fn of(bytes: &[u8]) -> Form {
+        let plain = || FileKind::of(bytes).judge(bytes, bytes.len()).is_ok() || explain::is_block(bytes);
+        if has_line_ends(bytes) && !plain() {
+            Form::Lines
+        } else {
+            Form::Plain
+        }
+    }
+
+    /// Bytes from the start of a record to that of the next: 84, or 86.
+    pub fn record_bytes(self) -> usize {
+        match self {
+            Form::Plain => RECORD_BYTES,
+            Form::Lines => LINE_RECORD_BYTES,
+        }
+    }
+
+    /// The plain twin of a file in this form, by [`from_lines`].
+    ///
+    /// # Errors
+    /// None for a plain file, which is its own twin; else 1 and 18.
+    pub fn plain(self, file: &[u8]) -> Result<Cow<'_, [u8]>, Refusal> {
+        match self {
+            Form::Plain => Ok(Cow::Borrowed(file)),
+            Form::Lines => {
+                let mut plain = vec![b' '; file.len() / LINE_RECORD_BYTES * RECORD_BYTES];
+                from_lines(file, file.len(), &mut plain)?;
+                Ok(Cow::Owned(plain))
+            }
+        }
+    }
+
+    /// The file in this form whose plain twin is given, by [`to_lines`].
+    ///
+    /// # Errors
+    /// None where it stays plain; else 1.
+    pub fn file(self, plain: &[u8]) -> Result<Cow<'_, [u8]>, Refusal> {
+        match self {
+            Form::Plain => Ok(Cow::Borrowed(plain)),
+            Form::Lines => {
+                let mut file = vec![b' '; plain.len() / RECORD_BYTES * LINE_RECORD_BYTES];
+                to_lines(plain, plain.len(), &mut file)?;
+                Ok(Cow::Owned(file))
+            }
+        }
+    }
+
+    /// The records of a file in this form without what stands behind each, line end or not: what of a refused file can be shown.
+    pub fn records(self, file: &[u8]) -> Cow<'_, [u8]> {
+        match self {
+            Form::Plain => Cow::Borrowed(file),
+            Form::Lines => {
+                let mut records = Vec::with_capacity(file.len());
+                file.chunks(LINE_RECORD_BYTES).for_each(|line| records.extend(line.iter().take(RECORD_BYTES)));
+                Cow::Owned(records)
+            }
+        }
+    }
+}
+
+/// `plain` or `line ends`.
+impl fmt::Display for Form {
+    fn fmt(&self, f: &mut fmt::Formatter<'_>) -> fmt::Result {
+        f.write_str(match self {
+            Form::Plain => "plain",
+            Form::Lines => "line ends",
+        })
+    }
+}
+
+/// Whether at least as many records end in a line end as do not.
+fn has_line_ends(bytes: &[u8]) -> bool {
+    let (mut ended, mut other) = (0usize, 0usize);
+    let mut rest = bytes;
+    while !rest.is_empty() {
+        let line = line_length(rest);
+        if line == Some(LINE_RECORD_BYTES) {
+            ended += 1;
+        } else {
+            other += 1;
+        }
+        rest = rest.get(line.unwrap_or(LINE_RECORD_BYTES)..).unwrap_or(&[]);
+    }
+    ended > 0 && ended >= other
+}
+
+/// The bytes up to a line end, and that: behind a record where it stands there, else behind the first before that place or at most one byte
+/// behind it. None where there is none.
+fn line_length(rest: &[u8]) -> Option<usize> {
+    if rest.get(RECORD_BYTES..LINE_RECORD_BYTES) == Some(LINE_END) {
+        return Some(LINE_RECORD_BYTES);
+    }
+    let near = rest.get(..LINE_RECORD_BYTES + 1).unwrap_or(rest);
+    // `contains` looks at many bytes at a time, and most plain files have none.
+    near.contains(&b'\r').then(|| near.windows(2).position(|two| two == LINE_END))?.map(|place| place + LINE_END.len())
+}
