@@ -2,6 +2,18 @@
 
 use crate::failure::Failure;
 use std::ffi::{OsStr, OsString};
+use zvaigulta::Form;
+
+/// Which options a subcommand takes, beside `--help`.
+#[derive(Clone, Copy, Debug, Default)]
+pub struct Taken {
+    /// `-o OTHER`, `--force` and `--no-lock`.
+    pub output: bool,
+    /// `--lines` and `--plain`.
+    pub form: bool,
+    /// `--to lines|plain` and `--mend`.
+    pub convert: bool,
+}
 
 /// The words that are no options, and the options.
 #[derive(Debug, Default)]
@@ -14,28 +26,32 @@ pub struct Arguments {
     pub force: bool,
     /// `--no-lock`: a file is replaced without its lock.
     pub no_lock: bool,
+    /// `--lines` or `--plain`: the form in which a file is read, whatever it seems to be.
+    pub form: Option<Form>,
+    /// `--to lines|plain`.
+    pub to: Option<Form>,
+    /// `--mend`: line ends of another kind are put right.
+    pub mend: bool,
     /// `--help` or `-h`.
     pub help: bool,
 }
 
 impl Arguments {
     /// Takes the words apart. Behind `--` no word is an option; `-` alone is standard input.
-    pub fn parse(words: &[OsString], with_output: bool) -> Result<Arguments, Failure> {
+    pub fn parse(words: &[OsString], taken: Taken) -> Result<Arguments, Failure> {
         let mut found = Arguments::default();
         let mut rest = words.iter();
         while let Some(word) = rest.next() {
             match word.to_string_lossy().as_ref() {
                 "--" => found.words.extend(rest.by_ref().cloned()),
                 "--help" | "-h" => found.help = true,
-                "--force" if with_output => found.force = true,
-                "--no-lock" if with_output => found.no_lock = true,
-                "-o" | "--output" if with_output && found.output.is_some() => {
-                    return Err(Failure::Usage("-o stands there twice; one place is enough".to_string()));
-                }
-                "-o" | "--output" if with_output => {
-                    let other = rest.next().ok_or_else(|| Failure::Usage("-o needs a file name behind it".to_string()))?;
-                    found.output = Some(other.clone());
-                }
+                "--force" if taken.output => found.force = true,
+                "--no-lock" if taken.output => found.no_lock = true,
+                "--mend" if taken.convert => found.mend = true,
+                "-o" | "--output" if taken.output => found.set_output(rest.next())?,
+                "--lines" if taken.form => found.set_form(Form::Lines)?,
+                "--plain" if taken.form => found.set_form(Form::Plain)?,
+                "--to" if taken.convert => found.set_to(rest.next())?,
                 option if option.starts_with('-') && option.len() > 1 => {
                     return Err(Failure::Usage(format!(
                         "there is no option '{option}' here (put -- before a file of that name)"
@@ -45,6 +61,39 @@ impl Arguments {
             }
         }
         found.checked()
+    }
+
+    fn set_output(&mut self, other: Option<&OsString>) -> Result<(), Failure> {
+        if self.output.is_some() {
+            return Err(Failure::Usage("-o stands there twice; one place is enough".to_string()));
+        }
+        let other = other.ok_or_else(|| Failure::Usage("-o needs a file name behind it".to_string()))?;
+        self.output = Some(other.clone());
+        Ok(())
+    }
+
+    fn set_form(&mut self, form: Form) -> Result<(), Failure> {
+        match self.form.replace(form).filter(|before| *before != form) {
+            Some(_) => Err(Failure::Usage("--lines and --plain do not go together; give one of them".to_string())),
+            None => Ok(()),
+        }
+    }
+
+    fn set_to(&mut self, word: Option<&OsString>) -> Result<(), Failure> {
+        let form = match word.map(|word| word.to_string_lossy()).as_deref() {
+            Some("lines") => Form::Lines,
+            Some("plain") => Form::Plain,
+            _ => return Err(Failure::Usage("--to needs lines or plain behind it".to_string())),
+        };
+        match self.to.replace(form) {
+            Some(_) => Err(Failure::Usage("--to stands there twice; one form is enough".to_string())),
+            None => Ok(()),
+        }
+    }
+
+    /// The form in which a file of these bytes is read: as asked for, else as recognised.
+    pub fn form_of(&self, bytes: &[u8]) -> Form {
+        self.form.unwrap_or_else(|| Form::of(bytes))
     }
 
     fn checked(self) -> Result<Arguments, Failure> {

@@ -1,13 +1,15 @@
 //! `insert FILE PLACE BLOCKFILE` and `remove FILE PLACE`.
 
 use crate::arguments::{record_number, Arguments};
+use crate::explain::{self, Asked};
 use crate::failure::{Done, Failure, FINE};
 use crate::replace::Job;
-use crate::{explain, files, system};
+use crate::{files, system};
+use std::borrow::Cow;
 use std::ffi::OsStr;
 use std::io::Write;
 use zvaigulta::text::number_of;
-use zvaigulta::{Counts, Sheet, RECORD_BYTES};
+use zvaigulta::{Counts, Form, Reason, Sheet, RECORD_BYTES};
 
 /// A place for an insertion: a record number, or none for `end`.
 fn place(word: &OsStr) -> Result<Option<usize>, Failure> {
@@ -18,7 +20,7 @@ fn place(word: &OsStr) -> Result<Option<usize>, Failure> {
 }
 
 /// Where the result goes: `-o OTHER`, else the file itself.
-fn target<'a>(arguments: &'a Arguments, path: &'a OsStr) -> Result<&'a OsStr, Failure> {
+pub fn target<'a>(arguments: &'a Arguments, path: &'a OsStr) -> Result<&'a OsStr, Failure> {
     match (&arguments.output, path == "-") {
         (Some(other), _) => Ok(other),
         (None, false) => Ok(path),
@@ -36,31 +38,42 @@ fn copied(read: &[u8], more: usize) -> Sheet {
 /// Inserts the block before the record at the place. The block is read first, so that nobody waits for the sheet while the
 /// block comes through a pipe.
 pub fn insert(arguments: &Arguments, out: &mut impl Write) -> Done {
-    let [path, at, block_path] = arguments.exactly("insert FILE PLACE BLOCKFILE [-o OTHER [--force]] [--no-lock]")?;
+    let usage = "insert FILE PLACE BLOCKFILE [-o OTHER [--force]] [--no-lock] [--lines | --plain]";
+    let [path, at, block_path] = arguments.exactly(usage)?;
     let (to, at) = (target(arguments, path)?, place(at)?);
     if path == "-" && block_path == "-" {
         return Err(Failure::Usage("only one of FILE and BLOCKFILE can be standard input".to_string()));
     }
-    let block = files::read(block_path)?;
+    let read = files::read(block_path)?;
+    let form = Form::of(&read);
+    // A block with a wrong line end goes in as it is: no item, and so refused after all that the sheet itself is refused for.
+    let block = form.plain(&read).unwrap_or(Cow::Borrowed(&read));
     let job = Job::open(arguments, path, to)?;
-    let used = job.bytes.len();
-    let place = at.unwrap_or(used / RECORD_BYTES + 1);
-    let mut sheet = copied(&job.bytes, block.len());
-    let counts = sheet.insert(place, &block).map_err(|r| explain::insertion(path, &job.bytes, place, &block, r))?;
+    let asked = Asked { path, form: arguments.form_of(&job.bytes), bytes: &job.bytes };
+    let plain = asked.plain()?;
+    let place = at.unwrap_or(plain.len() / RECORD_BYTES + 1);
+    let mut sheet = copied(&plain, block.len());
+    let counts = sheet.insert(place, &block).map_err(|r| match form.plain(&read) {
+        Err(wrong) if r.reason == Reason::Block => explain::block(&asked, &read, wrong, r),
+        _ => explain::insertion(&asked, &plain, place, &block, r),
+    })?;
+    let result = Edited { form: asked.form, sheet, counts };
     let done = format!("inserted {} at record {place}", records(block.len()));
-    finish(job, to, &sheet, counts, &done, out)
+    finish(job, to, &result, &done, out)
 }
 
 /// Removes the item at the place.
 pub fn remove(arguments: &Arguments, out: &mut impl Write) -> Done {
-    let [path, at] = arguments.exactly("remove FILE PLACE [-o OTHER [--force]] [--no-lock]")?;
+    let [path, at] = arguments.exactly("remove FILE PLACE [-o OTHER [--force]] [--no-lock] [--lines | --plain]")?;
     let (to, place) = (target(arguments, path)?, record_number(at, "PLACE")?);
     let job = Job::open(arguments, path, to)?;
-    let mut sheet = copied(&job.bytes, 0);
-    let counts = sheet.remove(place).map_err(|r| explain::removal(path, &job.bytes, place, r))?;
-    let removed = job.bytes.len() - sheet.as_bytes().len();
-    let done = format!("removed {} at record {place}", records(removed));
-    finish(job, to, &sheet, counts, &done, out)
+    let asked = Asked { path, form: arguments.form_of(&job.bytes), bytes: &job.bytes };
+    let plain = asked.plain()?;
+    let mut sheet = copied(&plain, 0);
+    let counts = sheet.remove(place).map_err(|r| explain::removal(&asked, &plain, place, r))?;
+    let removed = plain.len() - sheet.as_bytes().len();
+    let result = Edited { form: asked.form, sheet, counts };
+    finish(job, to, &result, &format!("removed {} at record {place}", records(removed)), out)
 }
 
 /// How many records so many bytes are, in words.
@@ -68,15 +81,26 @@ fn records(bytes: usize) -> String {
     number_of((bytes / RECORD_BYTES) as u64, "record")
 }
 
+/// An edited sheet, what it holds, and the form in which it is written.
+struct Edited {
+    form: Form,
+    sheet: Sheet,
+    counts: Counts,
+}
+
 /// Puts the sheet where it goes and says what was done.
-fn finish(job: Job, to: &OsStr, sheet: &Sheet, counts: Counts, done: &str, out: &mut impl Write) -> Done {
+fn finish(job: Job, to: &OsStr, result: &Edited, done: &str, out: &mut impl Write) -> Done {
     let silent = job.is_to_output();
-    job.deliver(sheet.as_bytes(), out)?;
+    let file = result.form.file(result.sheet.as_bytes()).map_err(|refusal| Failure::Refused(refusal.to_string()))?;
+    let path = job.path();
+    job.deliver(&file, out)?;
     if silent {
+        files::say_form(path, result.form);
         return Ok(FINE);
     }
-    let name = files::name(to);
-    let said = writeln!(out, "{name}: {done}, now {} records {} items", counts.records, counts.items).and_then(|()| out.flush());
+    let (name, counts) = (files::name(to), result.counts);
+    let line = files::in_form(result.form, format!("{done}, now {} records {} items", counts.records, counts.items));
+    let said = writeln!(out, "{name}: {line}").and_then(|()| out.flush());
     said.map_err(|e| Failure::File(format!("{name}: {done}; only this could not be printed: {e}")))?;
     Ok(FINE)
 }

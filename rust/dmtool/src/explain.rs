@@ -4,28 +4,29 @@
 use crate::arguments::Arguments;
 use crate::failure::{output_failed, Done, Failure, FINE, REFUSED};
 use crate::files;
+use std::borrow::Cow;
 use std::ffi::OsStr;
 use std::io::{self, Write};
-use zvaigulta::explain::{explain, line, Explanation, Fault};
+use zvaigulta::explain::{explain_in, line_in, Explanation, Fault};
 use zvaigulta::layout::Column;
 use zvaigulta::outline::{Outline, Record};
 use zvaigulta::text::quoted;
-use zvaigulta::{FileKind, Refusal};
+use zvaigulta::{FileKind, Form, Reason, Refusal, LINE_RECORD_BYTES, RECORD_BYTES};
 
 /// Prints the judgement of a file and, where it is refused, what is wrong.
 pub fn run(arguments: &Arguments, out: &mut impl Write) -> Done {
     let [path] = arguments.exactly("explain FILE")?;
     let bytes = files::read(path)?;
-    let name = files::name(path);
-    match files::judge(&bytes) {
+    let (name, form) = (files::name(path), arguments.form_of(&bytes));
+    match files::judge(form, &bytes) {
         Ok(counts) => {
-            writeln!(out, "{name}: {counts}").map_err(output_failed)?;
+            writeln!(out, "{name}: {}", files::in_form(form, counts)).map_err(output_failed)?;
             Ok(FINE)
         }
         Err(refusal) => {
-            let line = line(&bytes, refusal);
-            writeln!(out, "{name}: {line}").map_err(output_failed)?;
-            print(&bytes, refusal, &line, out).map_err(output_failed)?;
+            let line = line_in(form, &bytes, refusal);
+            writeln!(out, "{name}: {}", files::in_form(form, &line)).map_err(output_failed)?;
+            print(form, &bytes, refusal, &line, out).map_err(output_failed)?;
             Ok(REFUSED)
         }
     }
@@ -33,11 +34,11 @@ pub fn run(arguments: &Arguments, out: &mut impl Write) -> Done {
 
 /// What there is to say first that `line` has not said, then the refused record whole, then of each other record with a fault its
 /// marked columns.
-fn print(bytes: &[u8], refusal: Refusal, line: &str, out: &mut impl Write) -> io::Result<()> {
-    let Explanation { faults, notes, .. } = explain(bytes, refusal);
+fn print(form: Form, bytes: &[u8], refusal: Refusal, line: &str, out: &mut impl Write) -> io::Result<()> {
+    let Explanation { faults, notes, .. } = explain_in(form, bytes, refusal);
     notes.iter().filter(|note| !line.contains(note.as_str())).try_for_each(|note| writeln!(out, "{note}"))?;
-    let mut others = Vec::new();
-    for record in Outline::of(bytes) {
+    let (records, mut others) = (form.records(bytes), Vec::new());
+    for record in Outline::of(&records) {
         let whole = Some(record.number) == refusal.record;
         let own: Vec<&Fault> = faults.iter().filter(|fault| fault.record == record.number).collect();
         if whole {
@@ -52,9 +53,19 @@ fn print(bytes: &[u8], refusal: Refusal, line: &str, out: &mut impl Write) -> io
 /// A record's columns, a line each, or only those at fault, which are marked and say why.
 fn print_record(named: &Record, faults: &[&Fault], whole: bool, out: &mut impl Write) -> io::Result<()> {
     writeln!(out, "record {}: {}", named.number, named.title())?;
+    let widest = print_columns(named, faults, whole, out)?;
+    let bytes = format!("bytes {}-{LINE_RECORD_BYTES}", RECORD_BYTES + 1);
+    let mut ends = faults.iter().filter(|fault| fault.column == "line end");
+    ends.try_for_each(|end| writeln!(out, "> {bytes:<11}  {:<widest$}  {}", end.column, end.words))
+}
+
+/// The same without what stands behind the record. Answers the length of the longest name.
+fn print_columns(named: &Record, faults: &[&Fault], whole: bool, out: &mut impl Write) -> io::Result<usize> {
     let Some(layout) = named.layout else {
-        let fault = faults.first().map_or("", |fault| fault.words.as_str());
-        return writeln!(out, "> bytes 1-{}  {}  {fault}", named.bytes.len(), quoted(named.bytes));
+        let fault = faults.iter().find(|fault| fault.column == "type");
+        let (mark, words) = fault.map_or((" ", ""), |fault| (">", fault.words.as_str()));
+        writeln!(out, "{mark} bytes 1-{}  {}  {words}", named.bytes.len(), quoted(named.bytes))?;
+        return Ok(0);
     };
     let fault = |column: &Column| faults.iter().find(|fault| fault.column == column.name);
     let shown = layout.columns.iter().enumerate().filter(|(_, column)| !column.name.is_empty());
@@ -72,35 +83,57 @@ fn print_record(named: &Record, faults: &[&Fault], whole: bool, out: &mut impl W
         };
         writeln!(out, "{mark} {bytes:<11}  {:<widest$}  {}{words}", column.name, quoted(column.bytes(named.bytes)))?;
     }
-    Ok(())
+    Ok(widest)
 }
 
-/// A refused insertion as the failure of its subcommand.
-pub fn insertion(path: &OsStr, sheet: &[u8], place: usize, block: &[u8], refusal: Refusal) -> Failure {
-    refused(path, sheet, refusal, zvaigulta::explain::insertion(sheet, place, block, refusal))
+/// A file that was read, and in which form.
+pub struct Asked<'a> {
+    pub path: &'a OsStr,
+    pub form: Form,
+    pub bytes: &'a [u8],
+}
+
+impl<'a> Asked<'a> {
+    /// Its records without their line ends, where they all have one.
+    pub fn plain(&self) -> Result<Cow<'a, [u8]>, Failure> {
+        self.form.plain(self.bytes).map_err(|refusal| file(self, refusal))
+    }
+}
+
+/// A refused insertion as the failure of its subcommand; the sheet and the block without line ends.
+pub fn insertion(asked: &Asked, sheet: &[u8], place: usize, block: &[u8], refusal: Refusal) -> Failure {
+    refused(asked, refusal, zvaigulta::explain::insertion(sheet, place, block, refusal))
+}
+
+/// The same where the block has line ends, and they are wrong.
+pub fn block(asked: &Asked, block: &[u8], wrong: Refusal, refusal: Refusal) -> Failure {
+    let notes = explain_in(Form::Lines, block, wrong).notes;
+    refused(asked, refusal, notes.iter().map(|note| format!("in the block: {note}")).collect())
 }
 
 /// A refused removal as the failure of its subcommand.
-pub fn removal(path: &OsStr, sheet: &[u8], place: usize, refusal: Refusal) -> Failure {
-    refused(path, sheet, refusal, zvaigulta::explain::removal(sheet, place, refusal))
+pub fn removal(asked: &Asked, sheet: &[u8], place: usize, refusal: Refusal) -> Failure {
+    refused(asked, refusal, zvaigulta::explain::removal(sheet, place, refusal))
 }
 
 /// A refused way up as the failure of its subcommand.
-pub fn way_up(path: &OsStr, sheet: &[u8], record: usize, refusal: Refusal) -> Failure {
-    refused(path, sheet, refusal, zvaigulta::explain::way_up(sheet, record, refusal))
+pub fn way_up(asked: &Asked, sheet: &[u8], record: usize, refusal: Refusal) -> Failure {
+    refused(asked, refusal, zvaigulta::explain::way_up(sheet, record, refusal))
 }
 
 /// A refused file as the failure of a subcommand.
-pub fn file(path: &OsStr, file: &[u8], refusal: Refusal) -> Failure {
-    refused(path, file, refusal, Vec::new())
+pub fn file(asked: &Asked, refusal: Refusal) -> Failure {
+    refused(asked, refusal, Vec::new())
 }
 
 /// The refusal, then what to do, a line each. An index that should be a sheet is told to be one, and there is nothing to explain.
-fn refused(path: &OsStr, file: &[u8], refusal: Refusal, mut words: Vec<String>) -> Failure {
-    if refusal.number() <= 10 && (words.is_empty() || FileKind::of(file) == FileKind::Sheet) {
-        let name = if path == "-" { "-".to_string() } else { files::name(path) };
+fn refused(asked: &Asked, refusal: Refusal, mut words: Vec<String>) -> Failure {
+    let of_file = refusal.number() <= 10 || refusal.reason == Reason::LineEnd;
+    if of_file && (words.is_empty() || FileKind::of(asked.bytes) == FileKind::Sheet) {
+        let name = if asked.path == "-" { "-".to_string() } else { files::name(asked.path) };
         words.push(format!("'dmtool explain {name}' says what is wrong"));
     }
-    words.insert(0, format!("{}: {}", files::name(path), line(file, refusal)));
+    let line = files::in_form(asked.form, line_in(asked.form, asked.bytes, refusal));
+    words.insert(0, format!("{}: {line}", files::name(asked.path)));
     Failure::Refused(words.join("\n"))
 }

@@ -1,16 +1,17 @@
 //! Files as they are named, read and judged.
 
 use crate::closed::{self, Standard};
-use crate::failure::Failure;
+use crate::failure::{complain, Failure};
 use crate::system;
 use std::ffi::OsStr;
+use std::fmt::Display;
 use std::fs::{self, File};
 use std::io::{self, ErrorKind, Read};
 use zvaigulta::text::shown;
-use zvaigulta::{Counts, FileKind, Refusal, MOST_RECORDS, RECORD_BYTES};
+use zvaigulta::{Counts, FileKind, Form, Refusal, LINE_RECORD_BYTES, MOST_RECORDS};
 
-/// One record more than a file may have. A longer file answers as this much of it does: it is refused by its length.
-const LONGEST: u64 = ((MOST_RECORDS + 1) * RECORD_BYTES) as u64;
+/// One record more than a file may have, with its line end. A longer file answers as this much of it does: it is refused by its length.
+const LONGEST: u64 = ((MOST_RECORDS + 1) * LINE_RECORD_BYTES) as u64;
 
 /// Reads as much as a file may have into a buffer.
 fn take_all(from: impl Read, into: &mut Vec<u8>) -> io::Result<usize> {
@@ -91,6 +92,21 @@ pub fn name(path: &OsStr) -> String {
 }
 
 /// Judges a whole file: as an index if it starts `I `, else as a sheet.
-pub fn judge(bytes: &[u8]) -> Result<Counts, Refusal> {
-    FileKind::of(bytes).judge(bytes, bytes.len())
+pub fn judge(form: Form, bytes: &[u8]) -> Result<Counts, Refusal> {
+    FileKind::of(bytes).judge_in(form, bytes, bytes.len())
+}
+
+/// A line about a file, which says so where the file is read with line ends.
+pub fn in_form(form: Form, line: impl Display) -> String {
+    match form {
+        Form::Plain => line.to_string(),
+        Form::Lines => format!("{line} ({form})"),
+    }
+}
+
+/// Says that a file was read with line ends, and that its result has them, where the answer has no room for it.
+pub fn say_form(path: &OsStr, form: Form) {
+    if form == Form::Lines {
+        complain(&format!("{}: it has line ends, and so has the result", name(path)));
+    }
 }

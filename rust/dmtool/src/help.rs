@@ -15,47 +15,79 @@ Usage: dmtool SUBCOMMAND ...
   remove FILE PLACE              takes out the item at a record
   up FILE RECORD                 the headers above a record
   normal FILE                    the file with every number in written form
+  convert FILE --to lines|plain  the file with line ends, or without
   batch                          the line protocol of test benches
 
   dmtool SUBCOMMAND --help       more about one of them
   dmtool --version               the edition
 
-A FILE - is standard input. A file that starts \"I \" is taken as an index, any other as a sheet. Records number from 1.
+A FILE - is standard input. A file that starts \"I \" is taken as an index, any other as a sheet. Records number from 1. Files whose
+records end in carriage return and line feed, 86 bytes in all, are recognised, and answers say '(line ends)'; --lines or --plain
+behind a subcommand reads a file in that form, whatever it seems to be.
 Exit status: 0 fine; 1 refused; 2 wrong words, or a file that cannot be read or written.
 ";
 
-const JUDGE: &str = "\
-Usage: dmtool judge FILE...
+/// What every subcommand but batch says of the form of a file.
+macro_rules! form {
+    () => {
+        "
+A file with line ends (carriage return and line feed behind each record) is known by them, also where some of them are broken.
+
+  --lines      reads FILE with line ends, whatever it seems to be
+  --plain      reads FILE without
+
+"
+    };
+}
+
+const JUDGE: &str = concat!(
+    "\
+Usage: dmtool judge FILE... [--lines | --plain]
 
 Judges each file and prints one line for it:
 
   sheet.dm: accepted 9 records 1 items
   other.dm: refused 10 at record 6: a count differs from what the file holds
+  field.dm: accepted 9 records 1 items (line ends)
 
 A file that cannot be read is named on standard error, and the list goes on. Where judging a list takes longer than a second, standard
 error is a terminal and the answers go elsewhere, a line there says how far it has come.
+",
+    form!(),
+    "\
 Exit status: 0 only if every file is accepted; 2 if one could not be read; else 1.
-";
+"
+);
 
-const EXPLAIN: &str = "\
-Usage: dmtool explain FILE
+const EXPLAIN: &str = concat!(
+    "\
+Usage: dmtool explain FILE [--lines | --plain]
 
 Judges the file. Where it is refused, says what to look at first, then prints the refused record with its columns named, those at
 fault marked by > with the reason, and of other records that have to do with it the marked columns. The refusal and its record are
 the proved library's; the rest is an explanation of it.
+",
+    form!(),
+    "\
 Exit status: 0 accepted; 1 refused; 2 the file cannot be read.
-";
+"
+);
 
-const SHOW: &str = "\
-Usage: dmtool show FILE [FROM [TO]]
+const SHOW: &str = concat!(
+    "\
+Usage: dmtool show FILE [FROM [TO]] [--lines | --plain]
 
 Prints the judgement, then a line for each record from FROM (else 1) to TO (else the last): its number, what it is, its level, and its columns
 by name. Text stands in quotation marks without the spaces at its end; bytes that are not printable ASCII as \\x8f; a malformed integer in quotation
 marks behind a ?. Blank columns and empty texts are left out. Behind a refusal the names are the best guess.
+",
+    form!(),
+    "\
 Exit status: 0 shown, whatever the judgement; 2 wrong words, or the file cannot be read or has no record FROM.
-";
+"
+);
 
-/// What insert, remove and normal say of a file that is replaced.
+/// What insert, remove, normal and convert say of a file that is replaced.
 macro_rules! replacing {
     () => {
         "
@@ -67,6 +99,8 @@ that is marked read-only or that has several names (hard links) stays as it is.
                itself, a device or a pipe
   --force      lets -o replace an OTHER that exists
   --no-lock    replaces a file without its lock, for shares that have no locks; only where nobody else edits it
+  --lines      reads FILE with line ends (carriage return and line feed behind each record), whatever it seems to be
+  --plain      reads FILE without
 
 "
     };
@@ -74,11 +108,11 @@ that is marked read-only or that has several names (hard links) stays as it is.
 
 const INSERT: &str = concat!(
     "\
-Usage: dmtool insert FILE PLACE BLOCKFILE [-o OTHER [--force]] [--no-lock]
+Usage: dmtool insert FILE PLACE BLOCKFILE [-o OTHER [--force]] [--no-lock] [--lines | --plain]
 
 Puts the item in BLOCKFILE (an element, grid or net with its data records) into the sheet before the record PLACE; 'end' is one
 past the last record. The header above and the sheet's counts are brought up to date. The result replaces FILE, unless -o names
-another place.
+another place. A sheet with line ends keeps them; the block may have them or not.
 ",
     replacing!(),
     "\
@@ -88,10 +122,10 @@ Exit status: 0 done; 1 refused, and no file is changed; 2 wrong words, or a file
 
 const REMOVE: &str = concat!(
     "\
-Usage: dmtool remove FILE PLACE [-o OTHER [--force]] [--no-lock]
+Usage: dmtool remove FILE PLACE [-o OTHER [--force]] [--no-lock] [--lines | --plain]
 
 Takes the item that starts at the record PLACE, with its data records, out of the sheet. The header above and the sheet's counts
-are brought up to date. The result replaces FILE, unless -o names another place.
+are brought up to date. The result replaces FILE, unless -o names another place. A sheet with line ends keeps them.
 ",
     replacing!(),
     "\
@@ -99,24 +133,46 @@ Exit status: 0 done; 1 refused, and no file is changed; 2 wrong words, or a file
 "
 );
 
-const UP: &str = "\
-Usage: dmtool up FILE RECORD
+const UP: &str = concat!(
+    "\
+Usage: dmtool up FILE RECORD [--lines | --plain]
 
 Prints the header above a record of a sheet, how many headers the way up to its layer passes, and their record numbers. A data record answers as its
 item.
+",
+    form!(),
+    "\
 Exit status: 0 answered; 1 the sheet is refused, or the record is none of its layers'; 2 wrong words, or the file cannot be read.
-";
+"
+);
 
 const NORMAL: &str = concat!(
     "\
-Usage: dmtool normal FILE [-o OTHER [--force]] [--no-lock]
+Usage: dmtool normal FILE [-o OTHER [--force]] [--no-lock] [--lines | --plain]
 
 Writes the file with every judged integer in written form (shortest digits, spaces in front) to standard output, or to the place
-that -o names, which may be FILE itself. Nothing is written where the file is refused.
+that -o names, which may be FILE itself. Nothing is written where the file is refused. A file with line ends keeps them.
 ",
     replacing!(),
     "\
 Exit status: 0 done; 1 refused, and no file is changed; 2 wrong words, or a file cannot be read or written.
+"
+);
+
+const CONVERT: &str = concat!(
+    "\
+Usage: dmtool convert FILE --to lines|plain [--mend] [-o OTHER [--force]] [--no-lock] [--lines | --plain]
+
+Writes the records of a file or a block with carriage return and line feed behind each (--to lines), or end to end (--to plain).
+Nothing else is judged or changed: over and back gives the same bytes. The result replaces FILE, unless -o names another place.
+
+  --mend       takes line ends of another kind as well: line feed or carriage return alone, the two the wrong way round, two other
+               bytes in their place, none behind a record, an end-of-file mark behind the last; each record must have its 84 bytes
+",
+    replacing!(),
+    "\
+Exit status: 0 done, also where the file has that form already; 1 refused (1: the length; 18: a line end), and no file is changed;
+2 wrong words, or a file cannot be read or written.
 "
 );
 
@@ -153,6 +209,7 @@ pub fn of(name: &str) -> Option<&'static str> {
         ("remove", REMOVE),
         ("up", UP),
         ("normal", NORMAL),
+        ("convert", CONVERT),
         ("batch", BATCH),
     ];
     all.into_iter().find(|(known, _)| *known == name).map(|(_, text)| text)

@@ -19,7 +19,7 @@ pub fn run(arguments: &Arguments, out: &mut impl Write) -> Done {
     let mut worst = FINE;
     for (done, path) in arguments.words.iter().enumerate() {
         progress.step(done, all, Instant::now());
-        let status = one(path, &mut buffer, out).or_else(|failure| match failure {
+        let status = one(arguments, path, &mut buffer, out).or_else(|failure| match failure {
             Failure::File(text) => {
                 progress.end();
                 complain(&text);
@@ -35,12 +35,13 @@ pub fn run(arguments: &Arguments, out: &mut impl Write) -> Done {
 }
 
 /// Judges one file and prints its line.
-fn one(path: &OsStr, buffer: &mut Vec<u8>, out: &mut impl Write) -> Done {
+fn one(arguments: &Arguments, path: &OsStr, buffer: &mut Vec<u8>, out: &mut impl Write) -> Done {
     files::read_into(path, buffer)?;
-    let (line, status) = match files::judge(buffer) {
+    let form = arguments.form_of(buffer);
+    let (line, status) = match files::judge(form, buffer) {
         Ok(counts) => (counts.to_string(), FINE),
-        Err(refusal) => (explain::line(buffer, refusal), REFUSED),
+        Err(refusal) => (explain::line_in(form, buffer, refusal), REFUSED),
     };
-    writeln!(out, "{}: {line}", files::name(path)).map_err(output_failed)?;
+    writeln!(out, "{}: {}", files::name(path), files::in_form(form, line)).map_err(output_failed)?;
     Ok(status)
 }

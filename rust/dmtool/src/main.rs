@@ -6,6 +6,7 @@ mod arguments;
 mod batch;
 mod beside;
 mod closed;
+mod convert;
 mod edit;
 mod explain;
 mod failure;
@@ -23,7 +24,7 @@ mod system;
 mod up;
 mod words;
 
-use arguments::Arguments;
+use arguments::{Arguments, Taken};
 use closed::Standard;
 use failure::{complain, output_failed, Done, Failure};
 use std::ffi::OsString;
@@ -35,7 +36,12 @@ fn run(name: &str, words: &[OsString], out: &mut impl Write) -> Done {
     let Some(text) = help::of(name) else {
         return Err(Failure::Usage(format!("there is no subcommand '{name}'")));
     };
-    let arguments = Arguments::parse(words, ["insert", "remove", "normal"].contains(&name))?;
+    let taken = Taken {
+        output: ["insert", "remove", "normal", "convert"].contains(&name),
+        form: name != "batch",
+        convert: name == "convert",
+    };
+    let arguments = Arguments::parse(words, taken)?;
     if arguments.help {
         return help::print(text, out);
     }
@@ -47,6 +53,7 @@ fn run(name: &str, words: &[OsString], out: &mut impl Write) -> Done {
         "remove" => edit::remove(&arguments, out),
         "up" => up::run(&arguments, out),
         "normal" => normal::run(&arguments, out),
+        "convert" => convert::run(&arguments, out),
         _ => closed::refuse(Standard::Input).and_then(|()| batch::run(&arguments, &mut io::stdin().lock(), out)),
     }
 }

@@ -49,9 +49,19 @@ impl<'a> Job<'a> {
         Ok(Job { bytes, path, to, target, no_lock })
     }
 
+    /// The path of the file that was read.
+    pub fn path(&self) -> &'a OsStr {
+        self.path
+    }
+
     /// Whether the result goes to standard output, where nothing else may stand.
     pub fn is_to_output(&self) -> bool {
         matches!(self.target, Target::Output)
+    }
+
+    /// Whether the result replaces the file that was read.
+    pub fn is_to_same(&self) -> bool {
+        matches!(self.target, Target::Same(_))
     }
 
     /// Puts the result where it goes; into a file whole or not at all.

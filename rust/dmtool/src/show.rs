@@ -21,13 +21,16 @@ pub fn run(arguments: &Arguments, out: &mut impl Write) -> Done {
         return Err(Failure::Usage("FROM must be 1 or more, and TO no less than FROM".to_string()));
     }
     let bytes = files::read(path)?;
-    let records = bytes.len().div_ceil(RECORD_BYTES);
+    let form = arguments.form_of(&bytes);
+    let plain = form.records(&bytes);
+    let records = plain.len().div_ceil(RECORD_BYTES);
     if from > records.max(1) {
         return Err(Failure::File(format!("{}: it has {records} records; give a FROM up to that", files::name(path))));
     }
-    let judged = files::judge(&bytes).map_or_else(|refusal| explain::line(&bytes, refusal), |counts| counts.to_string());
-    writeln!(out, "{}: {judged}", files::name(path)).map_err(output_failed)?;
-    let shown = Outline::of(&bytes).skip(from - 1).take_while(|named| named.number <= to);
+    let refused = |refusal| explain::line_in(form, &bytes, refusal);
+    let judged = files::judge(form, &bytes).map_or_else(refused, |counts| counts.to_string());
+    writeln!(out, "{}: {}", files::name(path), files::in_form(form, judged)).map_err(output_failed)?;
+    let shown = Outline::of(&plain).skip(from - 1).take_while(|named| named.number <= to);
     for named in shown {
         writeln!(out, "{}", line(&named)).map_err(output_failed)?;
     }

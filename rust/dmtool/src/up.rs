@@ -1,8 +1,9 @@
 //! `up FILE RECORD`: the way from a record up to its layer.
 
 use crate::arguments::{record_number, Arguments};
+use crate::explain::{self, Asked};
 use crate::failure::{output_failed, Done, FINE};
-use crate::{explain, files};
+use crate::files;
 use std::io::Write;
 use zvaigulta::way_up;
 
@@ -11,22 +12,22 @@ pub fn run(arguments: &Arguments, out: &mut impl Write) -> Done {
     let [path, record] = arguments.exactly("up FILE RECORD")?;
     let record = record_number(record, "RECORD")?;
     let bytes = files::read(path)?;
-    let way = way_up(&bytes, bytes.len(), record).map_err(|r| explain::way_up(path, &bytes, record, r))?;
+    let asked = Asked { path, form: arguments.form_of(&bytes), bytes: &bytes };
+    let sheet = asked.plain()?;
+    let above = |record| way_up(&sheet, sheet.len(), record).map_err(|r| explain::way_up(&asked, &sheet, record, r));
+    let way = above(record)?;
     let mut passed = Vec::new();
     let mut next = way.header;
     // Each header stands before the record below it, so this ends; a level is at most 9, so eight headers are passed at most.
     while let Some(header) = next {
         passed.push(header.to_string());
-        next = way_up(&bytes, bytes.len(), header).map_err(|r| explain::way_up(path, &bytes, header, r))?.header;
+        next = above(header)?.header;
     }
     let name = files::name(path);
-    let done = match way.header {
-        None => writeln!(out, "{name}: record {record}: a layer header, no header above"),
-        Some(header) => {
-            let through = passed.join(", ");
-            writeln!(out, "{name}: record {record}: header above {header}, headers passed {} ({through})", way.passed)
-        }
+    let line = match way.header {
+        None => "a layer header, no header above".to_string(),
+        Some(header) => format!("header above {header}, headers passed {} ({})", way.passed, passed.join(", ")),
     };
-    done.map_err(output_failed)?;
+    writeln!(out, "{name}: record {record}: {}", files::in_form(asked.form, line)).map_err(output_failed)?;
     Ok(FINE)
 }

@@ -7,7 +7,7 @@ use reference::random::Random;
 use reference::{judge, sheets, RECORD};
 use std::io::{BufRead, BufReader, Write};
 use std::process::{Command, Stdio};
-use support::{good, large, Folder};
+use support::{ended, good, large, Folder};
 
 /// A number as likely small as large, at the ends of 64 bits and past them.
 fn number(r: &mut Random) -> String {
@@ -144,7 +144,7 @@ fn thousands_of_lines_as_the_reference_answers_them() {
 const LINE: usize = RECORD + 2;
 
 fn with_line_ends(plain: &[u8]) -> Vec<u8> {
-    plain.chunks(RECORD).flat_map(|record| [record, b"\r\n"].concat()).collect()
+    ended(plain, b"\r\n")
 }
 
 /// 1 by a stride, then, for lines, 18 with the first record whose end is another.

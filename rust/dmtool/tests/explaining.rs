@@ -3,7 +3,7 @@
 mod support;
 
 use reference::RECORD;
-use support::{block, good, Folder};
+use support::{block, ended, good, Folder};
 
 const INDEX: &[u8] = b"I  9City survey office              0 0   0002008Regulation                    10   ";
 
@@ -46,19 +46,20 @@ fn explain_prints_notes_the_refused_record_and_the_others_in_short() {
 #[test]
 fn one_reason_for_a_length() {
     let f = Folder::new("one_reason");
-    let lines: Vec<u8> = good().chunks(RECORD).flat_map(|record| [record, b"\r\n"].concat()).collect();
-    f.put("lines.dm", &lines);
-    let line = "lines.dm: refused 1: the length, 774 bytes, is not a multiple of 84";
-    assert_eq!(f.run(&["judge", "lines.dm"]).text(), format!("{line}\n"));
-    assert!(f.run(&["show", "lines.dm", "1", "1"]).text().starts_with(&format!("{line}\n")));
-    let note = "every record ends in carriage return and line feed (CR LF), 86 bytes in all: take the line ends out; \
-                without that the file is accepted";
-    assert_eq!(f.run(&["explain", "lines.dm"]).seen(), (Some(1), format!("{line}\n{note}\n"), true));
-    assert!(f.run(&["insert", "lines.dm", "7", "lines.dm"]).err.starts_with(&format!("dmtool: {line}\n")));
-    let normal = f.run(&["normal", "lines.dm"]);
-    assert_eq!(normal.err, format!("dmtool: {line}\n'dmtool explain lines.dm' says what is wrong\n"));
+    let unix = ended(&good(), b"\n");
+    f.put("unix.dm", &unix);
+    let line = "unix.dm: refused 1: the length, 765 bytes, is not a multiple of 84";
+    assert_eq!(f.run(&["judge", "unix.dm"]).text(), format!("{line}\n"));
+    assert!(f.run(&["show", "unix.dm", "1", "1"]).text().starts_with(&format!("{line}\n")));
+    let note =
+        "every record ends in a line feed (LF), 85 bytes in all: 'dmtool convert FILE --to lines --mend' puts carriage return \
+                and line feed there, '--to plain --mend' takes them out; then the file is accepted";
+    assert_eq!(f.run(&["explain", "unix.dm"]).seen(), (Some(1), format!("{line}\n{note}\n"), true));
+    assert!(f.run(&["insert", "unix.dm", "7", "unix.dm"]).err.starts_with(&format!("dmtool: {line}\n")));
+    let normal = f.run(&["normal", "unix.dm"]);
+    assert_eq!(normal.err, format!("dmtool: {line}\n'dmtool explain unix.dm' says what is wrong\n"));
     assert_eq!((normal.status, normal.text()), (Some(1), String::new()));
-    assert!(f.run_on(&lines, &["normal", "-"]).err.ends_with("'dmtool explain -' says what is wrong\n"));
+    assert!(f.run_on(&unix, &["normal", "-"]).err.ends_with("'dmtool explain -' says what is wrong\n"));
 }
 
 #[test]

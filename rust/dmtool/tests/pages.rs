@@ -5,7 +5,7 @@ mod support;
 use std::fs;
 use std::path::Path;
 use std::process::Command;
-use support::{block, damaged, good, run, Folder};
+use support::{block, damaged, ended, good, run, Folder};
 
 /// The examples: a command behind `$`, and the lines below it.
 fn examples(page: &str) -> Vec<(&str, Vec<&str>)> {
@@ -43,14 +43,18 @@ fn line_fits(line: &str, expected: &str) -> bool {
     left.is_empty() || parts.last() == Some(&"")
 }
 
-/// The files that the page speaks of: a sheet, an item, a sheet with a wrong count, one that lost its last item, one with line ends.
+/// The files that the page speaks of: a sheet, an item, a sheet with a wrong count, one that lost its last item, one with an end-of-file mark; with
+/// line ends, with a wrong one among them, with line feeds alone.
 fn files() -> Folder {
     let f = Folder::new("pages");
     f.put("town.dm", &good()).put("house.dm", &block()).put("river.dm", &damaged());
     assert_eq!(f.run(&["insert", "town.dm", "7", "house.dm", "-o", "two.dm"]).status, Some(0));
     let two = f.get("two.dm");
-    let lines: Vec<u8> = two.chunks(84).flat_map(|record| [record, b"\r\n"].concat()).collect();
-    f.put("short.dm", &two[..9 * 84]).put("lines.dm", &lines);
+    let lines = ended(&good(), b"\r\n");
+    let mut broken = lines.clone();
+    broken[3 * 86 + 84..][..2].copy_from_slice(b"\n\r");
+    f.put("short.dm", &two[..9 * 84]).put("tape.dm", &[&good()[..], b"\x1a"].concat());
+    f.put("field.dm", &lines).put("broken.dm", &broken).put("unix.dm", &ended(&good(), b"\n"));
     f
 }
 

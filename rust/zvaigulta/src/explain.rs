@@ -27,6 +27,7 @@ mod form;
 mod index;
 mod joined;
 mod length;
+mod lines;
 mod lost;
 mod near;
 mod other;
@@ -40,7 +41,7 @@ pub use edits::{insertion, removal, way_up};
 use crate::layout::{INDEX_A, SHEET_A, SHEET_B, SHEET_D};
 use crate::outline::{Outline, Record, Sort};
 use crate::text::with_article;
-use crate::{Reason, Refusal};
+use crate::{Form, Reason, Refusal};
 
 /// A column at fault, and why. Where columns of two records do not go together, each of them is one.
 #[derive(Clone, Debug, PartialEq, Eq)]
@@ -48,7 +49,7 @@ use crate::{Reason, Refusal};
 pub struct Fault {
     /// The record's number, from 1.
     pub record: usize,
-    /// The column's name, one of the record's layout; `type` in a record whose layout is unknown.
+    /// The column's name, one of the record's layout; `type` in a record whose layout is unknown; `line end` for what stands behind a record.
     pub column: &'static str,
     /// What is wrong with it, or what it has to do with a column that is wrong.
     pub words: String,
@@ -72,15 +73,40 @@ pub struct Explanation {
     pub notes: Vec<String>,
 }
 
-/// Explains a refusal of a file by the judge. It reads the file a few times at most.
+/// Explains a refusal of a plain file by the judge. It reads the file a few times at most.
 pub fn explain(bytes: &[u8], refusal: Refusal) -> Explanation {
+    explain_in(Form::Plain, bytes, refusal)
+}
+
+/// Explains a refusal of a file in a form. Bytes of the file are counted with the line ends; the column of a wrong line end (18) is called
+/// `line end`.
+///
+/// ```
+/// use zvaigulta::{explain::explain_in, judge_sheet_lines, Form, EXAMPLE};
+///
+/// let mut file = Form::Lines.file(EXAMPLE)?.into_owned();
+/// file[3 * 86 + 84..][..2].copy_from_slice(b"\n\r");
+/// let explained = explain_in(Form::Lines, &file, judge_sheet_lines(&file, file.len()).unwrap_err());
+/// assert_eq!((explained.faults[0].record, explained.faults[0].column), (4, "line end"));
+/// assert_eq!(explained.notes[0], "record 4 ends in line feed and carriage return (LF CR), the wrong way round");
+/// # Ok::<(), zvaigulta::Refusal>(())
+/// ```
+pub fn explain_in(form: Form, bytes: &[u8], refusal: Refusal) -> Explanation {
+    match (form, refusal.reason) {
+        (Form::Lines, Reason::Length | Reason::LineEnd) => lines::explain(bytes, refusal),
+        _ => of_records(&form.records(bytes), form, refusal),
+    }
+}
+
+/// Explains a refusal of the records of a file in a form.
+fn of_records(bytes: &[u8], form: Form, refusal: Refusal) -> Explanation {
     let mut told = Explanation::default();
     let named = refusal.record.and_then(|record| Outline::of(bytes).nth(record.checked_sub(1)?));
     let Some(named) = named else {
         length::explain(bytes, &mut told);
         return told;
     };
-    at_record(bytes, &named, refusal.reason, &mut told);
+    at_record(bytes, &named, refusal.reason, form, &mut told);
     // Another form of file is the one reason; what else is seen follows from it.
     if let Some(form) = form::of(bytes, Some(named.number)) {
         one_reason(&mut told, named.number, vec![form]);
@@ -88,8 +114,8 @@ pub fn explain(bytes: &[u8], refusal: Refusal) -> Explanation {
     told
 }
 
-/// A refusal in one line, as it displays itself, but for two: of the four reasons of 1 the one that holds; and for 2, of a file
-/// that is a block, that it is one.
+/// A refusal of a plain file in one line, as it displays itself, but for two: of the four reasons of 1 the one that holds; and for 2, of a
+/// file that is a block, that it is one.
 ///
 /// ```
 /// use zvaigulta::{explain, judge_sheet, EXAMPLE};
@@ -100,9 +126,14 @@ pub fn explain(bytes: &[u8], refusal: Refusal) -> Explanation {
 /// assert_eq!(explain::line(&EXAMPLE[..8 * 84], refusal), refusal.to_string());
 /// ```
 pub fn line(bytes: &[u8], refusal: Refusal) -> String {
+    line_in(Form::Plain, bytes, refusal)
+}
+
+/// The same of a file in a form.
+pub fn line_in(form: Form, bytes: &[u8], refusal: Refusal) -> String {
     match refusal.reason {
-        Reason::Length => format!("refused {}: {}", refusal.number(), length::reason(bytes.len())),
-        Reason::FileType => block(bytes).map_or_else(
+        Reason::Length => format!("refused {}: {}", refusal.number(), length::reason(bytes.len(), form)),
+        Reason::FileType => block(&form.records(bytes)).map_or_else(
             || refusal.to_string(),
             |block| format!("refused {} at record {}: {block}", refusal.number(), refusal.record.unwrap_or(1)),
         ),
@@ -117,7 +148,7 @@ fn one_reason(told: &mut Explanation, refused: usize, reason: Vec<String>) {
 }
 
 /// Explains a refusal that names a record.
-fn at_record(bytes: &[u8], named: &Record, reason: Reason, told: &mut Explanation) {
+fn at_record(bytes: &[u8], named: &Record, reason: Reason, form: Form, told: &mut Explanation) {
     match reason {
         Reason::FileType => first::explain(bytes, named, told),
         Reason::MissingRecord => due::missing(bytes, named, told),
@@ -134,11 +165,11 @@ fn at_record(bytes: &[u8], named: &Record, reason: Reason, told: &mut Explanatio
         return;
     }
     other::sort(bytes, named, told);
-    match (shift::notes(bytes, named.number), hole(bytes, named, told)) {
+    match (shift::notes(bytes, named.number, form), hole(bytes, named, told)) {
         (Some(notes), _) => one_reason(told, named.number, notes),
-        (None, Some(hole)) if hole.nul => one_reason(told, named.number, vec![hole.words()]),
+        (None, Some(hole)) if hole.nul => one_reason(told, named.number, vec![hole.words(form)]),
         (None, hole) => {
-            told.notes.splice(..0, hole.map(|hole| hole.words()));
+            told.notes.splice(..0, hole.map(|hole| hole.words(form)));
             let differ = records_differ(bytes, named).filter(|words| !told.notes.contains(words));
             told.notes.extend(differ);
         }

@@ -1,6 +1,7 @@
 //! The two forms of a file: records end to end, or with a line end behind each.
 
-use crate::{explain, from_lines, to_lines, FileKind, Refusal, LINE_RECORD_BYTES, RECORD_BYTES};
+use crate::line_ends::{crlf, is_plain};
+use crate::{from_lines, to_lines, Refusal, LINE_RECORD_BYTES, RECORD_BYTES};
 use std::borrow::Cow;
 use std::fmt;
 
@@ -45,8 +46,7 @@ impl Form {
     /// # Ok::<(), zvaigulta::Refusal>(())
     /// ```
     pub fn of(bytes: &[u8]) -> Form {
-        let plain = || FileKind::of(bytes).judge(bytes, bytes.len()).is_ok() || explain::is_block(bytes);
-        if has_line_ends(bytes) && !plain() {
+        if has_line_ends(bytes) && !is_plain(bytes) {
             Form::Lines
         } else {
             Form::Plain
@@ -136,7 +136,5 @@ fn line_length(rest: &[u8]) -> Option<usize> {
     if rest.get(RECORD_BYTES..LINE_RECORD_BYTES) == Some(LINE_END) {
         return Some(LINE_RECORD_BYTES);
     }
-    let near = rest.get(..LINE_RECORD_BYTES + 1).unwrap_or(rest);
-    // `contains` looks at many bytes at a time, and most plain files have none.
-    near.contains(&b'\r').then(|| near.windows(2).position(|two| two == LINE_END))?.map(|place| place + LINE_END.len())
+    crlf(rest.get(..LINE_RECORD_BYTES + 1).unwrap_or(rest)).map(|place| place + LINE_END.len())
 }

@@ -32,6 +32,7 @@ pub mod explain;
 mod form;
 mod kind;
 pub mod layout;
+mod line_ends;
 pub mod outline;
 mod raw;
 mod refusal;
@@ -45,6 +46,7 @@ pub use calls::{
 };
 pub use form::{Form, LINE_END};
 pub use kind::FileKind;
+pub use line_ends::Mended;
 pub use refusal::{Reason, Refusal};
 pub use sheet::{Item, Sheet};
 pub use unit::Unit;

@@ -823,14 +823,38 @@ const FORMS: &[Damage] = &[
         "a CR LF behind each record",
         || ended(&sheet(), b"\r\n"),
         (1, 0),
-        &["every record ends in carriage return and line feed (CR LF), 86 bytes in all", "without that the file is accepted"],
+        &["every record ends in carriage return and line feed (CR LF), 86 bytes in all: read with line ends the file is accepted"],
         &[],
     ),
     (
         "a LF behind each record",
         || ended(&sheet(), b"\n"),
         (1, 0),
-        &["every record ends in a line feed (LF), 85 bytes in all"],
+        &[
+            "every record ends in a line feed (LF), 85 bytes in all: 'dmtool convert FILE --to lines --mend' puts carriage return",
+            "'--to plain --mend' takes them out; then the file is accepted",
+        ],
+        &[],
+    ),
+    (
+        "a CR behind each record",
+        || ended(&sheet(), b"\r"),
+        (1, 0),
+        &["every record ends in a carriage return (CR), 85 bytes in all: 'dmtool convert FILE", "then the file is accepted"],
+        &[],
+    ),
+    (
+        "a LF behind each record, and a length of whole records",
+        || ended(&sheet().repeat(3), b"\n"),
+        (5, 2),
+        &["every record ends in a line feed (LF), 85 bytes in all: 'dmtool convert FILE", "then it is refused 4 at record 29"],
+        &[(2, "lower left X")],
+    ),
+    (
+        "a LF behind each record, and a count that differs",
+        || ended(&with(sheet(), 7, 18, "    4"), b"\n"),
+        (1, 0),
+        &["then it is refused 10 at record 7"],
         &[],
     ),
     (
@@ -844,7 +868,7 @@ const FORMS: &[Damage] = &[
         "CR LF, and a count that differs",
         || ended(&with(sheet(), 7, 18, "    4"), b"\r\n"),
         (1, 0),
-        &["take the line ends out; without that it is refused 10 at record 7"],
+        &["read with line ends it is refused 10 at record 7"],
         &[],
     ),
     (
@@ -895,7 +919,7 @@ const FORMS: &[Damage] = &[
         (1, 0),
         &[
             "the file starts with a byte order mark (EF BB BF): take it out; then, every record ends in a line feed (LF),",
-            "take the line ends out; without that the file is accepted",
+            "'--to plain --mend' takes them out; then the file is accepted",
             "not: refused",
         ],
         &[],
@@ -1058,7 +1082,7 @@ const FORMS: &[Damage] = &[
         "a block with a line end behind each record",
         || ended(&sheet()[7 * 84..10 * 84], b"\n"),
         (1, 0),
-        &["take the line ends out; without that it is a sound block, a line E2 with 2 data records, level 2", "not: refused"],
+        &["then it is a sound block, a line E2 with 2 data records, level 2", "not: refused"],
         &[],
     ),
     (

@@ -42,18 +42,18 @@ const INSERTIONS: &[Insertion] = &[
     (30, || records(8, 10), 11, "the sheet has 28 records: there is no place 30; the last place, behind the last record, is 29"),
     (8, Vec::new, 12, "the block is empty"),
     (8, || records(8, 10)[..200].to_vec(), 12, "the block has 2 records and 32 bytes more"),
-    (8, || ended(&records(8, 10), b"\r\n"), 12, "in the block every record ends in carriage return and line feed"),
+    (8, || ended(&records(8, 10), b"\r\n"), 12, "in the block every record ends in carriage return and line feed (CR LF)"),
     (
         8,
         || ended(&records(22, 22), b"\n"),
         12,
-        "take the line ends out; without that it is a sound block, a point E5 with 0 data records, level 2",
+        "'--to plain --mend' takes them out; then it is a sound block, a point E5 with 0 data records, level 2",
     ),
     (
         8,
         || ended(&with(records(8, 10), 1, 16, " 1"), b"\r\n"),
         12,
-        "without that it would be refused as a block: record 1 of the block, level: is 1, the level of an item is 2 to 9",
+        "read with line ends it would be refused as a block: record 1 of the block, level: is 1, the level of an item is 2 to 9",
     ),
     (8, || [records(8, 10), vec![0x1a]].concat(), 12, "(the byte 1A); without that it is a sound block, a line E2 with 2"),
     (

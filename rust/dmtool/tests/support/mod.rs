@@ -117,6 +117,11 @@ pub fn block() -> Vec<u8> {
     good()[6 * RECORD..].to_vec()
 }
 
+/// Records with a line end behind each.
+pub fn ended(plain: &[u8], end: &[u8]) -> Vec<u8> {
+    plain.chunks(RECORD).flat_map(|record| [record, end].concat()).collect()
+}
+
 /// An accepted sheet of 200,000 records: a layer with three grids and points of one record each; the last record is a point.
 pub fn large() -> &'static [u8] {
     static ONCE: OnceLock<Vec<u8>> = OnceLock::new();

@@ -5,7 +5,7 @@ use super::{fault, index, lost, Explanation, Fault};
 use crate::layout::{Layout, HEADER, SHEET_B};
 use crate::outline::{natural, part, record, Record, Sort, COUNTS};
 use crate::text::number_of;
-use crate::{FileKind, RECORD_BYTES};
+use crate::{FileKind, Form, RECORD_BYTES};
 
 /// The most columns that are listed.
 const MOST_LISTED: usize = 60;
@@ -60,9 +60,10 @@ impl Records {
         length as isize - self.stated() as isize * RECORD_BYTES as isize
     }
 
-    /// In words, with the bytes of a file of a length.
-    pub fn words_in_bytes(&self, length: usize) -> String {
-        format!("{}, {} bytes; the file has {length}", self.states(), self.stated() * RECORD_BYTES as u64)
+    /// In words, with the bytes of a file of a length; in a form of it, where the length is that of its records.
+    pub fn words_in_bytes(&self, length: usize, form: Form) -> String {
+        let ends = length / RECORD_BYTES * (form.record_bytes() - RECORD_BYTES);
+        format!("{}, {} bytes; the file has {}", self.states(), self.stated() * form.record_bytes() as u64, length + ends)
     }
 
     /// What is stated, in words.

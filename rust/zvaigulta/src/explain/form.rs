@@ -1,10 +1,12 @@
 //! Files in another form than records of 84 bytes end to end: text with line ends or a byte order mark, EBCDIC, padding.
 
+use super::lines::mending;
 use super::{block, near, Fault};
 use crate::layout::{Layout, SHEET_A, SHEET_B};
+use crate::line_ends::without_fill;
 use crate::outline::{part, Record, Sort};
 use crate::text::{number_of, quoted};
-use crate::{FileKind, Refusal, MOST_RECORDS, RECORD_BYTES};
+use crate::{FileKind, Form, Refusal, MOST_RECORDS, RECORD_BYTES};
 use std::ops::Range;
 
 /// The form that is recognised, and what to do about it. `refused` is the refused record, if the refusal names one.
@@ -14,7 +16,7 @@ pub fn of(bytes: &[u8], refused: Option<usize>) -> Option<String> {
 }
 
 /// By the first bytes.
-fn start(bytes: &[u8]) -> Option<String> {
+pub fn start(bytes: &[u8]) -> Option<String> {
     let (seen, advice) = match bytes {
         [0xef, 0xbb, 0xbf, rest @ ..] => {
             let more = lines(rest).or_else(|| tail(rest, None).filter(|_| !rest.len().is_multiple_of(RECORD_BYTES)));
@@ -82,8 +84,7 @@ const LINE_ENDS: [(&[u8], &str); 3] =
 
 /// Records with a line end behind each, but for the last perhaps; a fill or an end-of-file mark behind them is passed over.
 fn lines(bytes: &[u8]) -> Option<String> {
-    let kept = bytes.iter().rposition(|byte| !matches!(byte, 0 | 0x1a)).map_or(0, |last| last + 1);
-    let text = bytes.get(..kept)?;
+    let text = without_fill(bytes);
     LINE_ENDS.iter().find_map(|(end, name)| line_ends(text, end, name))
 }
 
@@ -104,24 +105,32 @@ fn line_ends(text: &[u8], end: &[u8], name: &str) -> Option<String> {
         _ => return None,
     };
     let plain: Vec<u8> = text.chunks(stride).flat_map(|line| line.get(..RECORD_BYTES).unwrap_or(line)).copied().collect();
-    Some(format!("{which} in {name}, {stride} bytes in all: take the line ends out; {}", without(&plain)))
+    let next = match end {
+        // This form is read as well.
+        b"\r\n" if rest == 0 => format!("read with line ends {}", judged(&plain)),
+        _ => mending(text).unwrap_or_else(|| format!("take the line ends out; {}", without(&plain))),
+    };
+    Some(format!("{which} in {name}, {stride} bytes in all: {next}"))
 }
 
 /// What becomes of the file without what does not belong there.
 pub fn without(bytes: &[u8]) -> String {
+    format!("without that {}", judged(bytes))
+}
+
+/// What the judge says of a file, or what is known of a block.
+pub fn judged(bytes: &[u8]) -> String {
     let item = Sort::of(bytes).is_some_and(|sort| sort != Sort::Header);
     if item && bytes.len().is_multiple_of(RECORD_BYTES) {
         return match block::judged(bytes) {
-            Ok(item) => format!("without that it is a sound block, {}", item.words()),
-            Err(words) => format!("without that it would be refused as a block: {words}"),
+            Ok(item) => format!("it is a sound block, {}", item.words()),
+            Err(words) => format!("it would be refused as a block: {words}"),
         };
     }
     match FileKind::of(bytes).judge(bytes, bytes.len()) {
-        Ok(_) => "without that the file is accepted".to_string(),
-        Err(Refusal { reason, record: Some(record), .. }) => {
-            format!("without that it is refused {} at record {record}", reason.number())
-        }
-        Err(refusal) => format!("without that it is refused {}", refusal.number()),
+        Ok(_) => "the file is accepted".to_string(),
+        Err(Refusal { reason, record: Some(record), .. }) => format!("it is refused {} at record {record}", reason.number()),
+        Err(refusal) => format!("it is refused {}", refusal.number()),
     }
 }
 
@@ -168,7 +177,7 @@ fn tail(bytes: &[u8], refused: Option<usize>) -> Option<String> {
 }
 
 /// Fill bytes in words.
-fn named(fill: &[u8]) -> String {
+pub fn named(fill: &[u8]) -> String {
     let count = fill.len() as u64;
     match fill {
         [0x1a] => "an end-of-file mark (the byte 1A)".to_string(),
@@ -225,14 +234,15 @@ impl Hole {
         whole == 1 && (!self.nul || self.place.len() == RECORD_BYTES)
     }
 
-    /// Where it is.
-    pub fn words(&self) -> String {
+    /// Where it is, in a form of the file.
+    pub fn words(&self, form: Form) -> String {
         let at = |byte: usize| format!("byte {} of record {}", byte % RECORD_BYTES + 1, byte / RECORD_BYTES + 1);
+        let in_file = |byte: usize| byte / RECORD_BYTES * form.record_bytes() + byte % RECORD_BYTES + 1;
         let (from, to) = (self.place.start, self.place.end - 1);
         // Spaces may also be right there, in texts.
         let (what, lost) = if self.nul { ("NUL bytes", "is lost") } else { ("spaces", "may be lost") };
         let records = format!("from {} to {}", at(from), at(to));
-        format!("bytes {} to {} of the file are {what}, {records}: what stood there {lost}", from + 1, to + 1)
+        format!("bytes {} to {} of the file are {what}, {records}: what stood there {lost}", in_file(from), in_file(to))
     }
 }
 

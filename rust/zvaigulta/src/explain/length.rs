@@ -4,29 +4,36 @@ use super::counts::Records;
 use super::{at_record, first, form, shift, Explanation};
 use crate::outline::Outline;
 use crate::text::{number_of, quoted};
-use crate::{FileKind, Reason, Refusal, MOST_RECORDS, RECORD_BYTES};
+use crate::{FileKind, Form, Reason, Refusal, MOST_RECORDS, RECORD_BYTES};
 
 /// The one of the four reasons that a length is refused for.
-pub fn reason(length: usize) -> String {
+pub fn reason(length: usize, form: Form) -> String {
+    let stride = form.record_bytes();
     match length {
         0 => "the file is empty".to_string(),
-        n if n > MOST_RECORDS * RECORD_BYTES => format!("the file has more than 200,000 records of {RECORD_BYTES} bytes"),
-        n if n % RECORD_BYTES == 0 => "the length that was given is above the buffer".to_string(),
-        n => format!("the length, {}, is not a multiple of {RECORD_BYTES}", number_of(n as u64, "byte")),
+        n if n > MOST_RECORDS * stride => format!("the file has more than 200,000 records of {stride} bytes"),
+        n if n % stride == 0 => "the length that was given is above the buffer".to_string(),
+        n => format!("the length, {}, is not a multiple of {stride}", number_of(n as u64, "byte")),
     }
+}
+
+/// What to do about a length that is refused for another reason than the last of these.
+pub fn other(length: usize, form: Form) -> Option<String> {
+    let words = match length {
+        0 => "copy the file again from where it came",
+        n if n > MOST_RECORDS * form.record_bytes() => "divide the sheet into two",
+        n if n % form.record_bytes() == 0 => "give the length of the file in its buffer",
+        n if n < RECORD_BYTES => "the file is shorter than one record: copy it again from where it came",
+        _ => return None,
+    };
+    Some(words.to_string())
 }
 
 /// What is behind it, and the columns of the first record that breaks.
 pub fn explain(bytes: &[u8], told: &mut Explanation) {
-    match (form::of(bytes, None), bytes.len()) {
-        (Some(form), _) => told.notes.push(form),
-        (_, 0) => told.notes.push("copy the file again from where it came".to_string()),
-        (_, n) if n > MOST_RECORDS * RECORD_BYTES => told.notes.push("divide the sheet into two".to_string()),
-        (_, n) if n % RECORD_BYTES == 0 => told.notes.push("give the length of the file in its buffer".to_string()),
-        (_, n) if n < RECORD_BYTES => {
-            told.notes.push("the file is shorter than one record: copy it again from where it came".to_string())
-        }
-        _ => odd(bytes, told),
+    match form::of(bytes, None).or_else(|| other(bytes.len(), Form::Plain)) {
+        Some(words) => told.notes.push(words),
+        None => odd(bytes, told),
     }
 }
 
@@ -55,20 +62,20 @@ fn broken(bytes: &[u8], whole: &[u8], refusal: Refusal, told: &mut Explanation) 
         (Reason::MissingRecord | Reason::Count, Some(short)) => {
             let only = format!("record {} has only {odd} of its {RECORD_BYTES} bytes", records + 1);
             let cut = || format!("{only}: the file is cut off, or bytes of that record are lost; {}", short.words());
-            told.notes.extend(shift::notes(bytes, records + 1).unwrap_or_else(|| vec![cut()]));
+            told.notes.extend(shift::notes(bytes, records + 1, Form::Plain).unwrap_or_else(|| vec![cut()]));
         }
         _ => {
             let mut inner = Explanation::default();
-            at_record(whole, &named, refusal.reason, &mut inner);
+            at_record(whole, &named, refusal.reason, Form::Plain, &mut inner);
             told.faults.extend(inner.faults.into_iter().filter(|fault| fault.record == named.number));
             let first = format!("record {} is the first that breaks ({})", named.number, refusal.reason);
             let more = number_of(odd as u64, "byte");
             let plain = || {
-                let stated = Records::before(bytes, named.number).map(|records| records.words_in_bytes(bytes.len()));
+                let stated = Records::before(bytes, named.number).map(|records| records.words_in_bytes(bytes.len(), Form::Plain));
                 let breaks = format!("the file has {records} records of {RECORD_BYTES} bytes and {more} more; {first}");
                 [breaks].into_iter().chain(stated).collect()
             };
-            told.notes.extend(shift::notes(bytes, named.number).unwrap_or_else(plain));
+            told.notes.extend(shift::notes(bytes, named.number, Form::Plain).unwrap_or_else(plain));
         }
     }
 }

@@ -5,7 +5,7 @@ use super::near;
 use crate::layout::INDEX_C;
 use crate::outline::{Outline, Record, Stated, What};
 use crate::text::{number_of, quoted};
-use crate::{FileKind, RECORD_BYTES};
+use crate::{FileKind, Form, RECORD_BYTES};
 
 /// How many records must read in order, where so many are left.
 const IN_ORDER: usize = 6;
@@ -28,7 +28,7 @@ struct Fill<'a> {
 }
 
 /// What is seen of a shift at the refused record or shortly before it; and how many records and bytes the file states.
-pub fn notes(bytes: &[u8], refused: usize) -> Option<Vec<String>> {
+pub fn notes(bytes: &[u8], refused: usize, form: Form) -> Option<Vec<String>> {
     let shift = find(bytes, refused)?;
     let same = |count: isize| (count - shift.by) % RECORD_BYTES as isize == 0;
     let fill = fill(bytes, refused, shift.record).filter(|fill| same(fill.bytes.len() as isize));
@@ -41,7 +41,7 @@ pub fn notes(bytes: &[u8], refused: usize) -> Option<Vec<String>> {
     let (shift, cause) = (shift.towards(count), shift.cause(count));
     let again = format!("from record {} on the file reads in order {}", shift.record, shift.way());
     let seen = format!("the bytes seem to shift at record {refused} or shortly before it: {again}, so {by}{cause}{look}");
-    Some([seen].into_iter().chain(records.map(|records| records.words_in_bytes(bytes.len()))).collect())
+    Some([seen].into_iter().chain(records.map(|records| records.words_in_bytes(bytes.len(), form))).collect())
 }
 
 impl Shift {
