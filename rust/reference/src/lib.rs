@@ -1,4 +1,4 @@
-//! Document 01 once more, in plain Rust, for tests alone.
+//! Document 01, and the orders of document 02 that are landed, once more, in plain Rust, for tests alone.
 //!
 //! It shares no code and no definitions with the proved library: the layouts are written down anew, a
 //! sheet is judged over a vector of records, and an edit works on that vector. It prefers the paper's
@@ -11,6 +11,7 @@ pub mod corner;
 pub mod edit;
 pub mod judge;
 pub mod layout;
+pub mod lines;
 pub mod normal;
 pub mod protocol;
 pub mod random;
@@ -36,6 +37,15 @@ pub const RECORD: usize = 84;
 
 /// The most records that a file may have.
 pub const MOST_RECORDS: usize = 200_000;
+
+/// Writes a result to the front of a buffer and answers its length: "a buffer is too short for the result" is 15, and the rest stays.
+fn put(buffer: &mut [u8], result: &[u8]) -> Result<usize, Refusal> {
+    if buffer.len() < result.len() {
+        return refuse(15, 0);
+    }
+    buffer[..result.len()].copy_from_slice(result);
+    Ok(result.len())
+}
 
 /// A digest of bytes: each counts 31 times for each byte behind it, modulo a prime.
 pub fn digest(bytes: &[u8]) -> u64 {

@@ -3,18 +3,10 @@
 use crate::judge::{accepted, index as judge_index};
 use crate::layout::{Layout, Layouts};
 use crate::record::{Item, Sort};
-use crate::{refuse, Refusal, RECORD};
+use crate::{put, Refusal, RECORD};
 
 fn whole(layout: &Layout, record: &[u8]) -> Vec<u8> {
     layout.normal(record, layout.whole())
-}
-
-fn put(second: &mut [u8], file: Vec<u8>) -> Result<usize, Refusal> {
-    if second.len() < file.len() {
-        return refuse(15, 0);
-    }
-    second[..file.len()].copy_from_slice(&file);
-    Ok(file.len())
 }
 
 /// The normal form of a sheet, written to a second buffer.
@@ -46,7 +38,7 @@ pub fn sheet(buffer: &[u8], used: usize, second: &mut [u8]) -> Result<usize, Ref
             }
         }
     }
-    put(second, file)
+    put(second, &file)
 }
 
 /// The normal form of an index, written to a second buffer.
@@ -63,5 +55,5 @@ pub fn index(buffer: &[u8], used: usize, second: &mut [u8]) -> Result<usize, Ref
         };
         file.extend(whole(layout, record));
     }
-    put(second, file)
+    put(second, &file)
 }

@@ -1,7 +1,7 @@
 //! The batch protocol answered by the reference, one command to a line; and beside its commands
 //! `formed START COUNT BYTES`, whether so many seven-byte columns from a start are well formed: `yes` or `no`.
 
-use crate::{column, corner, edit, judge, normal, program, way_up, Refusal};
+use crate::{column, corner, edit, judge, lines, normal, program, way_up, Refusal};
 
 type Words<'a> = std::str::SplitWhitespace<'a>;
 
@@ -88,6 +88,23 @@ fn leaf(command: &str, w: &mut Words) -> Result<String, String> {
     }
 }
 
+/// The commands of order 1, on files with line ends.
+fn order_1(command: &str, w: &mut Words) -> Result<String, String> {
+    match command {
+        "judge86" => {
+            let (sheet, used, buffer) = (is_sheet(w)?, used(w)?, bytes(w)?);
+            let judged = if sheet { lines::sheet(&buffer, used) } else { lines::index(&buffer, used) };
+            Ok(said(judged.map(|c| format!("{} {}", c.records, c.items))))
+        }
+        "to86" | "from86" => {
+            let (used, buffer, mut target) = (used(w)?, bytes(w)?, bytes(w)?);
+            let write = if command == "to86" { lines::to_lines } else { lines::from_lines };
+            Ok(said(write(&buffer, used, &mut target).map(|n| format!("{n} {}", hex(&target)))))
+        }
+        other => leaf(other, w),
+    }
+}
+
 /// The commands on a file.
 fn command(command: &str, w: &mut Words) -> Result<String, String> {
     match command {
@@ -114,7 +131,7 @@ fn command(command: &str, w: &mut Words) -> Result<String, String> {
             Ok(said(way_up::up(&buffer, used, record).map(|(h, n)| format!("{} {n}", h.unwrap_or(0)))))
         }
         "main" => Ok(program(&bytes(w)?)),
-        other => leaf(other, w),
+        other => order_1(other, w),
     }
 }
 
