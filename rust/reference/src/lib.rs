@@ -11,6 +11,7 @@ pub mod corner;
 pub mod edit;
 pub mod judge;
 pub mod layout;
+pub mod line_calls;
 pub mod lines;
 pub mod normal;
 pub mod protocol;
