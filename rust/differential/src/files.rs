@@ -7,21 +7,12 @@ use reference::random::Random;
 use reference::{judge, normal, sheets, way_up, Refusal, RECORD};
 
 /// The proved judgement in the reference's type.
-pub fn judged(sheet: bool, buffer: &[u8], used: usize) -> Result<Counts, zvaigulta::Refusal> {
-    let answer = if sheet { zvaigulta::judge_sheet(buffer, used) } else { zvaigulta::judge_index(buffer, used) };
+pub fn counted(answer: Result<zvaigulta::Counts, zvaigulta::Refusal>) -> Result<Counts, zvaigulta::Refusal> {
     answer.map(|c| Counts { records: c.records, items: c.items })
 }
 
-/// The reference's judgement.
-pub fn expected(sheet: bool, buffer: &[u8], used: usize) -> Result<Counts, Refusal> {
-    if sheet {
-        judge::sheet(buffer, used)
-    } else {
-        judge::index(buffer, used)
-    }
-}
-
-fn kind(sheet: bool) -> &'static str {
+/// The batch protocol's word for a kind of file.
+pub fn kind(sheet: bool) -> &'static str {
     if sheet {
         "sheet"
     } else {
@@ -29,9 +20,14 @@ fn kind(sheet: bool) -> &'static str {
     }
 }
 
-/// The batch protocol's line of a judging.
-pub fn judge_line(sheet: bool, buffer: &[u8], used: usize) -> String {
-    format!("judge {} {used} {}", kind(sheet), hex(buffer))
+/// Judges by both.
+pub fn judge(sheet: bool, buffer: &[u8], used: usize, answers: &mut Answers) -> Result<(), String> {
+    let (answer, right) = if sheet {
+        (zvaigulta::judge_sheet(buffer, used), judge::sheet(buffer, used))
+    } else {
+        (zvaigulta::judge_index(buffer, used), judge::index(buffer, used))
+    };
+    answers.same(|| format!("judge {} {used} {}", kind(sheet), hex(buffer)), counted(answer), right)
 }
 
 /// A file with up to `damages` damages in a buffer that is sometimes longer, and a used length that is sometimes wrong.
@@ -56,7 +52,7 @@ fn some_file(r: &mut Random, sheet: bool, damages: usize) -> (Vec<u8>, usize) {
 fn judging(r: &mut Random, sheet: bool, cases: usize, answers: &mut Answers) -> Result<(), String> {
     for _ in 0..cases {
         let (file, used) = some_file(r, sheet, 2);
-        answers.same(|| judge_line(sheet, &file, used), judged(sheet, &file, used), expected(sheet, &file, used))?;
+        judge(sheet, &file, used, answers)?;
     }
     Ok(())
 }

@@ -6,9 +6,10 @@
 mod bytes;
 mod edits;
 mod files;
+mod lines;
 mod numbers;
 
-pub use bytes::{every_byte_of_a_sheet, every_byte_of_an_index};
+pub use bytes::{every_byte_of_a_sheet, every_byte_of_an_index, every_byte_of_lines, every_line_end};
 
 use reference::random::Random;
 use reference::Refusal;
@@ -53,7 +54,7 @@ pub struct Area {
 }
 
 /// All areas: every public call is in one.
-pub const AREAS: [Area; 10] = [
+pub const AREAS: [Area; 14] = [
     Area { name: "reading columns", run: numbers::reading, answers: &[0, 5, 16] },
     Area { name: "writing columns", run: numbers::writing, answers: &[0, 16] },
     Area { name: "joining corners", run: numbers::joining, answers: &[0, 9, 16] },
@@ -63,5 +64,9 @@ pub const AREAS: [Area; 10] = [
     Area { name: "normal forms", run: files::normal_forms, answers: &[0, 1, 3, 5, 10, 15] },
     Area { name: "ways up", run: files::ways_up, answers: &[0, 1, 5, 10, 17] },
     Area { name: "the program's line", run: files::reports, answers: &[0, 15] },
+    Area { name: "sheets with line ends", run: lines::sheets, answers: &[0, 1, 2, 3, 4, 5, 6, 7, 8, 9, 10, 18] },
+    Area { name: "indexes with line ends", run: lines::indexes, answers: &[0, 1, 2, 3, 5, 6, 10, 18] },
+    Area { name: "writing line ends", run: lines::to_lines, answers: &[0, 1, 15] },
+    Area { name: "taking line ends off", run: lines::from_lines, answers: &[0, 1, 15, 18] },
     Area { name: "lists of edits", run: edits::lists, answers: &[0, 1, 10, 11, 12, 13, 14, 15] },
 ];

@@ -1,10 +1,20 @@
-//! `differential [CASES [SEED]]`: every area with so many cases (a million if not said), from a seed, and every byte of small files. Ends with
-//! status 1 and the case at the first difference.
+//! `differential [CASES [SEED]]`: every area with so many cases (a million if not said), from a seed, and every byte of small files and every
+//! line end. Ends with status 1 and the case at the first difference.
 
-use differential::{every_byte_of_a_sheet, every_byte_of_an_index, Answers, AREAS};
+use differential::{every_byte_of_a_sheet, every_byte_of_an_index, every_byte_of_lines, every_line_end, Answers, AREAS};
 use reference::random::Random;
 use std::process::exit;
 use std::time::Instant;
+
+/// Tries every byte of a file that a seed gives.
+type Run = fn(u64) -> Result<Answers, String>;
+
+const EVERY_BYTE: [(&str, Run); 4] = [
+    ("every byte of a sheet", every_byte_of_a_sheet),
+    ("every byte of an index", every_byte_of_an_index),
+    ("every byte of lines", every_byte_of_lines),
+    ("every line end", every_line_end),
+];
 
 fn report(name: &str, start: Instant, found: Result<Answers, String>) {
     match found {
@@ -43,8 +53,8 @@ fn main() {
         let done = (area.run)(&mut Random(seed), cases as usize, &mut answers);
         report(area.name, start, done.map(|()| answers));
     }
-    let start = Instant::now();
-    report("every byte of a sheet", start, every_byte_of_a_sheet(seed));
-    let start = Instant::now();
-    report("every byte of an index", start, every_byte_of_an_index(seed));
+    for (name, run) in EVERY_BYTE {
+        let start = Instant::now();
+        report(name, start, run(seed));
+    }
 }

@@ -1,6 +1,6 @@
 //! Tens of thousands of cases in each area; and what random files do not reach: the technician's grid and the limits of 200,000 records.
 
-use differential::{every_byte_of_a_sheet, every_byte_of_an_index, Answers, AREAS};
+use differential::{every_byte_of_a_sheet, every_byte_of_an_index, every_byte_of_lines, every_line_end, Answers, AREAS};
 use reference::random::Random;
 use reference::{sheets, RECORD};
 use zvaigulta::{insert, judge_index, judge_sheet, remove, Refusal};
@@ -35,6 +35,10 @@ areas! {
     normal_forms: "normal forms", 30_000;
     ways_up: "ways up", 30_000;
     the_programs_line: "the program's line", 30_000;
+    sheets_with_line_ends: "sheets with line ends", 30_000;
+    indexes_with_line_ends: "indexes with line ends", 30_000;
+    writing_line_ends: "writing line ends", 30_000;
+    taking_line_ends_off: "taking line ends off", 30_000;
     lists_of_edits: "lists of edits", 30_000;
 }
 
@@ -44,6 +48,15 @@ fn no_difference_in_every_byte_of_small_files() {
     assert!(answers.have(&[0, 2, 4, 5, 6]), "{:?}", answers.0);
     let answers = every_byte_of_an_index(4).unwrap();
     assert!(answers.have(&[0, 2, 5, 6]), "{:?}", answers.0);
+}
+
+/// Of 65,536 pairs at the end of a record one is a line end: at three records, and by two calls.
+#[test]
+fn no_difference_in_every_byte_of_files_with_line_ends() {
+    let answers = every_byte_of_lines(4).unwrap();
+    assert!(answers.have(&[0, 2, 4, 5, 6, 18]), "{:?}", answers.0);
+    let answers = every_line_end(4).unwrap();
+    assert_eq!(answers.0.into_iter().collect::<Vec<_>>(), [(0, 6), (18, 6 * 65_535)]);
 }
 
 fn refused<T>(answer: Result<T, Refusal>) -> Option<(u64, usize)> {
