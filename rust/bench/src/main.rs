@@ -1,6 +1,8 @@
 //! The benchmark: the proved judge beside an idiomatic one, the reference and a plain copy; its cost a record as files grow; edits beside a
-//! judging and a move. Every figure is the best of several rounds with all of them in turn, so that ratios compare. `bench once WHAT RECORDS`
-//! makes one call, for a tool that counts instructions.
+//! judging and a move; files with line ends beside plain ones and a copy (`bench lines`: these alone). Every figure is the best of several rounds
+//! with all of them in turn, so that ratios compare. `bench once WHAT RECORDS` makes one call, for a tool that counts instructions.
+
+mod lines;
 
 use bench::{files, idiomatic};
 use reference::random::Random;
@@ -204,12 +206,16 @@ fn main() {
             judging(&mut copy);
             growth();
             edits();
+            lines::rows();
         }
+        ["lines"] => lines::rows(),
         ["once", what @ ("index" | "normal-index"), records] => once_index(what, records.parse().expect("a number of c records")),
+        ["once", what, records] if what.contains("lines") => lines::once(what, records.parse().expect("a number of records")),
         ["once", what, records] => once(what, records.parse().expect("a number of records")),
         _ => {
             eprintln!(
-                "usage: bench | bench once grids|mixed|elements|index|insert|insert-last|remove|remove-last|normal|normal-index|way-up|way-up-last RECORDS"
+                "usage: bench [lines] | bench once grids|mixed|elements|index|insert|insert-last|remove|remove-last|normal|normal-index|way-up|way-up-last|\
+                 judge-lines-grids|judge-lines-mixed|judge-lines-elements|judge-lines-index|to-lines|from-lines RECORDS"
             );
             std::process::exit(2);
         }
