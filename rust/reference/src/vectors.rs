@@ -3,3 +3,4 @@
 pub mod edits;
 pub mod files;
 pub mod leaves;
+pub mod lines;

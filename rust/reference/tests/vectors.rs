@@ -1,7 +1,7 @@
 //! The stored vectors are what the reference makes from their seeds and answers, to the byte. docs/ARCHITECTURE.md, "The reference", has the
 //! commands that make them anew.
 
-use reference::vectors::{edits, files, leaves};
+use reference::vectors::{edits, files, leaves, lines};
 
 fn stored(name: &str) -> Vec<u8> {
     let path = concat!(env!("CARGO_MANIFEST_DIR"), "/../../crates/").to_string() + name;
@@ -44,4 +44,10 @@ fn file_vectors() {
 fn edit_vectors() {
     same("edit_vectors/stdin", &edits::make(6));
     same("edit_vectors/stdout", &edits::answer(&stored("edit_vectors/stdin")));
+}
+
+#[test]
+fn line_vectors() {
+    same("line_vectors/stdin", &lines::make(9));
+    same("line_vectors/stdout", &lines::answer(&stored("line_vectors/stdin")));
 }
