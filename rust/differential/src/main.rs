@@ -1,5 +1,6 @@
-//! `differential [CASES [SEED]]`: every area with so many cases (a million if not said), from a seed, and every byte of small files and every
-//! line end. Ends with status 1 and the case at the first difference.
+//! `differential [CASES [SEED [WORDS]]]`: every area with so many cases (a million if not said), from a seed, and every byte of small files and
+//! every line end; with words, only what has them in its name, as `differential 1000000 7 "line end"`. Ends with status 1 and the case at the first
+//! difference.
 
 use differential::{every_byte_of_a_sheet, every_byte_of_an_index, every_byte_of_lines, every_line_end, Answers, AREAS};
 use reference::random::Random;
@@ -12,7 +13,7 @@ type Run = fn(u64) -> Result<Answers, String>;
 const EVERY_BYTE: [(&str, Run); 4] = [
     ("every byte of a sheet", every_byte_of_a_sheet),
     ("every byte of an index", every_byte_of_an_index),
-    ("every byte of lines", every_byte_of_lines),
+    ("every byte with line ends", every_byte_of_lines),
     ("every line end", every_line_end),
 ];
 
@@ -21,7 +22,7 @@ fn report(name: &str, start: Instant, found: Result<Answers, String>) {
         Ok(answers) => {
             let cases: usize = answers.0.values().sum();
             println!(
-                "{name:<24} {cases:>10} cases, no difference, {:>6.1} s; answers {:?}",
+                "{name:<26} {cases:>10} cases, no difference, {:>6.1} s; answers {:?}",
                 start.elapsed().as_secs_f64(),
                 answers.0
             );
@@ -38,23 +39,40 @@ fn number(word: Option<String>, default: u64) -> u64 {
         return default;
     };
     word.parse().unwrap_or_else(|_| {
-        eprintln!("not a number: {word}\nusage: differential [CASES [SEED]]");
+        eprintln!("not a number: {word}\nusage: differential [CASES [SEED [WORDS]]]");
         exit(2)
     })
+}
+
+/// So many cases of each area whose name has these words; answers how many areas.
+fn random_cases(cases: usize, seed: u64, words: &str) -> usize {
+    let named: Vec<_> = AREAS.iter().filter(|area| area.name.contains(words)).collect();
+    for area in &named {
+        let start = Instant::now();
+        let mut answers = Answers::default();
+        let done = (area.run)(&mut Random(seed), cases, &mut answers);
+        report(area.name, start, done.map(|()| answers));
+    }
+    named.len()
+}
+
+/// What is tried byte by byte, where its name has these words; answers how many of them.
+fn every_byte(seed: u64, words: &str) -> usize {
+    let named: Vec<_> = EVERY_BYTE.iter().filter(|(name, _)| name.contains(words)).collect();
+    for (name, run) in &named {
+        let start = Instant::now();
+        report(name, start, run(seed));
+    }
+    named.len()
 }
 
 fn main() {
     let mut words = std::env::args().skip(1);
     let cases = number(words.next(), 1_000_000);
     let seed = number(words.next(), 1);
-    for area in &AREAS {
-        let start = Instant::now();
-        let mut answers = Answers::default();
-        let done = (area.run)(&mut Random(seed), cases as usize, &mut answers);
-        report(area.name, start, done.map(|()| answers));
-    }
-    for (name, run) in EVERY_BYTE {
-        let start = Instant::now();
-        report(name, start, run(seed));
+    let words = words.next().unwrap_or_default();
+    if random_cases(cases as usize, seed, &words) + every_byte(seed, &words) == 0 {
+        eprintln!("nothing has these words in its name: {words}");
+        exit(2);
     }
 }
