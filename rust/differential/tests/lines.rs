@@ -1,9 +1,10 @@
-//! What random files with line ends do not reach: 200,000 records, the ends of the numbers, and which of two refusals comes first there. Each answer
-//! is stated here by hand.
+//! What random files with line ends do not reach: faults deep in large files, the technician's grid, 200,000 records, the ends of the numbers, and
+//! which of two refusals comes first there.
 
-use reference::lines::{with_ends, LINE};
+use reference::lines::{self, with_ends, LINE};
+use reference::random::Random;
 use reference::{sheets, RECORD};
-use zvaigulta::{from_lines, judge_index_lines, judge_sheet_lines, to_lines, Refusal};
+use zvaigulta::{from_lines, judge_index_lines, judge_sheet, judge_sheet_lines, to_lines, Refusal};
 
 const MOST: usize = 200_000;
 
@@ -18,6 +19,49 @@ fn all_refuse(buffer: &[u8], used: usize, room: usize, expected: (u64, usize)) {
     assert_eq!(refused(judge_index_lines(buffer, used)), Some(expected));
     assert_eq!(refused(from_lines(buffer, used, &mut target)), Some(expected));
     assert!(target.iter().all(|b| *b == b'.'));
+}
+
+/// One layer of so many items of all kinds of elements.
+fn large_sheet(r: &mut Random, items: usize) -> Vec<u8> {
+    let kinds: Vec<usize> = (0..items).map(|_| 1 + r.below(8)).collect();
+    let counts: Vec<(usize, usize)> = (1..=8).map(|kind| (kind, kinds.iter().filter(|k| **k == kind).count())).collect();
+    let mut body = vec![sheets::layer(&counts)];
+    kinds.iter().for_each(|kind| body.extend(sheets::item(r, *kind, 2)));
+    sheets::sheet_of(r, body, items)
+}
+
+/// With line ends it is the answer for the plain twin, by the library itself and by the reference, at whatever record the fault is.
+#[test]
+fn faults_deep_in_large_files() {
+    let mut r = Random(86);
+    let sheet = large_sheet(&mut r, 1_200);
+    let mut deepest = 0;
+    for n in 0..400 {
+        let plain = if n == 0 { sheet.clone() } else { sheets::damaged(&mut r, &sheet) };
+        let file = with_ends(&plain);
+        let answer = judge_sheet_lines(&file, file.len());
+        assert_eq!(answer, judge_sheet(&plain, plain.len()), "case {n}");
+        assert_eq!(refused(answer), lines::sheet(&file, file.len()).err().map(|e| (e.number.into(), e.record)), "case {n}");
+        deepest = deepest.max(answer.err().and_then(|e| e.record).unwrap_or(0));
+    }
+    assert!(2 * deepest > sheet.len() / RECORD, "{deepest}");
+}
+
+/// 70,000 data records: of each that is lost the grid's header tells, and of an end that is broken its own record.
+#[test]
+fn the_technicians_grid() {
+    let mut body = vec![sheets::layer(&[(9, 1)])];
+    body.extend(sheets::large_grid(1_000, 840));
+    let mut file = with_ends(&sheets::sheet_of(&mut Random(3), body, 1));
+    let (used, records) = (file.len(), file.len() / LINE);
+    assert_eq!(judge_sheet_lines(&file, used).map(|c| (c.records, c.items)), Ok((records, 1)));
+    for lost in [1, 65_536] {
+        assert_eq!(refused(judge_sheet_lines(&file, used - lost * LINE)), Some((3, records - 70_000)));
+    }
+    for nth in [records, 65_537, 65_536, 257, 256] {
+        file[nth * LINE - 2] = b' ';
+        assert_eq!(refused(judge_sheet_lines(&file, used)), Some((18, nth)));
+    }
 }
 
 #[test]
