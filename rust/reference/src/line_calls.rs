@@ -2,6 +2,7 @@
 //! against the library.
 
 use crate::lines::{with_ends, END, LINE};
+use crate::protocol::hex;
 use crate::random::Random;
 use crate::{sheets, MOST_RECORDS, RECORD};
 
@@ -178,4 +179,22 @@ pub fn from_lines(r: &mut Random) -> Writing {
     };
     let from = lent(r, file, LINE);
     with_target(r, from, LINE)
+}
+
+/// A drawn call as a command of the batch protocol.
+fn command(r: &mut Random) -> String {
+    let judge = |kind: &str, lent: Lent| format!("judge86 {kind} {} {}", lent.used, hex(&lent.buffer));
+    let write = |word: &str, call: Writing| format!("{word} {} {} {}", call.from.used, hex(&call.from.buffer), hex(&call.target));
+    match r.below(4) {
+        0 => judge("sheet", judging(r, true)),
+        1 => judge("index", judging(r, false)),
+        2 => write("to86", to_lines(r)),
+        _ => write("from86", from_lines(r)),
+    }
+}
+
+/// So many commands from a seed, one to a line.
+pub fn commands(seed: u64, count: usize) -> Vec<u8> {
+    let mut r = Random(seed);
+    (0..count).flat_map(|_| (command(&mut r) + "\n").into_bytes()).collect()
 }

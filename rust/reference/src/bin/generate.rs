@@ -1,5 +1,7 @@
-//! Makes commands of the batch protocol from a seed: `generate leaves SEED COUNT`.
+//! Makes commands of the batch protocol from a seed: `generate leaves SEED COUNT` on columns and corners, `generate lines SEED COUNT` on files with
+//! line ends.
 
+use reference::line_calls;
 use reference::vectors::leaves;
 use std::io::{self, Write};
 
@@ -10,8 +12,11 @@ fn main() -> io::Result<()> {
         ["leaves", seed, count] => {
             io::stdout().write_all(&leaves::make(seed.parse().expect("a seed"), count.parse().expect("a count")))
         }
+        ["lines", seed, count] => {
+            io::stdout().write_all(&line_calls::commands(seed.parse().expect("a seed"), count.parse().expect("a count")))
+        }
         _ => {
-            eprintln!("usage: generate leaves SEED COUNT");
+            eprintln!("usage: generate leaves|lines SEED COUNT");
             std::process::exit(2);
         }
     }
