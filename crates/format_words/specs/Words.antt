@@ -20,10 +20,10 @@ unfoldable pub entry : {A : Type 0} → ℕ → List A → Answer A
 entry zero l = refused 16 0
 entry (suc n) l = fromZero n l
 
--- the words of the refusals, from 1 to 17
+-- the words of the refusals, from 1 to 18
 unfoldable pub refusals : List String
 refusals =
-    "the length is 0, above the buffer, not a multiple of 84 bytes, or above 200,000 records" ∷
+    "the length is 0, above the buffer, no multiple of 84 (lines: 86) or above 200,000 records" ∷
     "record 1 does not start with the type that was asked for" ∷
     "a record that is needed is missing" ∷
     "the record is not H, E1 to E8, G or T, where one of these is due" ∷
@@ -39,7 +39,8 @@ refusals =
     "a header's total, its grid and net count or the file's records would pass their limit" ∷
     "the buffer is too short for the result" ∷
     "the number does not fit, the width or unit is not allowed, or the corner cannot be split" ∷
-    "the record number is outside the file or in the sheet part" ∷ []
+    "the record number is outside the file or in the sheet part" ∷
+    "a record does not end in carriage return and line feed" ∷ []
 
 -- a text at the start of a lent buffer, without an end mark; the bytes behind it stay. "a buffer is too short for the result" is 15
 abbrev pub textTo : Answer String → (out : List ℕ) → Outcome ℕ

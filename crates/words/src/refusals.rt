@@ -1,8 +1,8 @@
 // The words of the refusals, in the order of their numbers.
 
 // 1.
-pub const LENGTH: [u8; 87] =
-    *b"the length is 0, above the buffer, not a multiple of 84 bytes, or above 200,000 records";
+pub const LENGTH: [u8; 89] =
+    *b"the length is 0, above the buffer, no multiple of 84 (lines: 86) or above 200,000 records";
 
 // 2.
 pub const FILE_TYPE: [u8; 56] = *b"record 1 does not start with the type that was asked for";
@@ -57,3 +57,6 @@ pub const NUMBER: [u8; 88] =
 
 // 17.
 pub const RECORD_NUMBER: [u8; 58] = *b"the record number is outside the file or in the sheet part";
+
+// 18.
+pub const LINE_END: [u8; 54] = *b"a record does not end in carriage return and line feed";

@@ -109,6 +109,12 @@ slice-aggregate-put-text-line-17 c = search needs
 put-text-line-requires-17 : tie.Need-put-text-line-requires-17
 put-text-line-requires-17 c κs = search needs
 
+slice-aggregate-put-text-line-18 : tie.Need-slice-aggregate-put-text-line-18
+slice-aggregate-put-text-line-18 c = search needs
+
+put-text-line-requires-18 : tie.Need-put-text-line-requires-18
+put-text-line-requires-18 c κs = search needs
+
 same-length : tie.Need-same-length
 same-length c = search needs
 
@@ -228,9 +234,16 @@ returns-17 : tie.Need-returns-17
 unfolding entry refusals bytes
 returns-17 c = said _ 17 _ _ _ (search needs) refl (c .before .before .put-text-line17 .ensures)
 
+same-length-18 : tie.Need-same-length-18
+same-length-18 c = search needs
+
 returns-18 : tie.Need-returns-18
+unfolding entry refusals bytes
+returns-18 c = said _ 18 _ _ _ (search needs) refl (c .before .before .put-text-line18 .ensures)
+
+returns-19 : tie.Need-returns-19
 unfolding refusals
-returns-18 c = not-said _ _ (outside 17 _ refusals (c .match .rest) refl)
+returns-19 c = not-said _ _ (outside 18 _ refusals (c .match .rest) refl)
 
 pub refusal-text-spec : {M : Type 1} → statement M
 refusal-text-spec =
@@ -270,6 +283,8 @@ refusal-text-spec =
     put-text-line-requires-16
     slice-aggregate-put-text-line-17
     put-text-line-requires-17
+    slice-aggregate-put-text-line-18
+    put-text-line-requires-18
     same-length
     returns
     same-length-2
@@ -304,4 +319,6 @@ refusal-text-spec =
     returns-16
     same-length-17
     returns-17
-    returns-18)
+    same-length-18
+    returns-18
+    returns-19)
