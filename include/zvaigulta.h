@@ -34,9 +34,9 @@
 extern "C" {
 #endif
 
-/* The version of this header as one number, 200 for 0.2.0; `zv_version` answers that of the library. */
+/* The version of this header as one number, 300 for 0.3.0; `zv_version` answers that of the library. */
 #define ZV_VERSION_MAJOR 0
-#define ZV_VERSION_MINOR 2
+#define ZV_VERSION_MINOR 3
 #define ZV_VERSION_PATCH 0
 #define ZV_VERSION (ZV_VERSION_MAJOR * 10000 + ZV_VERSION_MINOR * 100 + ZV_VERSION_PATCH)
 
