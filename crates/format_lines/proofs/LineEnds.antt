@@ -16,7 +16,7 @@ use Rattle.format.proofs.Basics.{unless-zero}
 use Rattle.format.proofs.ChecksParts.{same-decides}
 use Rattle.format.proofs.Lists.{Wide, length-flat, length-chunks}
 use Rattle.format.proofs.JudgeWalks.{orElse-none, toFault-none}
-use Rattle.format.proofs.JudgeStages.{WholeOf, Whole, length-ok, whole-ok}
+use Rattle.format.proofs.JudgeStages.{WholeOf, length-ok, whole-ok}
 use Rattle.format.proofs.JudgeRecords.{wide-84, some-84, few-84, taken, sheet-own, index-own, whole-84, chunks-at, sheet-by, index-by}
 
 -- ---- records with their line ends

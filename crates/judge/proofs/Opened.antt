@@ -10,9 +10,7 @@ use Rattle.format.specs.Layout.{numberAt, sheetB}
 use Rattle.format.specs.Sheet.{corners, partLength, statedElements}
 use Rattle.format.specs.Judge.{Counts, File, judgeSheet, sheetIn, AcceptedSheet}
 use Rattle.format.specs.Edit.{dueBehind, openBehind, bodyPlace}
-use Rattle.format.specs.Answers.{judgedAnswer}
-use Rattle.format.specs.declared.Judged.the-variants.{Accepted, Refused}
-use Rattle.format.proofs.AcceptedSheet.{verdict-is, elements-are}
+use Rattle.format.proofs.AcceptedSheet.{elements-are}
 use Rattle.format.proofs.ChecksJudging.{sheet-numbered}
 use Rattle.judge.specs.declared.Sheet.{Sheet}
 use Rattle.judge.specs.Sheet.{bodyBefore, startBefore, headerBefore, openedSheet, openedIn}

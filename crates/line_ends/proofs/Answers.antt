@@ -4,26 +4,24 @@ use mathlib.Core.Bool.{Bool, true, false, not}
 use mathlib.Core.List.{List, _++_, map}
 use Prim.Native.Nat.{ℕ, zero, suc, _*_, _/_, _≤_, _<_}
 use native.Mathlib.Omega.{arith}
-use borrow.Author.Tests.{not-true, not-false, lt-leb, le-leb}
-use lib.Dec.{leb}
+use borrow.Author.Tests.{not-true, not-false, lt-leb}
 use lib.ListN.{length, length-map, take, drop}
 use Rattle.format.proofs.Lists.{length-chunks}
 use lib.Seq.{length-take-le}
-use Rattle.format.specs.Basics.{Answer, Outcome, given, refused, Fault, none, fault, orElse, toFault, unless, chunks, flat}
+use Rattle.format.specs.Basics.{Answer, given, none, fault, toFault, chunks, flat}
 use Rattle.format.specs.Basics as Basics
 use Rattle.format.specs.Judge.{Counts, judgeRecords, judgeIndexRecords, afterStageOne}
 use Rattle.format.specs.Answers.{judgedAnswer, writtenAnswer}
 use Rattle.format.specs.declared.Judged.the-variants as Judged
 use Rattle.format.specs.declared.Written.the-variants as Written
 use Rattle.format.proofs.JudgeStages.{WholeOf, length-ok, whole-ok}
-use Rattle.format_lines.specs.LineEnds.{lines, withEnd, withoutEnd, endFault, plainFault, lineFault, plainTwin, lineTwin, otherwise, judgeSheetLines, judgeIndexLines, targetFault, writeTo, toLines, fromLines}
+use Rattle.format_lines.specs.LineEnds.{lines, withEnd, withoutEnd, endFault, plainFault, lineFault, plainTwin, lineTwin, judgeSheetLines, judgeIndexLines, toLines, fromLines}
 use Rattle.format_lines.proofs.LineEnds.{lined-form, length-lines, sheet-records, index-records, length-lineTwin, length-plainTwin, does}
 use Rattle.files.specs.declared.Stride.the-variants.{Plain, Lines}
 use Rattle.files.specs.Records.{strideOf, recordsOf, lengthOk}
 use Rattle.files.proofs.Records.{front-records}
 use Rattle.judge.specs.Sheet.{judgeBy}
-use Rattle.line_ends.specs.Ends.{endFaultOf}
-use Rattle.line_ends.specs.declared.Fault as Declared
+use Rattle.line_ends.specs.Steps.{endFaultOf}
 use Rattle.line_ends.proofs.Records as Records
 use Rattle.line_ends.proofs.Records.{front-lines}
 

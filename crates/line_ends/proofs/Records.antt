@@ -1,7 +1,7 @@
 -- The lines of a file in the front of a buffer, and its records at the stride of lines. Assumes nothing.
 use mathlib.Core.Path.{_≡_, refl, ap, ap₂, sym, _∙_}
 use mathlib.Core.Bool.{Bool, true, false, not, _&&_}
-use mathlib.Core.List.{List, [], _∷_, _++_, map}
+use mathlib.Core.List.{List, _∷_, _++_, map}
 use Prim.Native.Nat.{ℕ, zero, suc, _+_, _-_, _*_, _/_, _≤_, _<_}
 use native.Mathlib.Numerals.{add-one}
 use native.Mathlib.Omega.{arith}
@@ -10,14 +10,14 @@ use borrow.Author.Tests.{not-true, not-false, eq-eqb, ne-eqb}
 use lib.ListN.{length, take, drop, getD, length-drop, take-append-drop}
 use lib.Seq.{length-take-le, getD-drop, take-take, take-append-le, drop-append-le, drop-drop}
 use Rattle.format.proofs.ChecksOrder.{Decides, decides-map, decides-and, decides-eqb, surely}
-use Rattle.format.specs.Basics.{Fault, none, fault, orElse, toFault, unless}
+use Rattle.format.specs.Basics.{orElse, toFault, unless}
 use Rattle.format_lines.specs.LineEnds.{lines, withoutEnd, endOk, endFault}
 use Rattle.format_lines.specs.LineEndsChecks.{Ended}
 use Rattle.format_lines.proofs.LineEndsRefused.{first-decides}
 use Rattle.files.specs.declared.Stride.the-variants.{Lines}
 use Rattle.files.specs.Records.{strideOf, spaced, recordsOf}
 use Rattle.files.proofs.Records.{length-records}
-use Rattle.line_ends.specs.Ends.{endFaultOf}
+use Rattle.line_ends.specs.Steps.{endFaultOf}
 
 lines-front : (n : ℕ) (front rest : List ℕ) → 86 * n ≤ length front → lines n front ≡ lines n (front ++ rest)
 lines-front zero front rest h = refl

@@ -1,15 +1,14 @@
 // Files with line ends: records of 84 bytes, each with carriage return and line feed behind it. Judging that form in place, and writing to it and from it.
 ghost use mathlib.Core.Path.{_≡_};
-ghost use mathlib.Core.List.{_++_, map};
 ghost use Prim.Native.Nat.{_+_, _*_, _/_, _≤_};
 ghost use lib.ListN.{length, take, drop};
-ghost use Rattle.format.specs.Basics.{toFault, flat};
+ghost use Rattle.format.specs.Basics.{toFault};
 ghost use Rattle.format.specs.Answers.{judgedAnswer, writtenAnswer};
 ghost use Rattle.format_lines.specs.LineEnds.{lines, withEnd, endOk, endFault, lineFault, judgeSheetLines, judgeIndexLines, toLines, fromLines};
 ghost use Rattle.files.specs.declared.Stride.the-variants.{Plain, Lines};
 ghost use Rattle.files.specs.Records.{recordsOf};
 ghost use Rattle.files.specs.Buffers.{putAt};
-ghost use Rattle.line_ends.specs.Ends.{endFaultOf};
+ghost use Rattle.line_ends.specs.Steps.{endFaultOf, linesFirst, recordsFirst};
 use files::Stride;
 use format::Judged;
 use format::Written;
@@ -101,7 +100,7 @@ fn put_line(target: &mut [u8], start: usize, record: &[u8])
 // Every record of a plain file, each with its line end, to the front of the target.
 fn write_lines(file: &[u8], target: &mut [u8])
     requires { ⌜ 86 * length (recordsOf Plain (now file)) ≤ length (now target) ⌝ }
-    ensures { λ _. ⌜ now (target .exit) ≡ flat (map withEnd (recordsOf Plain (now (file .entry)))) ++ drop (86 * length (recordsOf Plain (now (file .entry)))) (now (target .entry)) ⌝ }
+    ensures { λ _. ⌜ now (target .exit) ≡ linesFirst (recordsOf Plain (now (file .entry))) (now (target .entry)) ⌝ }
 {
     let count = files::count(file, Stride::Plain);
     let mut k = 0;
@@ -115,7 +114,7 @@ fn write_lines(file: &[u8], target: &mut [u8])
 // Every record of a file with line ends, without them, to the front of the target.
 fn write_records(file: &[u8], target: &mut [u8])
     requires { ⌜ 84 * length (recordsOf Lines (now file)) ≤ length (now target) ⌝ }
-    ensures { λ _. ⌜ now (target .exit) ≡ flat (recordsOf Lines (now (file .entry))) ++ drop (84 * length (recordsOf Lines (now (file .entry)))) (now (target .entry)) ⌝ }
+    ensures { λ _. ⌜ now (target .exit) ≡ recordsFirst (recordsOf Lines (now (file .entry))) (now (target .entry)) ⌝ }
 {
     let count = files::count(file, Stride::Lines);
     let mut k = 0;
