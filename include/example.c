@@ -21,7 +21,7 @@ static const char SHEET[] =
 
 static const char INDEX[] = "I  9City survey office            000 0   0002008Regulation                    10   ";
 
-enum { USED = 9 * ZV_RECORD_BYTES, BLOCK = 3 * ZV_RECORD_BYTES, ROOM = USED + BLOCK };
+enum { USED = 9 * ZV_RECORD_BYTES, BLOCK = 3 * ZV_RECORD_BYTES, ROOM = USED + BLOCK, LINES = 9 * ZV_LINE_RECORD_BYTES };
 
 static int wrong = 0;
 
@@ -78,6 +78,32 @@ static void judging(uint8_t *buffer)
     check("zv_judge_index", counts.refusal == ZV_ACCEPTED && counts.records == 1 && counts.items == 0);
     counts = zv_judge_index(buffer, ROOM, USED);
     check("zv_judge_index of a sheet", counts.refusal == ZV_FILE_TYPE && counts.at == 1);
+}
+
+/* The sheet with line ends: written, judged and written back; then with the line feed of record 3 lost. */
+static void line_ends(const uint8_t *buffer)
+{
+    static uint8_t lines[LINES], plain[USED];
+    struct zv_length form = zv_to_lines(buffer, ROOM, USED, lines, sizeof lines);
+    struct zv_counts counts = zv_judge_sheet_lines(lines, sizeof lines, form.length);
+    printf("zv_to_lines: %zu bytes\n", form.length);
+    check("zv_to_lines", form.refusal == ZV_ACCEPTED && form.length == LINES && memcmp(lines + ZV_RECORD_BYTES, "\r\n  -1234", 9) == 0);
+    check("zv_to_lines no room", zv_to_lines(buffer, ROOM, USED, lines, LINES - 1).refusal == ZV_ROOM);
+    check("zv_judge_sheet_lines", counts.refusal == ZV_ACCEPTED && counts.records == 9 && counts.items == 1);
+    form = zv_from_lines(lines, sizeof lines, LINES, plain, sizeof plain);
+    printf("zv_from_lines: %zu bytes\n", form.length);
+    check("zv_from_lines", form.refusal == ZV_ACCEPTED && form.length == USED && memcmp(plain, SHEET, USED) == 0);
+    lines[3 * ZV_LINE_RECORD_BYTES - 1] = ' ';
+    counts = zv_judge_sheet_lines(lines, sizeof lines, LINES);
+    printf("zv_judge_sheet_lines without a line feed: refused %llu at record %zu\n", (unsigned long long)counts.refusal, counts.at);
+    check("zv_judge_sheet_lines damaged", counts.refusal == ZV_LINE_END && counts.at == 3 && counts.records == 0);
+    form = zv_from_lines(lines, sizeof lines, LINES, plain, sizeof plain);
+    check("zv_from_lines damaged", form.refusal == ZV_LINE_END && form.at == 3 && memcmp(plain, SHEET, USED) == 0);
+    form = zv_to_lines((const uint8_t *)INDEX, ZV_RECORD_BYTES, ZV_RECORD_BYTES, lines, sizeof lines);
+    counts = zv_judge_index_lines(lines, sizeof lines, form.length);
+    check("zv_judge_index_lines", counts.refusal == ZV_ACCEPTED && counts.records == 1 && counts.items == 0);
+    counts = zv_judge_index_lines(lines, sizeof lines, ZV_RECORD_BYTES);
+    check("zv_judge_index_lines of a plain length", counts.refusal == ZV_LENGTH && counts.at == 0);
 }
 
 static void normal_forms(uint8_t *buffer)
@@ -215,6 +241,7 @@ int main(int argc, char **argv)
     columns();
     corners();
     judging(buffer);
+    line_ends(buffer);
     normal_forms(buffer);
     edits(buffer);
     ways_up(buffer);

@@ -4,6 +4,9 @@
  * A file is bytes in a buffer: records of 84 bytes without line ends, a sheet or an index. `used` is the length of the file in its buffer,
  * which may be longer. Records number from 1.
  *
+ * In the form with line ends, carriage return and line feed (13, 10) stand behind each record, 86 bytes in all. `zv_judge_sheet_lines`,
+ * `zv_judge_index_lines` and `zv_from_lines` read it, `zv_to_lines` writes it; every other call reads and writes plain records alone.
+ *
  * Every call answers every content of its buffers and every number, and returns. A refused call changes no byte of any buffer. No call keeps
  * a pointer, takes memory from the heap or has state of its own, so calls on different buffers may run at the same time.
  *
@@ -40,8 +43,9 @@ extern "C" {
 #define ZV_VERSION_PATCH 0
 #define ZV_VERSION (ZV_VERSION_MAJOR * 10000 + ZV_VERSION_MINOR * 100 + ZV_VERSION_PATCH)
 
-/* Bytes of a record, and the most records of a file. */
+/* Bytes of a record, plain and with its line end, and the most records of a file. */
 #define ZV_RECORD_BYTES 84
+#define ZV_LINE_RECORD_BYTES 86
 #define ZV_MOST_RECORDS 200000
 
 /* Room that always holds the line of `zv_report`, the words of a refusal, and the name of a column. */
@@ -55,7 +59,7 @@ extern "C" {
 enum zv_refusal {
     /* The call was accepted. */
     ZV_ACCEPTED = 0,
-    /* The used length is 0, above the buffer, not a multiple of 84, or above 200,000 records. */
+    /* The used length is 0, above the buffer, no multiple of 84 (of 86 where line ends are read), or above 200,000 records. */
     ZV_LENGTH = 1,
     /* Record 1 does not start with the asked type (1). */
     ZV_FILE_TYPE = 2,
@@ -88,7 +92,9 @@ enum zv_refusal {
     /* A number does not fit the width, a width or unit is not allowed, or a corner cannot be split; there is no such refusal, layout or column. */
     ZV_NUMBER = 16,
     /* The record number is outside the file, or in the sheet part. */
-    ZV_RECORD_NUMBER = 17
+    ZV_RECORD_NUMBER = 17,
+    /* A record of a file with line ends does not end in carriage return and line feed (the first such record). */
+    ZV_LINE_END = 18
 };
 
 /* The nineteen record layouts, in the order of document 01. */
@@ -165,7 +171,7 @@ struct zv_counts {
 struct zv_length {
     uint64_t refusal;
     size_t at;
-    /* The written column's width, the length of a normal form or of a text, or the new used length after an edit. */
+    /* The written column's width, the length of the file or text that was written, or the new used length after an edit. */
     size_t length;
 };
 
@@ -262,6 +268,27 @@ struct zv_counts zv_judge_sheet(const uint8_t *buffer, size_t length, size_t use
 struct zv_counts zv_judge_index(const uint8_t *buffer, size_t length, size_t used);
 
 /*
+ * Judges the first `used` bytes of a buffer as a sheet with line ends. Refusals: 1 with multiples of 86; 18 with the first record of the whole file
+ * that does not end in 13, 10; then 2 to 10, as `zv_judge_sheet` answers for the same records without their line ends.
+ */
+struct zv_counts zv_judge_sheet_lines(const uint8_t *buffer, size_t length, size_t used);
+
+/* The same for an index. Refusals 1 and 18, then 2 to 6 and 10. */
+struct zv_counts zv_judge_index_lines(const uint8_t *buffer, size_t length, size_t used);
+
+/*
+ * Writes a plain file with line ends to a target, and answers its length, 86 bytes for each record. Bytes of the target past it stay. Judges nothing
+ * but the length. Refusals: 1, then 15 where the target is too short.
+ */
+struct zv_length zv_to_lines(const uint8_t *buffer, size_t length, size_t used, uint8_t *target, size_t target_length);
+
+/*
+ * Writes a file with line ends without them to a target, and answers its length, 84 bytes for each record. Bytes of the target past it stay. Judges
+ * nothing but the length and the line ends. Refusals: 1 with multiples of 86, 18, then 15 where the target is too short.
+ */
+struct zv_length zv_from_lines(const uint8_t *buffer, size_t length, size_t used, uint8_t *target, size_t target_length);
+
+/*
  * Writes the normal form of a sheet, every judged integer in written form, to a second buffer, and answers its length, which is `used`. Bytes of
  * the second buffer past it stay. Judges first (1 to 10); refusal 15 where the second buffer is too short.
  */
@@ -294,7 +321,7 @@ struct zv_length zv_report(const uint8_t *input, size_t input_length, uint8_t *o
 
 /*
  * Puts the words of a refusal at the start of a buffer, and answers their length: ASCII, no end mark. Bytes behind them stay. Refusals: 15 where the
- * buffer is too short, ZV_TEXT_BYTES are always enough; 16 for a number that is no refusal: 0, which is no refusal but an answer, and any above 17.
+ * buffer is too short, ZV_TEXT_BYTES are always enough; 16 for a number that is no refusal: 0, which is no refusal but an answer, and any above 18.
  */
 struct zv_length zv_refusal_text(uint64_t number, uint8_t *out, size_t out_length);
 

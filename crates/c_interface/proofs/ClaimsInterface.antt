@@ -15,6 +15,7 @@ use Rattle.format.specs.Calls.{Edit}
 use Rattle.format.specs.Run.{Buffer, call}
 use Rattle.format.specs.Normal.{normalSheet, normalIndex}
 use Rattle.format.specs.Program.{reportTo}
+use Rattle.format_lines.specs.LineEnds.{judgeSheetLines, judgeIndexLines, toLines, fromLines}
 use Rattle.c_interface.specs.declared.ZvWay.{ZvWay}
 use Rattle.c_interface.specs.declared.ZvNumber.{ZvNumber}
 use Rattle.c_interface.specs.declared.ZvCorner.{ZvCorner}
@@ -28,7 +29,7 @@ use Rattle.format_words.specs.Words.{refusalTo, layoutColumn, describedOf, name
 use Rattle.c_interface.specs.Interface.{numberOf, cornerOf, countsOf, lengthOf, wayOf, columnOf, Numbered, answers, refuses, WayNumbered, hasNone, hasHeader, refusesWay}
 use lib.ListN.{length}
 use Rattle.c_interface.proofs.Rooms.{line-has-room, refusal-has-room, name-has-room}
-use Rattle.c_interface.proofs.Numbered.{column-read, column-written, joined, parted, judged-sheet, judged-index, way-numbered, sheet-written, index-written, line-written, refusal-written, column-found, name-written, edited}
+use Rattle.c_interface.proofs.Numbered.{column-read, column-written, joined, parted, judged-sheet, judged-index, judged-sheet-lines, judged-index-lines, lines-written, plain-written, way-numbered, sheet-written, index-written, line-written, refusal-written, column-found, name-written, edited}
 
 -- ---- what the calls answer
 pub read-numbered : (column : List ℕ) → Numbered (readAlone column)
@@ -48,6 +49,18 @@ sheet-numbered = judged-sheet
 
 pub index-numbered : (used : ℕ) (buffer : List ℕ) → Numbered (judgeIndex used buffer)
 index-numbered = judged-index
+
+pub sheet-lines-numbered : (used : ℕ) (buffer : List ℕ) → Numbered (judgeSheetLines used buffer)
+sheet-lines-numbered = judged-sheet-lines
+
+pub index-lines-numbered : (used : ℕ) (buffer : List ℕ) → Numbered (judgeIndexLines used buffer)
+index-lines-numbered = judged-index-lines
+
+pub to-lines-numbered : (used : ℕ) (buffer target : List ℕ) → Numbered ((toLines used buffer target) .answer)
+to-lines-numbered = lines-written
+
+pub from-lines-numbered : (used : ℕ) (buffer target : List ℕ) → Numbered ((fromLines used buffer target) .answer)
+from-lines-numbered = plain-written
 
 pub up-numbered : (used : ℕ) (buffer : List ℕ) (number : ℕ) → WayNumbered (up used buffer number)
 up-numbered = way-numbered

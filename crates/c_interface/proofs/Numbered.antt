@@ -9,7 +9,7 @@ use borrow.Author.Tests.{eqb-false}
 use lib.Dec.{leb, ltb, eqb}
 use lib.ListN.{length, drop}
 use lib.IntN.{ℤ}
-use Rattle.format.specs.Basics.{Answer, given, refused, Outcome, chunks, flat}
+use Rattle.format.specs.Basics.{Answer, given, refused, Outcome, Fault, none, fault, orElse, toFault, unless, chunks, flat, lengthOk}
 use Rattle.format.specs.Column.{readAlone, writeAlone, columnAnswer, columnOf, widthOk, fits, written}
 use Rattle.format.specs.declared.Column.{Column}
 use Rattle.format.specs.declared.Column.the-variants.{Value, MinusZero, Malformed}
@@ -29,6 +29,7 @@ use Rattle.format.specs.Normal.{normalTo, normalSheetRecords, normalIndexRecord
 use Rattle.format.specs.Program.{printed, lineTo, reportTo}
 use Rattle.format.specs.Text.{bytes}
 use Rattle.format.specs.Layout.{Col, layouts}
+use Rattle.format_lines.specs.LineEnds.{lines, endOk, endFault, plainFault, lineFault, plainTwin, lineTwin, otherwise, judgeSheetLines, judgeIndexLines, writeTo, targetFault, toLines, fromLines}
 use Rattle.format_words.specs.Words.{fromZero, entry, refusals, textTo, refusalTo, columnIn, layoutColumn, nameOf, nameTo}
 use Rattle.c_interface.specs.Interface.{Numbered, answers, refuses, WayNumbered, hasNone, hasHeader, refusesWay}
 
@@ -56,6 +57,54 @@ given-or n false a = refuses
 written-or : (n : ℕ) (t : Bool) (size : ℕ) (new old : List ℕ) → Numbered ((cond {A = Outcome ℕ} t (record { answer = given size; bytes = new }) (record { answer = refused (suc n) 0; bytes = old })) .answer)
 written-or n true size new old = answers
 written-or n false size new old = refuses
+
+-- ---- files with line ends
+data FaultNumbered : Fault → Type 0 where
+  no-fault : FaultNumbered none
+  some-fault : {n at : ℕ} → FaultNumbered (fault (suc n) at)
+
+fault-to : (n at : ℕ) → FaultNumbered (toFault n at)
+fault-to zero at = no-fault
+fault-to (suc n) at = some-fault
+
+fault-or : {f g : Fault} → FaultNumbered f → FaultNumbered g → FaultNumbered (orElse f g)
+fault-or no-fault q = q
+fault-or some-fault q = some-fault
+
+ends-numbered : (number : ℕ) (ls : List (List ℕ)) → FaultNumbered (endFault number ls)
+ends-numbered number [] = no-fault
+ends-numbered number (l ∷ ls) = fault-or (fault-to (unless (endOk l) 18) number) (ends-numbered (suc number) ls)
+
+lines-numbered : (used : ℕ) (buffer : List ℕ) → FaultNumbered (lineFault used buffer)
+unfolding lineFault
+lines-numbered used buffer = fault-or (fault-to (unless (lengthOk 86 used buffer) 1) 0) (ends-numbered 1 (lines (used / 86) buffer))
+
+judged-otherwise : {f : Fault} {a : Answer Counts} → FaultNumbered f → Numbered a → Numbered (otherwise f a)
+judged-otherwise no-fault q = q
+judged-otherwise some-fault q = refuses
+
+pub judged-sheet-lines : (used : ℕ) (buffer : List ℕ) → Numbered (judgeSheetLines used buffer)
+unfolding judgeSheetLines
+judged-sheet-lines used buffer = judged-otherwise (lines-numbered used buffer) (judged-sheet (length (plainTwin used buffer)) (plainTwin used buffer))
+
+pub judged-index-lines : (used : ℕ) (buffer : List ℕ) → Numbered (judgeIndexLines used buffer)
+unfolding judgeIndexLines
+judged-index-lines used buffer = judged-otherwise (lines-numbered used buffer) (judged-index (length (plainTwin used buffer)) (plainTwin used buffer))
+
+file-written : {f : Fault} (result target : List ℕ) → FaultNumbered f → Numbered ((writeTo (orElse f (targetFault result target)) result target) .answer)
+file-written result target p = go (fault-or p (fault-to (unless (leb (length result) (length target)) 15) 0))
+  where
+    go : {g : Fault} → FaultNumbered g → Numbered ((writeTo g result target) .answer)
+    go no-fault = answers
+    go some-fault = refuses
+
+pub lines-written : (used : ℕ) (buffer target : List ℕ) → Numbered ((toLines used buffer target) .answer)
+unfolding toLines plainFault
+lines-written used buffer target = file-written (lineTwin used buffer) target (fault-to (unless (lengthOk 84 used buffer) 1) 0)
+
+pub plain-written : (used : ℕ) (buffer target : List ℕ) → Numbered ((fromLines used buffer target) .answer)
+unfolding fromLines
+plain-written used buffer target = file-written (plainTwin used buffer) target (lines-numbered used buffer)
 
 -- ---- columns and corners
 column-said : (c : Column) → Numbered (columnAnswer c)

@@ -12,6 +12,7 @@ ghost use Rattle.format.specs.Run.{call};
 ghost use Rattle.format.specs.Normal.{normalSheet, normalIndex};
 ghost use Rattle.format.specs.Answers.{numberAnswer, writtenAnswer, partsAnswer, judgedAnswer, wayUpAnswer, editedAnswer};
 ghost use Rattle.format.specs.Program.{reportTo};
+ghost use Rattle.format_lines.specs.LineEnds.{judgeSheetLines, judgeIndexLines, toLines, fromLines};
 ghost use Rattle.format_words.specs.Words.{refusalTo, layoutColumn, describedOf, nameTo};
 ghost use Rattle.c_interface.specs.Interface.{version, numberOf, cornerOf, countsOf, lengthOf, wayOf, columnOf, wroteOf, editedOf};
 use format::Edited;
@@ -202,6 +203,36 @@ pub extern "C" fn zv_judge_index(buffer: &[u8], used: usize) -> ZvCounts
     ensures { λ r. ⌜ r ≡ countsOf (judgeIndex used (now (buffer .entry))) ⌝ }
 {
     counts(judge::judge_index(buffer, used))
+}
+
+// A sheet with line ends judged, and an index.
+#[no_mangle]
+pub extern "C" fn zv_judge_sheet_lines(buffer: &[u8], used: usize) -> ZvCounts
+    ensures { λ r. ⌜ r ≡ countsOf (judgeSheetLines used (now (buffer .entry))) ⌝ }
+{
+    counts(line_ends::judge_sheet_lines(buffer, used))
+}
+
+#[no_mangle]
+pub extern "C" fn zv_judge_index_lines(buffer: &[u8], used: usize) -> ZvCounts
+    ensures { λ r. ⌜ r ≡ countsOf (judgeIndexLines used (now (buffer .entry))) ⌝ }
+{
+    counts(line_ends::judge_index_lines(buffer, used))
+}
+
+// A file written to a target with line ends, and one with line ends without them: the answer's length is the written file's.
+#[no_mangle]
+pub extern "C" fn zv_to_lines(buffer: &[u8], used: usize, target: &mut [u8]) -> ZvLength
+    ensures { λ r. ⌜ record { result = r; bytes = now (target .exit) } ≡ wroteOf (toLines used (now (buffer .entry)) (now (target .entry))) ⌝ }
+{
+    length(line_ends::to_lines(buffer, used, target))
+}
+
+#[no_mangle]
+pub extern "C" fn zv_from_lines(buffer: &[u8], used: usize, target: &mut [u8]) -> ZvLength
+    ensures { λ r. ⌜ record { result = r; bytes = now (target .exit) } ≡ wroteOf (fromLines used (now (buffer .entry)) (now (target .entry))) ⌝ }
+{
+    length(line_ends::from_lines(buffer, used, target))
 }
 
 fn way(answer: WayUp) -> ZvWay

@@ -13,8 +13,8 @@ enum { ROOM = 12 * ZV_RECORD_BYTES };
 /* An accepted index. */
 static const uint8_t *const INDEX = (const uint8_t *)"I  9City survey office            000 0   0002008Regulation                    10   ";
 
-static uint8_t sheet[ROOM], second[ROOM], held[ROOM];
-static size_t used;
+static uint8_t sheet[ROOM], lines[ROOM], second[ROOM], held[ROOM];
+static size_t used, lines_used;
 
 static void fresh(void)
 {
@@ -53,6 +53,7 @@ static int read_sheet(const char *name)
         return 0;
     used = fread(sheet, 1, ROOM, file);
     fclose(file);
+    lines_used = zv_to_lines(sheet, ROOM, used, lines, ROOM).length;
     return zv_judge_sheet(sheet, ROOM, used).refusal == ZV_ACCEPTED && zv_judge_index(INDEX, 84, 84).refusal == ZV_ACCEPTED;
 }
 
@@ -65,6 +66,12 @@ static void every_pointer(size_t any)
     BOTH(zv_length, "zv_write_column column", zv_write_column(none, 0, 7), zv_write_column(NULL, 0, 7));
     BOTH(zv_counts, "zv_judge_sheet buffer", zv_judge_sheet(none, 0, any), zv_judge_sheet(NULL, 0, any));
     BOTH(zv_counts, "zv_judge_index buffer", zv_judge_index(none, 0, any), zv_judge_index(NULL, 0, any));
+    BOTH(zv_counts, "zv_judge_sheet_lines buffer", zv_judge_sheet_lines(none, 0, any), zv_judge_sheet_lines(NULL, 0, any));
+    BOTH(zv_counts, "zv_judge_index_lines buffer", zv_judge_index_lines(none, 0, any), zv_judge_index_lines(NULL, 0, any));
+    BOTH(zv_length, "zv_to_lines buffer", zv_to_lines(none, 0, any, second, ROOM), zv_to_lines(NULL, 0, any, second, ROOM));
+    BOTH(zv_length, "zv_to_lines target", zv_to_lines(sheet, ROOM, used, none, 0), zv_to_lines(sheet, ROOM, used, NULL, 0));
+    BOTH(zv_length, "zv_from_lines buffer", zv_from_lines(none, 0, any, second, ROOM), zv_from_lines(NULL, 0, any, second, ROOM));
+    BOTH(zv_length, "zv_from_lines target", zv_from_lines(lines, ROOM, lines_used, none, 0), zv_from_lines(lines, ROOM, lines_used, NULL, 0));
     BOTH(zv_length, "zv_normal_sheet buffer", zv_normal_sheet(none, 0, any, second, ROOM), zv_normal_sheet(NULL, 0, any, second, ROOM));
     BOTH(zv_length, "zv_normal_sheet second", zv_normal_sheet(sheet, ROOM, used, none, 0), zv_normal_sheet(sheet, ROOM, used, NULL, 0));
     BOTH(zv_length, "zv_normal_index buffer", zv_normal_index(none, 0, any, second, ROOM), zv_normal_index(NULL, 0, any, second, ROOM));
@@ -87,6 +94,7 @@ int main(int argc, char **argv)
         return 2;
     every_pointer(0);
     every_pointer(ZV_RECORD_BYTES);
+    every_pointer(ZV_LINE_RECORD_BYTES);
     every_pointer((size_t)-1);
     return 0;
 }
