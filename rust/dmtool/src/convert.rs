@@ -19,7 +19,7 @@ pub fn run(arguments: &Arguments, out: &mut impl Write) -> Done {
     let to = target(arguments, path)?;
     let job = Job::open(arguments, path, to)?;
     let asked = Asked { path, form: arguments.form_of(&job.bytes), bytes: &job.bytes };
-    let mended = Mended::of(&job.bytes).filter(|mended| arguments.mend && mended.ends > 0);
+    let mended = Mended::of(&job.bytes).filter(|mended| arguments.mend && mended.places > 0);
     let done = said(&asked, form, mended.as_ref());
     let plain = mended.map_or_else(|| asked.plain(), |mended| Ok(mended.plain.into()))?;
     // Also where the result is to be plain: a length that is refused by 1 is no file of either form.
@@ -40,8 +40,8 @@ fn said(asked: &Asked, form: Form, mended: Option<&Mended>) -> String {
     let stated = number_of((asked.bytes.len() / asked.form.record_bytes()) as u64, "record");
     match mended {
         Some(mended) => {
-            let ends = number_of(mended.ends as u64, "line end");
-            format!("mended {ends}, converted {}, now {}", records(mended.plain.len()), named(form))
+            let places = number_of(mended.places as u64, "place");
+            format!("mended its line ends at {places}, {}, now {}", records(mended.plain.len()), named(form))
         }
         None if asked.form == form => format!("{stated}, {} already", named(form)),
         None => format!("converted {stated}, now {}", named(form)),

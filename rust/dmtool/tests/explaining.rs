@@ -51,9 +51,8 @@ fn one_reason_for_a_length() {
     let line = "unix.dm: refused 1: the length, 765 bytes, is not a multiple of 84";
     assert_eq!(f.run(&["judge", "unix.dm"]).text(), format!("{line}\n"));
     assert!(f.run(&["show", "unix.dm", "1", "1"]).text().starts_with(&format!("{line}\n")));
-    let note =
-        "every record ends in a line feed (LF), 85 bytes in all: 'dmtool convert FILE --to lines --mend' puts carriage return \
-                and line feed there, '--to plain --mend' takes them out; then the file is accepted";
+    let note = "every record ends in a line feed (LF), 85 bytes in all: mend that by 'dmtool convert FILE --to lines \
+                --mend' (or --to plain); then the file is accepted";
     assert_eq!(f.run(&["explain", "unix.dm"]).seen(), (Some(1), format!("{line}\n{note}\n"), true));
     assert!(f.run(&["insert", "unix.dm", "7", "unix.dm"]).err.starts_with(&format!("dmtool: {line}\n")));
     let normal = f.run(&["normal", "unix.dm"]);

@@ -2,8 +2,8 @@
 
 use crate::{explain, FileKind, LINE_END, LINE_RECORD_BYTES, RECORD_BYTES};
 
-/// How many records may lack their ends one behind the other and still be told by where the next line end stands.
-const MOST_BROKEN: usize = 20;
+/// How many bytes of records may lack their ends one behind the other and still be told by where the next line end stands: twenty records.
+const FARTHEST: usize = 20 * LINE_RECORD_BYTES;
 
 /// A line of a file: a record, where its length is right, and what stands behind it.
 #[derive(Clone, Copy)]
@@ -12,7 +12,7 @@ pub struct Line<'a> {
     pub start: usize,
     /// Its bytes without its end.
     pub record: &'a [u8],
-    /// Its end: carriage return, line feed, both, two other bytes in their place, or nothing.
+    /// Its end: one of the line ends that there are, two other bytes in its place, or nothing.
     pub end: &'a [u8],
 }
 
@@ -55,27 +55,28 @@ impl<'a> Iterator for Lines<'a> {
 
 /// The bytes of the first line without its end, and those of its end.
 fn lengths(rest: &[u8]) -> (usize, usize) {
+    let end = mark(rest, RECORD_BYTES);
     let goes_on = |end: usize| is_start(rest, RECORD_BYTES + end);
     let shorter = || crlf(rest.get(..RECORD_BYTES + 1).unwrap_or(rest)).is_some();
-    match mark(rest, RECORD_BYTES) {
+    match end {
         2 if is_crlf(rest, RECORD_BYTES) => (RECORD_BYTES, 2),
         _ if is_crlf(rest, RECORD_BYTES - 1) => (RECORD_BYTES - 1, 2),
-        2 if goes_on(2) => (RECORD_BYTES, 2),
-        1 | 2 if goes_on(1) => (RECORD_BYTES, 1),
+        1.. if goes_on(end) => (RECORD_BYTES, end),
+        2 if goes_on(1) => (RECORD_BYTES, 1),
         _ if goes_on(2) && !shorter() => (RECORD_BYTES, 2),
         _ if goes_on(0) && !shorter() => (RECORD_BYTES, 0),
         _ => by_next_mark(rest),
     }
 }
 
-/// The same by the next carriage return or line feed, whatever stands before it.
+/// The same by the next carriage return or line feed, or the end of the file, whatever stands before it. Where that is near, as many whole
+/// records away, with two bytes for each end or with none, the line is the first of them.
 fn by_next_mark(rest: &[u8]) -> (usize, usize) {
-    let is_mark = |byte: &u8| matches!(byte, b'\r' | b'\n');
-    let near = rest.iter().take(MOST_BROKEN * LINE_RECORD_BYTES).position(is_mark);
-    match near.or_else(|| rest.iter().position(is_mark)) {
-        Some(place) if near.is_some() && place > RECORD_BYTES && place % LINE_RECORD_BYTES == RECORD_BYTES => (RECORD_BYTES, 2),
-        Some(place) => (place, mark(rest, place)),
-        None => (rest.len(), 0),
+    let place = rest.iter().position(|byte| matches!(byte, b'\r' | b'\n')).unwrap_or(rest.len());
+    match place {
+        RECORD_BYTES..=FARTHEST if place % RECORD_BYTES == 0 => (RECORD_BYTES, 0),
+        RECORD_BYTES..=FARTHEST if place % LINE_RECORD_BYTES == RECORD_BYTES => (RECORD_BYTES, 2),
+        _ => (place, mark(rest, place)),
     }
 }
 
@@ -88,9 +89,10 @@ fn is_start(rest: &[u8], start: usize) -> bool {
     }
 }
 
-/// How many bytes of a line end stand at a byte: carriage return, line feed, or both in either order.
+/// How many bytes of a line end stand at a byte: carriage return, line feed, both in either order, or as text that was converted twice has them.
 fn mark(rest: &[u8], place: usize) -> usize {
     match rest.get(place..).unwrap_or(&[]) {
+        [b'\r', b'\r', b'\n', ..] => 3,
         [b'\r', b'\n', ..] | [b'\n', b'\r', ..] => 2,
         [b'\r' | b'\n', ..] => 1,
         _ => 0,
@@ -114,37 +116,52 @@ pub fn without_fill(bytes: &[u8]) -> &[u8] {
 }
 
 /// The records of a file in which nothing but line ends was wrong.
-#[derive(Clone, Debug, PartialEq, Eq)]
+#[derive(Clone, Debug, Default, PartialEq, Eq)]
 #[non_exhaustive]
 pub struct Mended {
     /// The records, end to end: the plain file.
     pub plain: Vec<u8>,
-    /// How many of the line ends were not carriage return and line feed.
-    pub ends: usize,
+    /// At how many places something else stood than carriage return and line feed behind a record.
+    pub places: usize,
 }
 
 impl Mended {
-    /// Of a file whose line ends are of another kind (line feed or carriage return alone, the two the wrong way round), written over or missing,
-    /// perhaps with NUL bytes or an end-of-file mark behind the last: its records. None where a record has another length than 84, where there
-    /// are no line ends at all, and where the file is accepted as it is.
+    /// Of a file whose line ends are of another kind (line feed or carriage return alone, the two the wrong way round, two carriage returns and a
+    /// line feed), written over, missing or double, perhaps with NUL bytes or an end-of-file mark behind the last: its records. A line end inside
+    /// a record is taken out where the file is accepted then. None where a record has another length than 84, where most records have no line
+    /// end at all, and where the file is accepted as a plain one.
     ///
     /// ```
     /// use zvaigulta::{Mended, EXAMPLE};
     ///
     /// let unix: Vec<u8> = EXAMPLE.chunks(84).flat_map(|record| [record, b"\n"].concat()).collect();
     /// let mended = Mended::of(&unix).unwrap();
-    /// assert_eq!((mended.plain.as_slice(), mended.ends), (EXAMPLE.as_slice(), 9));
+    /// assert_eq!((mended.plain.as_slice(), mended.places), (EXAMPLE.as_slice(), 9));
     /// assert_eq!(Mended::of(EXAMPLE), None);
     /// ```
     pub fn of(bytes: &[u8]) -> Option<Mended> {
         let text = without_fill(bytes);
-        let lines = || Lines::of(text);
-        let marked = lines().any(|line| matches!(line.end, [b'\r' | b'\n', ..]));
-        if !marked || !lines().all(|line| line.is_record()) || is_plain(bytes) {
+        let marked = Lines::of(text).filter(|line| line.is_record() && matches!(line.end, [b'\r' | b'\n', ..])).count();
+        if marked == 0 || marked * 2 < text.len() / LINE_RECORD_BYTES || is_plain(bytes) {
             return None;
         }
-        let ends = lines().filter(|line| !line.is_ended()).count();
-        Some(Mended { plain: lines().flat_map(|line| line.record).copied().collect(), ends })
+        let mut mended = Mended { plain: Vec::with_capacity(text.len()), places: usize::from(text.len() < bytes.len()) };
+        let mut divided = false;
+        for line in Lines::of(text) {
+            divided |= mended.step(&line)?;
+        }
+        let whole = mended.plain.len().is_multiple_of(RECORD_BYTES) && !mended.plain.is_empty();
+        (whole && (!divided || is_plain(&mended.plain))).then_some(mended)
+    }
+
+    /// One more line; whether a record goes on behind it. None where it is too long for what is left of its record.
+    fn step(&mut self, line: &Line) -> Option<bool> {
+        let begun = self.plain.len() % RECORD_BYTES;
+        let length = begun + line.record.len();
+        let empty = line.record.is_empty() && begun == 0;
+        self.plain.extend_from_slice(line.record);
+        self.places += usize::from(empty || length < RECORD_BYTES || !line.is_ended());
+        (length <= RECORD_BYTES).then_some(length < RECORD_BYTES && !empty)
     }
 }
 

@@ -5,9 +5,9 @@ mod town;
 use reference::random::Random;
 use reference::sheets;
 use town::{ended, index, sheet, shifted, twice, with, without};
-use zvaigulta::explain::{explain, Explanation};
+use zvaigulta::explain::{explain, explain_in, line_in, Explanation};
 use zvaigulta::layout::{HEADER, SHEET_B};
-use zvaigulta::{write_column, FileKind, Reason, RECORD_BYTES};
+use zvaigulta::{write_column, FileKind, Form, Mended, Reason, LINE_RECORD_BYTES, RECORD_BYTES};
 
 /// A damage: its name, the damaged file, the refusal with its record (0 for none), words of the explanation (behind `not: ` words
 /// that must not stand there), columns marked.
@@ -831,8 +831,8 @@ const FORMS: &[Damage] = &[
         || ended(&sheet(), b"\n"),
         (1, 0),
         &[
-            "every record ends in a line feed (LF), 85 bytes in all: 'dmtool convert FILE --to lines --mend' puts carriage return",
-            "'--to plain --mend' takes them out; then the file is accepted",
+            "every record ends in a line feed (LF), 85 bytes in all: mend that by 'dmtool convert FILE --to lines --mend'",
+            "(or --to plain); then the file is accepted",
         ],
         &[],
     ),
@@ -840,14 +840,35 @@ const FORMS: &[Damage] = &[
         "a CR behind each record",
         || ended(&sheet(), b"\r"),
         (1, 0),
-        &["every record ends in a carriage return (CR), 85 bytes in all: 'dmtool convert FILE", "then the file is accepted"],
+        &["every record ends in a carriage return (CR), 85 bytes in all: mend that by 'dmtool convert FILE", "then the file is accepted"],
+        &[],
+    ),
+    (
+        "LF CR behind each record",
+        || ended(&sheet(), b"\n\r"),
+        (1, 0),
+        &["every record ends in line feed and carriage return (LF CR), the wrong way round, 86 bytes in all: mend that by", "then the file is accepted"],
+        &[],
+    ),
+    (
+        "CR CR LF behind each record, and a length of whole records",
+        || ended(&sheet(), b"\r\r\n"),
+        (5, 2),
+        &["every record ends in two carriage returns and a line feed (CR CR LF), 87 bytes in all: mend that", "then the file is accepted"],
+        &[(2, "lower left X")],
+    ),
+    (
+        "LF and CR LF by turns",
+        || sheet().chunks(168).flat_map(|two| [&two[..84], b"\n", &two[84..], b"\r\n"].concat()).collect(),
+        (1, 0),
+        &["records 1, 3, 5, 7, 9 and 9 more end in a line feed alone (LF); mend that by", "then the file is accepted"],
         &[],
     ),
     (
         "a LF behind each record, and a length of whole records",
         || ended(&sheet().repeat(3), b"\n"),
         (5, 2),
-        &["every record ends in a line feed (LF), 85 bytes in all: 'dmtool convert FILE", "then it is refused 4 at record 29"],
+        &["every record ends in a line feed (LF), 85 bytes in all: mend that by 'dmtool convert FILE", "then it is refused 4 at record 29"],
         &[(2, "lower left X")],
     ),
     (
@@ -875,7 +896,7 @@ const FORMS: &[Damage] = &[
         "CR LF behind the first records alone",
         || [ended(&sheet()[..840], b"\r\n"), sheet()[840..].to_vec()].concat(),
         (1, 0),
-        &["records 1 to 10 end in carriage return and line feed (CR LF), record 11 does not"],
+        &["records 1 to 10 end in carriage return and line feed (CR LF), record 11 does not; take these out"],
         &[],
     ),
     (
@@ -919,7 +940,7 @@ const FORMS: &[Damage] = &[
         (1, 0),
         &[
             "the file starts with a byte order mark (EF BB BF): take it out; then, every record ends in a line feed (LF),",
-            "'--to plain --mend' takes them out; then the file is accepted",
+            "(or --to plain); then the file is accepted",
             "not: refused",
         ],
         &[],
@@ -1322,6 +1343,213 @@ fn text(record: usize) -> String {
     String::from_utf8(sheet()[(record - 1) * RECORD_BYTES..record * RECORD_BYTES].to_vec()).expect("plain text")
 }
 
+/// The sheet with line ends.
+fn lines() -> Vec<u8> {
+    ended(&sheet(), b"\r\n")
+}
+
+/// A file with line ends, and other bytes in the place of some, from a byte of a line on that is counted from 0.
+fn lines_with(mut file: Vec<u8>, record: usize, start: usize, out: usize, new: &[u8]) -> Vec<u8> {
+    let at = (record - 1) * LINE_RECORD_BYTES + start;
+    file.splice(at..at + out, new.iter().copied());
+    file
+}
+
+const MEND: &str = "mend that by 'dmtool convert FILE --to lines --mend' (or --to plain); then the file is accepted";
+
+/// Files with line ends, read as such.
+const LINES: &[Damage] = &[
+    (
+        "the end of record 5 is spaces",
+        || lines_with(lines(), 5, 84, 2, b"  "),
+        (18, 5),
+        &["record 5 ends in other bytes than carriage return and line feed: \"  \" at bytes 429 and 430 of the file", MEND],
+        &[(5, "line end")],
+    ),
+    ("the end of the first", || lines_with(lines(), 1, 84, 2, b"\0\0"), (18, 1), &["record 1 ends in other bytes", MEND], &[(1, "line end")]),
+    ("the end of the last", || lines_with(lines(), 28, 84, 2, b"xx"), (18, 28), &["record 28 ends in other bytes", MEND], &[(28, "line end")]),
+    (
+        "LF CR behind record 5",
+        || lines_with(lines(), 5, 84, 2, b"\n\r"),
+        (18, 5),
+        &["record 5 ends in line feed and carriage return (LF CR), the wrong way round", "must be carriage return and line feed", MEND],
+        &[(5, "line end")],
+    ),
+    (
+        "CR CR behind record 5, and LF LF behind record 6",
+        || lines_with(lines_with(lines(), 5, 84, 2, b"\r\r"), 6, 84, 2, b"\n\n"),
+        (18, 5),
+        &["records 5 and 6 end in other bytes than carriage return and line feed: \"\\x0d\\x0d\" at bytes 429 and 430", MEND],
+        &[(5, "line end")],
+    ),
+    (
+        "several ends broken, in a row and apart",
+        || [3, 4, 5, 6, 9, 20, 27].iter().fold(lines(), |file, record| lines_with(file, *record, 84, 2, b"--")),
+        (18, 3),
+        &["records 3, 4, 5, 6, 9 and 2 more end in other bytes than", MEND],
+        &[(3, "line end")],
+    ),
+    (
+        "LF alone behind record 5",
+        || lines_with(lines(), 5, 84, 2, b"\n"),
+        (1, 0),
+        &["record 5 ends in a line feed alone (LF)", MEND],
+        &[],
+    ),
+    ("CR alone behind record 5", || lines_with(lines(), 5, 84, 2, b"\r"), (1, 0), &["record 5 ends in a carriage return alone (CR)", MEND], &[]),
+    ("CR CR LF behind record 5", || lines_with(lines(), 5, 84, 0, b"\r"), (1, 0), &["record 5 ends in two carriage returns and a line feed", MEND], &[]),
+    ("no end behind record 5", || lines_with(lines(), 5, 84, 2, b""), (1, 0), &["record 5 ends without a line end", MEND], &[]),
+    ("no end behind the last", || lines_with(lines(), 28, 84, 2, b""), (1, 0), &["record 28 ends without a line end", MEND], &[]),
+    (
+        "no end behind the last, and a length of whole plain records",
+        || lines_with(ended(&sheet().repeat(2)[..84 * 43], b"\r\n"), 43, 84, 2, b""),
+        (1, 0),
+        &["record 43 ends without a line end", "(or --to plain); then it is refused 4 at record 29"],
+        &[],
+    ),
+    ("the last LF is lost", || lines_with(lines(), 28, 85, 1, b""), (1, 0), &["record 28 ends in a carriage return alone (CR)", MEND], &[]),
+    ("the last CR is lost", || lines_with(lines(), 28, 84, 1, b""), (1, 0), &["record 28 ends in a line feed alone (LF)", MEND], &[]),
+    (
+        "no ends behind the last eight",
+        || [ended(&sheet()[..84 * 20], b"\r\n"), sheet()[84 * 20..].to_vec()].concat(),
+        (1, 0),
+        &["records 21, 22, 23, 24, 25 and 3 more end without a line end", MEND],
+        &[],
+    ),
+    (
+        "an empty line behind each record",
+        || ended(&sheet(), b"\r\n\r\n"),
+        (1, 0),
+        &["an empty line stands behind record 1, at byte 87 of the file; the same at 27 other places", MEND],
+        &[],
+    ),
+    ("an end-of-file mark", || [lines(), vec![0x1a]].concat(), (1, 0), &["behind the last line end: an end-of-file mark (the byte 1A)", MEND], &[]),
+    ("a fill of NUL bytes", || [lines(), vec![0; 50]].concat(), (1, 0), &["behind the last line end: 50 NUL bytes", MEND], &[]),
+    (
+        "a line end inside record 8",
+        || lines_with(lines(), 8, 40, 0, b"\r\n"),
+        (1, 0),
+        &["a line end stands inside record 8, behind its byte 40 (byte 643 of the file): take it out", MEND],
+        &[],
+    ),
+    (
+        "a line feed inside record 8",
+        || lines_with(lines(), 8, 40, 0, b"\n"),
+        (1, 0),
+        &["a line end stands inside record 8, behind its byte 40 (byte 643 of the file)", MEND],
+        &[],
+    ),
+    (
+        "a byte of record 8 is lost",
+        || lines_with(lines(), 8, 40, 1, b""),
+        (1, 0),
+        &[
+            "record 8, from byte 603 of the file on, has 83 bytes before its line end: 1 byte is lost; compare it with the original",
+            "not: --mend",
+        ],
+        &[],
+    ),
+    (
+        "40 bytes of record 8 are lost",
+        || lines_with(lines(), 8, 20, 40, b""),
+        (1, 0),
+        &["has 44 bytes before its line end: 40 bytes are lost", "not: --mend"],
+        &[],
+    ),
+    (
+        "a byte too many in record 8",
+        || lines_with(lines(), 8, 40, 0, b" "),
+        (1, 0),
+        &["has 85 bytes before its line end: 1 byte is too many", "not: --mend"],
+        &[],
+    ),
+    (
+        "a byte lost in record 8, and one too many in record 13",
+        || lines_with(lines_with(lines(), 13, 40, 0, b" "), 8, 40, 1, b""),
+        (18, 8),
+        &["record 8, from byte 603 of the file on, has 83 bytes", "record 13, from byte 1032 of the file on, has 85 bytes", "not: --mend"],
+        &[(8, "line end")],
+    ),
+    (
+        "the file is cut off inside record 21",
+        || lines()[..86 * 20 + 30].to_vec(),
+        (1, 0),
+        &["record 21 has only 30 of its 84 bytes: the file is cut off", "28 records", "20 are there: 8 are missing", "not: --mend"],
+        &[],
+    ),
+    (
+        "the file is cut off behind record 20",
+        || lines()[..86 * 20].to_vec(),
+        (3, 20),
+        &["20 are there: 8 are missing", "the end of the file is lost"],
+        &[(20, "records")],
+    ),
+    (
+        "a byte order mark",
+        || [&b"\xef\xbb\xbf"[..], &lines()].concat(),
+        (1, 0),
+        &["the file starts with a byte order mark (EF BB BF): take it out; then, every record ends in", "read with line ends the file is accepted"],
+        &[],
+    ),
+    (
+        "the spaces at the ends of the last lines are lost",
+        || [ended(&sheet()[..84 * 15], b"\r\n"), lines_without_spaces_from(15)].concat(),
+        (1, 0),
+        &["the file is text in lines, and spaces at their ends are lost: line 17 has 11 bytes"],
+        &[],
+    ),
+    (
+        "a count differs",
+        || ended(&with(sheet(), 7, 18, "    4"), b"\r\n"),
+        (10, 7),
+        &["states 4, the counts behind it add up to 3", "and as many are there", "not: line end"],
+        &[(7, "total")],
+    ),
+    (
+        "a length of whole plain records, and another sheet begins",
+        || ended(&sheet().repeat(3)[..84 * 42], b"\r\n"),
+        (4, 29),
+        &["record 29 starts a sheet of its own", "not: line end"],
+        &[(29, "type")],
+    ),
+    (
+        "the same with an end broken",
+        || lines_with(ended(&sheet().repeat(3)[..84 * 42], b"\r\n"), 4, 84, 2, b"  "),
+        (18, 4),
+        &["record 4 ends in other bytes", "then it is refused 4 at record 29"],
+        &[(4, "line end")],
+    ),
+    (
+        "NUL bytes in record 9",
+        || ended(&with(sheet(), 9, 20, "\0\0\0\0\0\0\0\0\0\0\0\0\0\0\0\0\0\0\0\0"), b"\r\n"),
+        (5, 9),
+        &["bytes 709 to 728 of the file are NUL bytes, from byte 21 of record 9 to byte 40 of record 9"],
+        &[(9, "Y 2")],
+    ),
+    (
+        "a block",
+        || ended(&sheet()[84 * 7..84 * 10], b"\r\n"),
+        (2, 1),
+        &["this is a block, a line E2 with 2 data records, level 2: use it with insert"],
+        &[(1, "type")],
+    ),
+    (
+        "an index with an end broken",
+        || lines_with(ended(&index(), b"\r\n"), 3, 84, 2, b"  "),
+        (18, 3),
+        &["record 3 ends in other bytes than carriage return and line feed: \"  \" at bytes 257 and 258 of the file", MEND],
+        &[(3, "line end")],
+    ),
+    ("an index with too many records", || ended(&twice(index(), 5, 5), b"\r\n"), (10, 1), &["6 are there: 1 is too many"], &[(1, "c records")]),
+];
+
+/// The sheet in lines without the spaces at their ends, from a record on that is counted from 0.
+fn lines_without_spaces_from(record: usize) -> Vec<u8> {
+    let text = String::from_utf8(sheet()).expect("plain text");
+    let records = (record..text.len() / 84).map(|n| text[n * 84..(n + 1) * 84].trim_end().to_string() + "\r\n");
+    records.collect::<String>().into_bytes()
+}
+
 /// The sheet in lines without the spaces at their ends.
 fn lines_without_spaces() -> Vec<u8> {
     let text = String::from_utf8(sheet()).expect("plain text");
@@ -1348,28 +1576,72 @@ fn ebcdic() -> Vec<u8> {
     sheet().into_iter().map(code).collect()
 }
 
-/// Every damage is refused as the table says; its explanation has the words and marks the columns, and names no record 0.
+/// A damage is refused in a form as the table says; its explanation has the words and marks the columns, and names no record 0.
+fn is_explained(form: Form, (name, file, (number, record), words, marked): &Damage) {
+    let file = file();
+    let refusal = FileKind::of(&file).judge_in(form, &file, file.len()).expect_err(name);
+    assert_eq!((refusal.number(), refusal.record.unwrap_or(0)), (*number, *record), "{name}");
+    let explained = explain_in(form, &file, refusal);
+    let line = line_in(form, &file, refusal).replace("refused", "");
+    let faults = explained.faults.iter().map(|fault| &fault.words);
+    let said: Vec<&str> = faults.chain(&explained.notes).chain([&line]).map(String::as_str).collect();
+    for part in *words {
+        let (part, due) = part.strip_prefix("not: ").map_or((*part, true), |part| (part, false));
+        assert_eq!(said.iter().any(|said| said.contains(part)), due, "{name}: {part}: {explained:#?}");
+    }
+    let twice = |note: &String| explained.notes.iter().filter(|other| *other == note).count() > 1;
+    assert!(!explained.notes.iter().any(twice), "{name}: {explained:#?}");
+    let is = |(record, column): (usize, &str)| explained.faults.iter().any(|f| (f.record, f.column) == (record, column));
+    assert!(marked.iter().all(|at| is(*at)), "{name}: {explained:#?}");
+    assert!(*number == 1 || marked.iter().any(|(at, _)| at == record), "{name}: a column of the refused record is asked for");
+    assert!(!words.is_empty() && said.iter().all(|said| !said.contains("record 0")), "{name}: {explained:#?}");
+}
+
 #[test]
 fn every_damage_is_explained() {
     let all = [LOST, REPEATED, PARTS, COLUMNS, FORMS, SHIFTS, INDEXES].concat();
     assert!(all.len() >= 130, "{} damages", all.len());
-    for (name, file, (number, record), words, marked) in all {
+    all.iter().for_each(|damage| is_explained(Form::Plain, damage));
+}
+
+/// Damaged files with line ends are read as such. Those that can be mended are accepted then, or refused as the words say.
+#[test]
+fn every_damage_of_line_ends_is_explained() {
+    assert!(LINES.len() >= 35, "{} damages", LINES.len());
+    for damage in LINES {
+        let (name, file, _, words, _) = damage;
+        assert_eq!(Form::of(&file()), Form::Lines, "{name}");
+        is_explained(Form::Lines, damage);
+        let mended = Mended::of(&file()).filter(|_| words.contains(&MEND));
+        assert!(mended.is_none_or(|mended| mended.plain == sheet() || mended.plain == index()), "{name}");
+    }
+}
+
+/// Damages of the other tables are not taken for damages of line ends, but where line ends stand.
+#[test]
+fn other_damages_are_read_as_plain() {
+    for (name, file, ..) in [LOST, REPEATED, PARTS, COLUMNS, SHIFTS, INDEXES].concat() {
         let file = file();
-        let refusal = FileKind::of(&file).judge(&file, file.len()).expect_err(name);
-        assert_eq!((refusal.number(), refusal.record.unwrap_or(0)), (number, record), "{name}");
-        let explained = explain(&file, refusal);
-        let said: Vec<&str> =
-            explained.faults.iter().map(|fault| &fault.words).chain(&explained.notes).map(String::as_str).collect();
-        for part in words {
-            let (part, due) = part.strip_prefix("not: ").map_or((*part, true), |part| (part, false));
-            assert_eq!(said.iter().any(|said| said.contains(part)), due, "{name}: {part}: {explained:#?}");
+        assert!(Form::of(&file) == Form::Plain || file.windows(2).filter(|two| two == b"\r\n").count() >= 5, "{name}");
+    }
+}
+
+/// Where all records but one or two are as they should be, what is damaged in the same way with line ends is refused and explained as it is without.
+#[test]
+fn the_same_words_with_line_ends() {
+    for (name, file, (number, _), ..) in [LOST, REPEATED, PARTS, COLUMNS].concat() {
+        let plain = file();
+        let kind = FileKind::of(&plain);
+        if number == 1 || plain.iter().any(|byte| matches!(byte, b'\r' | b'\n')) {
+            continue;
         }
-        let twice = |note: &String| explained.notes.iter().filter(|other| *other == note).count() > 1;
-        assert!(!explained.notes.iter().any(twice), "{name}: {explained:#?}");
-        let is = |(record, column): (usize, &str)| explained.faults.iter().any(|f| (f.record, f.column) == (record, column));
-        assert!(marked.iter().all(|at| is(*at)), "{name}: {explained:#?}");
-        assert!(number == 1 || marked.iter().any(|(at, _)| *at == record), "{name}: a column of the refused record is asked for");
-        assert!(!words.is_empty() && said.iter().all(|said| !said.contains("record 0")), "{name}: {explained:#?}");
+        let file = ended(&plain, b"\r\n");
+        let refusal = kind.judge_in(Form::Lines, &file, file.len()).expect_err(name);
+        assert_eq!(Err(refusal), kind.judge(&plain, plain.len()), "{name}");
+        let (with, without) = (explain_in(Form::Lines, &file, refusal), explain(&plain, refusal));
+        let in_bytes = |note: &&String| !note.contains("bytes");
+        assert_eq!(with.faults, without.faults, "{name}");
+        assert!(with.notes.iter().filter(in_bytes).eq(without.notes.iter().filter(in_bytes)), "{name}: {with:#?}");
     }
 }
 

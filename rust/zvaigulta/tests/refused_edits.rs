@@ -47,7 +47,7 @@ const INSERTIONS: &[Insertion] = &[
         8,
         || ended(&records(22, 22), b"\n"),
         12,
-        "'--to plain --mend' takes them out; then it is a sound block, a point E5 with 0 data records, level 2",
+        "(or --to plain); then it is a sound block, a point E5 with 0 data records, level 2",
     ),
     (
         8,

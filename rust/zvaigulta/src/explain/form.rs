@@ -1,6 +1,6 @@
 //! Files in another form than records of 84 bytes end to end: text with line ends or a byte order mark, EBCDIC, padding.
 
-use super::lines::mending;
+use super::lines::{mending, notes as line_notes};
 use super::{block, near, Fault};
 use crate::layout::{Layout, SHEET_A, SHEET_B};
 use crate::line_ends::without_fill;
@@ -11,7 +11,8 @@ use std::ops::Range;
 
 /// The form that is recognised, and what to do about it. `refused` is the refused record, if the refusal names one.
 pub fn of(bytes: &[u8], refused: Option<usize>) -> Option<String> {
-    let whole = || framed(bytes).or_else(|| lines(bytes)).or_else(|| other_lines(bytes)).or_else(|| utf_8(bytes));
+    let lines = || lines(bytes).or_else(|| mixed_lines(bytes)).or_else(|| other_lines(bytes));
+    let whole = || framed(bytes).or_else(lines).or_else(|| utf_8(bytes));
     start(bytes).or_else(whole).or_else(|| tail(bytes, refused))
 }
 
@@ -79,8 +80,13 @@ fn utf_8(bytes: &[u8]) -> Option<String> {
 }
 
 /// The line ends that text files have.
-const LINE_ENDS: [(&[u8], &str); 3] =
-    [(b"\r\n", "carriage return and line feed (CR LF)"), (b"\n", "a line feed (LF)"), (b"\r", "a carriage return (CR)")];
+const LINE_ENDS: [(&[u8], &str); 5] = [
+    (b"\r\n", "carriage return and line feed (CR LF)"),
+    (b"\n\r", "line feed and carriage return (LF CR), the wrong way round"),
+    (b"\r\r\n", "two carriage returns and a line feed (CR CR LF)"),
+    (b"\n", "a line feed (LF)"),
+    (b"\r", "a carriage return (CR)"),
+];
 
 /// Records with a line end behind each, but for the last perhaps; a fill or an end-of-file mark behind them is passed over.
 fn lines(bytes: &[u8]) -> Option<String> {
@@ -100,7 +106,8 @@ fn line_ends(text: &[u8], end: &[u8], name: &str) -> Option<String> {
         // A file that is too long is read in part; its last line is then cut off.
         1..RECORD_BYTES if text.len() > MOST_RECORDS * RECORD_BYTES => "every record ends".to_string(),
         _ if ended > 1 => {
-            return Some(format!("records 1 to {ended} end in {name}, record {} does not; take these out", ended + 1))
+            let next = mending(text).unwrap_or_else(|| "take these out".to_string());
+            return Some(format!("records 1 to {ended} end in {name}, record {} does not; {next}", ended + 1));
         }
         _ => return None,
     };
@@ -111,6 +118,11 @@ fn line_ends(text: &[u8], end: &[u8], name: &str) -> Option<String> {
         _ => mending(text).unwrap_or_else(|| format!("take the line ends out; {}", without(&plain))),
     };
     Some(format!("{which} in {name}, {stride} bytes in all: {next}"))
+}
+
+/// Records with line ends of several kinds, or of which some have none.
+fn mixed_lines(bytes: &[u8]) -> Option<String> {
+    mending(bytes).map(|_| line_notes(bytes).join("; "))
 }
 
 /// What becomes of the file without what does not belong there.
@@ -140,7 +152,7 @@ fn ours(bytes: &[u8]) -> bool {
 }
 
 /// Text in lines that are no records: wrapped at another length, or without the spaces at their ends.
-fn other_lines(bytes: &[u8]) -> Option<String> {
+pub fn other_lines(bytes: &[u8]) -> Option<String> {
     let text = bytes.strip_suffix(b"\n").filter(|text| ours(bytes) && text.contains(&b'\n'))?;
     let lines = text.split(|byte| *byte == b'\n').map(|line| line.strip_suffix(b"\r").unwrap_or(line));
     let joined: Vec<u8> = lines.clone().flatten().copied().collect();
@@ -153,7 +165,7 @@ fn other_lines(bytes: &[u8]) -> Option<String> {
     }
     let (short, line) = lines.enumerate().find(|(_, line)| line.len() < RECORD_BYTES)?;
     let has = number_of(line.len() as u64, "byte");
-    let advice = format!("fill each line with spaces up to {RECORD_BYTES} and take the line ends out");
+    let advice = format!("fill each line with spaces up to {RECORD_BYTES} and judge it again");
     Some(format!("the file is text in lines, and spaces at their ends are lost: line {} has {has}; {advice}", short + 1))
 }
 

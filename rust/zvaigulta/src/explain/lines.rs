@@ -1,5 +1,6 @@
 //! 1 and 18 of a file with line ends: which lines are wrong, and what mends them.
 
+use super::counts::Records;
 use super::{fault, form, length, Explanation};
 use crate::line_ends::{without_fill, Line, Lines, Mended};
 use crate::text::{number_of, quoted};
@@ -32,27 +33,33 @@ enum Wrong {
     LineFeed,
     CarriageReturn,
     Reversed,
+    Twice,
     /// Two other bytes.
     Other,
     /// No end, and another record or the end of the file behind it.
     Unended,
+    /// A line without a byte.
+    Empty,
     /// A line end inside the record.
     Inside,
-    /// Too few bytes, or too many.
-    Length,
+    Short,
+    Long,
     /// The file ends inside the record.
     Cut,
 }
 
 impl Wrong {
     /// All of them, in the order in which they are told.
-    const ALL: [Wrong; 8] = [
-        Wrong::Inside,
-        Wrong::Length,
+    const ALL: [Wrong; 11] = [
         Wrong::Cut,
+        Wrong::Short,
+        Wrong::Long,
+        Wrong::Inside,
+        Wrong::Empty,
         Wrong::LineFeed,
         Wrong::CarriageReturn,
         Wrong::Reversed,
+        Wrong::Twice,
         Wrong::Other,
         Wrong::Unended,
     ];
@@ -60,11 +67,13 @@ impl Wrong {
     /// Of a line that is no record with its end; `next` is the line behind it.
     fn of(line: &Line, next: Option<&Line>) -> Wrong {
         let joined = line.record.len() + next.map_or(0, |next| next.record.len());
-        match line.end {
-            b"" if next.is_none() && line.record.len() < RECORD_BYTES => Wrong::Cut,
-            _ if line.is_record() => Wrong::end(line.end),
-            [_, ..] if joined == RECORD_BYTES => Wrong::Inside,
-            _ => Wrong::Length,
+        match line.record.len() {
+            0 => Wrong::Empty,
+            RECORD_BYTES => Wrong::end(line.end),
+            n if n > RECORD_BYTES => Wrong::Long,
+            _ if line.end.is_empty() => Wrong::Cut,
+            _ if joined == RECORD_BYTES => Wrong::Inside,
+            _ => Wrong::Short,
         }
     }
 
@@ -74,6 +83,7 @@ impl Wrong {
             b"\n" => Wrong::LineFeed,
             b"\r" => Wrong::CarriageReturn,
             b"\n\r" => Wrong::Reversed,
+            b"\r\r\n" => Wrong::Twice,
             b"" => Wrong::Unended,
             _ => Wrong::Other,
         }
@@ -93,7 +103,7 @@ fn found(text: &[u8]) -> Vec<Found<'_>> {
     let mut lines = Lines::of(text).peekable();
     let mut record = 0;
     while let Some(line) = lines.next() {
-        record += 1;
+        record += usize::from(!line.record.is_empty());
         if line.is_record() && line.is_ended() {
             continue;
         }
@@ -106,20 +116,23 @@ fn found(text: &[u8]) -> Vec<Found<'_>> {
     found
 }
 
-/// What is wrong with the lines, what stands behind the last, and what mends them.
-fn notes(bytes: &[u8]) -> Vec<String> {
+/// What is wrong with the lines, what stands behind the last, how many records are missing, and what mends the line ends.
+pub fn notes(bytes: &[u8]) -> Vec<String> {
     let text = without_fill(bytes);
     if !text.iter().any(|byte| matches!(byte, b'\r' | b'\n')) {
         return vec![format!("there are no line ends in the file: read as plain, {}", form::judged(bytes))];
     }
     let found = found(text);
-    let words = |wrong: &Wrong| {
-        let same: Vec<&Found> = found.iter().filter(|found| found.wrong == *wrong).collect();
-        same.first().map(|first| first.words(&same))
-    };
-    let mut notes: Vec<String> = Wrong::ALL.iter().filter_map(words).collect();
+    let same = |wrong: &Wrong| found.iter().filter(|found| found.wrong == *wrong).collect::<Vec<&Found>>();
+    let words = |wrong: &Wrong| same(wrong).first().map(|first| first.words(&same(wrong)));
+    // Text that lost the spaces at its line ends has many short lines.
+    let trimmed = form::other_lines(text).filter(|_| same(&Wrong::Short).len() > 1 && same(&Wrong::Long).is_empty());
+    let mut notes = trimmed.map_or_else(|| Wrong::ALL.iter().filter_map(words).collect(), |trimmed| vec![trimmed]);
     let fill = bytes.get(text.len()..).filter(|fill| !fill.is_empty());
     notes.extend(fill.map(|fill| format!("behind the last line end: {}", form::named(fill))));
+    let plain: Vec<u8> = Lines::of(text).filter(Line::is_record).flat_map(|line| line.record).copied().collect();
+    let cut = found.iter().any(|found| found.wrong == Wrong::Cut);
+    notes.extend(Records::of(&plain).filter(|records| cut && records.missing() > 0).map(|records| records.words()));
     notes.extend(mending(bytes));
     notes
 }
@@ -127,48 +140,55 @@ fn notes(bytes: &[u8]) -> Vec<String> {
 /// The command that mends the line ends, and what becomes of the file.
 pub fn mending(bytes: &[u8]) -> Option<String> {
     let mended = Mended::of(bytes)?;
-    let command =
-        "'dmtool convert FILE --to lines --mend' puts carriage return and line feed there, '--to plain --mend' takes them out";
+    let command = "mend that by 'dmtool convert FILE --to lines --mend' (or --to plain)";
     Some(format!("{command}; then {}", form::judged(&mended.plain)))
 }
 
 impl Found<'_> {
     /// In words, with the other lines that are wrong in the same way.
     fn words(&self, same: &[&Found]) -> String {
-        let (record, length, from) = (self.record, self.line.record.len(), self.line.start + 1);
-        let more = match same.len() - 1 {
-            0 => String::new(),
-            n => format!("; the same in {}", number_of(n as u64, "other record")),
-        };
+        let (record, length) = (self.record, self.line.record.len());
+        let (from, end) = (self.line.start + 1, self.line.start + length + 1);
         match self.wrong {
             Wrong::LineFeed => ending(same, "in a line feed alone (LF)"),
             Wrong::CarriageReturn => ending(same, "in a carriage return alone (CR)"),
             Wrong::Reversed => ending(same, "in line feed and carriage return (LF CR), the wrong way round"),
+            Wrong::Twice => ending(same, "in two carriage returns and a line feed (CR CR LF)"),
             Wrong::Unended => ending(same, "without a line end"),
             Wrong::Other => {
-                let (end, at) = (quoted(self.line.end), self.line.start + length + 1);
-                let due = "where carriage return and line feed are due";
-                format!("{} {end} {due}: bytes {at} and {} of the file", ending(same, "in"), at + 1)
+                let ends = ending(same, "in other bytes than carriage return and line feed");
+                format!("{ends}: {} at bytes {end} and {} of the file", quoted(self.line.end), end + 1)
+            }
+            Wrong::Empty => {
+                let place = if record == 0 { "before record 1".to_string() } else { format!("behind record {record}") };
+                format!("an empty line stands {place}, at byte {from} of the file{}", others(same))
             }
             Wrong::Inside => {
-                let at = self.line.start + length + 1;
-                format!("a line end stands inside record {record}, behind its byte {length} (byte {at} of the file): take it out{more}")
+                let place = format!("behind its byte {length} (byte {end} of the file)");
+                format!("a line end stands inside record {record}, {place}: take it out{}", others(same))
             }
             Wrong::Cut => format!("record {record} has only {length} of its {RECORD_BYTES} bytes: the file is cut off"),
-            Wrong::Length => {
-                let (off, what) = match length.checked_sub(RECORD_BYTES) {
-                    Some(more) => (more, "too many"),
-                    None => (RECORD_BYTES - length, "lost"),
-                };
-                let is = if off == 1 { "is" } else { "are" };
-                let off = number_of(off as u64, "byte");
-                let line = format!(
-                    "record {record}, from byte {from} of the file on, has {} before its line end",
-                    number_of(length as u64, "byte")
-                );
-                format!("{line}: {off} {is} {what} in it{more}")
-            }
+            Wrong::Short | Wrong::Long => self.other_length(same),
         }
+    }
+
+    /// That bytes are lost or too many.
+    fn other_length(&self, same: &[&Found]) -> String {
+        let (length, from) = (self.line.record.len(), self.line.start + 1);
+        let is = if length.abs_diff(RECORD_BYTES) == 1 { "is" } else { "are" };
+        let off = number_of(length.abs_diff(RECORD_BYTES) as u64, "byte");
+        let what = if length < RECORD_BYTES { "lost" } else { "too many" };
+        let has = format!("has {} before its line end", number_of(length as u64, "byte"));
+        let seen = format!("record {}, from byte {from} of the file on, {has}: {off} {is} {what}", self.record);
+        format!("{seen}; compare it with the original{}", others(same))
+    }
+}
+
+/// How many more are wrong in the same way.
+fn others(same: &[&Found]) -> String {
+    match same.len() {
+        0 | 1 => String::new(),
+        n => format!("; the same at {}", number_of(n as u64 - 1, "other place")),
     }
 }
 
