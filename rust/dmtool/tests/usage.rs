@@ -6,7 +6,7 @@ use std::io::Read;
 use std::process::{Command, Stdio};
 use support::{good, large, run, Folder};
 
-const SUBCOMMANDS: [&str; 8] = ["judge", "explain", "show", "insert", "remove", "up", "normal", "batch"];
+const SUBCOMMANDS: [&str; 9] = ["judge", "explain", "show", "insert", "remove", "up", "normal", "convert", "batch"];
 
 #[test]
 fn help_for_the_tool_and_each_subcommand() {
@@ -20,10 +20,13 @@ fn help_for_the_tool_and_each_subcommand() {
         assert_eq!((status, quiet.as_str()), (Some(0), ""));
         assert_eq!(f.run(&["help", name]).text(), text);
     }
-    for name in ["insert", "remove", "normal"] {
+    let options = |name: &str, options: &[&str]| {
         let text = f.run(&[name, "--help"]).text();
-        assert!(["-o OTHER", "--force", "--no-lock"].iter().all(|option| text.contains(&format!("\n  {option} "))), "{text}");
-    }
+        assert!(options.iter().all(|option| text.contains(&format!("\n  {option} "))), "{text}");
+    };
+    ["insert", "remove", "normal", "convert"].iter().for_each(|name| options(name, &["-o OTHER", "--force", "--no-lock"]));
+    SUBCOMMANDS.iter().filter(|name| **name != "batch").for_each(|name| options(name, &["--lines", "--plain"]));
+    options("convert", &["--mend"]);
     assert_eq!(f.run(&["--version"]).text(), format!("dmtool {}\n", env!("CARGO_PKG_VERSION")));
 }
 
