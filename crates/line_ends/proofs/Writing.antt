@@ -1,5 +1,5 @@
 -- Records and lines put into a target one after the other. Assumes nothing.
-use mathlib.Core.Path.{_≡_, ap, ap₂, sym, _∙_}
+use mathlib.Core.Path.{_≡_, refl, ap, ap₂, sym, _∙_}
 use mathlib.Core.List.{List, [], _∷_, _++_, append-assoc, append-nil, map, map-append}
 use Prim.Native.Nat.{ℕ, suc, _+_, _-_, _*_, _≤_, _<_}
 use native.Mathlib.Numerals.{add-one}
@@ -11,9 +11,10 @@ use Rattle.format.proofs.Lists.{Wide, wide-take, wide-get, length-flat, flat-ap
 use Rattle.format_lines.specs.LineEnds.{lineEnd, withEnd}
 use Rattle.format_lines.proofs.LineEnds.{length-lined, length-end}
 use Rattle.files.specs.declared.Stride.{Stride}
-use Rattle.files.specs.Records.{recordsOf}
+use Rattle.files.specs.declared.Stride.the-variants.{Plain, Lines}
+use Rattle.files.specs.Records.{strideOf, recordsOf}
 use Rattle.files.specs.Buffers.{putAt}
-use Rattle.files.proofs.Records.{wide-records}
+use Rattle.files.proofs.Records.{wide-records, length-records, stride-plain, stride-lines, record-read}
 use Rattle.files.proofs.Buffers.{put-there}
 
 -- ---- some bytes stand in front in a target, and behind them what stood there; more are put behind them
@@ -94,17 +95,17 @@ module _ (stride : Stride) (file target₀ : List ℕ) (count : ℕ) (counted : 
     inside : k < length rs
     inside = omega (arith, counted)
 
-    pub part-wide : length part ≡ 84
+    part-wide : length part ≡ 84
     part-wide = ap length is ∙ wide-get k rs (wide-records stride file) inside
 
-    pub records-again : 84 * length (recordsOf stride file) ≤ length target₀ → target ≡ flat (take k (recordsOf stride file)) ++ drop (84 * k) target₀ → after ≡ putAt target (84 * k) part → after ≡ flat (take (k + 1) (recordsOf stride file)) ++ drop (84 * (k + 1)) target₀
-    records-again room e p =
+    record-put : 84 * length (recordsOf stride file) ≤ length target₀ → target ≡ flat (take k (recordsOf stride file)) ++ drop (84 * k) target₀ → after ≡ putAt target (84 * k) part → after ≡ flat (take (k + 1) (recordsOf stride file)) ++ drop (84 * (k + 1)) target₀
+    record-put room e p =
         p
         ∙ put-behind (flat (take k rs)) part target target₀ (84 * k) e (length-records-so-far rs k (wide-records stride file) (omega (arith, inside))) (omega (arith, part-wide, inside))
         ∙ ap₂ (λ (x : List ℕ) (n : ℕ). x ++ drop n target₀) (ap (λ (x : List ℕ). flat (take k rs) ++ x) is ∙ sym (record-more rs k inside)) (let p : 84 * k + length part ≡ 84 * (k + 1) = omega (arith, part-wide) in p)
 
-    pub lines-again : 86 * length (recordsOf stride file) ≤ length target₀ → target ≡ flat (map withEnd (take k (recordsOf stride file))) ++ drop (86 * k) target₀ → after ≡ putAt target (86 * k) (withEnd part) → after ≡ flat (map withEnd (take (k + 1) (recordsOf stride file))) ++ drop (86 * (k + 1)) target₀
-    lines-again room e p =
+    line-put-again : 86 * length (recordsOf stride file) ≤ length target₀ → target ≡ flat (map withEnd (take k (recordsOf stride file))) ++ drop (86 * k) target₀ → after ≡ putAt target (86 * k) (withEnd part) → after ≡ flat (map withEnd (take (k + 1) (recordsOf stride file))) ++ drop (86 * (k + 1)) target₀
+    line-put-again room e p =
         let long : length (withEnd part) ≡ 86 = length-end part part-wide in
         p
         ∙ put-behind (flat (map withEnd (take k rs))) (withEnd part) target target₀ (86 * k) e (length-lines-so-far rs k (wide-records stride file) (omega (arith, inside))) (omega (arith, long, inside))
@@ -117,3 +118,26 @@ module _ (stride : Stride) (file target₀ : List ℕ) (count : ℕ) (counted : 
 
     pub lines-done : target ≡ flat (map withEnd (take k (recordsOf stride file))) ++ drop (86 * k) target₀ → target ≡ flat (map withEnd (recordsOf stride file)) ++ drop (86 * length (recordsOf stride file)) target₀
     lines-done e = e ∙ ap₂ (λ (x : List (List ℕ)) (n : ℕ). flat (map withEnd x) ++ drop (86 * n) target₀) (take-all k rs (omega (arith, counted))) (let p : k ≡ length rs = omega (arith, counted) in p)
+
+-- ---- with the record as the code reads it
+module _ (file target₀ : List ℕ) (count : ℕ) (counted : count ≡ length (recordsOf Plain file)) where
+  pub plain-inside : 84 * count ≤ length file
+  unfolding strideOf
+  plain-inside = omega (arith, counted, length-records Plain file)
+
+  module _ (k : ℕ) (here : k < count) where
+    plain-read : take (84 * k + 84 - 84 * k) (drop (84 * k) file) ≡ getD (recordsOf Plain file) k []
+    plain-read = record-read Plain file k count counted here 84 (stride-plain Plain refl)
+
+    pub record-wide : length (take (84 * k + 84 - 84 * k) (drop (84 * k) file)) ≡ 84
+    record-wide = part-wide Plain file target₀ count counted k [] _ [] here plain-read
+
+    pub lines-again : (target after : List ℕ) → 86 * length (recordsOf Plain file) ≤ length target₀ → target ≡ flat (map withEnd (take k (recordsOf Plain file))) ++ drop (86 * k) target₀ → after ≡ putAt target (86 * k) (withEnd (take (84 * k + 84 - 84 * k) (drop (84 * k) file))) → after ≡ flat (map withEnd (take (k + 1) (recordsOf Plain file))) ++ drop (86 * (k + 1)) target₀
+    lines-again target after = line-put-again Plain file target₀ count counted k target _ after here plain-read
+
+module _ (file target₀ : List ℕ) (count : ℕ) (counted : count ≡ length (recordsOf Lines file)) (k : ℕ) (here : k < count) where
+  line-read : take (86 * k + 84 - 86 * k) (drop (86 * k) file) ≡ getD (recordsOf Lines file) k []
+  line-read = record-read Lines file k count counted here 86 (stride-lines Lines refl)
+
+  pub records-again : (target after : List ℕ) → 84 * length (recordsOf Lines file) ≤ length target₀ → target ≡ flat (take k (recordsOf Lines file)) ++ drop (84 * k) target₀ → after ≡ putAt target (84 * k) (take (86 * k + 84 - 86 * k) (drop (86 * k) file)) → after ≡ flat (take (k + 1) (recordsOf Lines file)) ++ drop (84 * (k + 1)) target₀
+  records-again target after = record-put Lines file target₀ count counted k target _ after here line-read

@@ -105,8 +105,9 @@ fn write_lines(file: &[u8], target: &mut [u8])
     let count = files::count(file, Stride::Plain);
     let mut k = 0;
     while k < count {
-        let record = files::record_at(file, Stride::Plain, k);
-        put_line(target, files::LINE * k, record);
+        let start = files::RECORD * k;
+        let end = start + files::RECORD;
+        put_line(target, files::LINE * k, &file[start..end]);
         k += 1;
     }
 }
@@ -119,8 +120,9 @@ fn write_records(file: &[u8], target: &mut [u8])
     let count = files::count(file, Stride::Lines);
     let mut k = 0;
     while k < count {
-        let record = files::record_at(file, Stride::Lines, k);
-        files::put_at(target, files::RECORD * k, record);
+        let start = files::LINE * k;
+        let end = start + files::RECORD;
+        files::put_at(target, files::RECORD * k, &file[start..end]);
         k += 1;
     }
 }

@@ -100,7 +100,7 @@ impl Written {
 }
 
 fn writing() {
-    let mut all = [20_000, 60_000, MOST_RECORDS].map(Written::new);
+    let mut all = [500, 2_000, 20_000, 60_000, MOST_RECORDS].map(Written::new);
     (0..ROUNDS).for_each(|_| all.iter_mut().for_each(Written::round));
     println!("\nLine ends, writing: ns a record, and times as fast as a copy of the records' 84 bytes.\n");
     println!("{:>8} {:>10} {:>10} {:>10} {:>12} {:>12}", "records", "copy", "to lines", "from lines", "to / copy", "from / copy");

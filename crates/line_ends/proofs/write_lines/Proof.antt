@@ -8,13 +8,13 @@ use Rattle.format.specs.Basics.{flat}
 use Rattle.format_lines.specs.LineEnds.{withEnd}
 use Rattle.files.specs.declared.Stride.the-variants.{Plain}
 use Rattle.files.specs.Records.{recordsOf}
-use Rattle.line_ends.proofs.Writing.{part-wide, lines-again, lines-done}
+use Rattle.line_ends.proofs.Writing.{plain-inside, record-wide, lines-again, lines-done}
 use borrow.Author.Needs.{needs}
 use Rattle.line_ends.proofs.write_lines.Statement.{statement}
 use Rattle.line_ends.proofs.write_lines.Tie as tie
 
 abbrev Inv-loop : tie.InvT-loop
-Inv-loop file target₀ count k₀ target k = (k ≤ count) × (length target ≡ length target₀) × (target ≡ flat (map withEnd (take k (recordsOf Plain file))) ++ drop (86 * k) target₀)
+Inv-loop file target₀ count k₀ target k = (k ≤ count) × (84 * count ≤ length file) × (length target ≡ length target₀) × (target ≡ flat (map withEnd (take k (recordsOf Plain file))) ++ drop (86 * k) target₀)
 
 abbrev μ-loop : tie.MeasureT-loop
 μ-loop file target₀ count k₀ target k = count - k
@@ -23,16 +23,28 @@ count-requires : tie.Need-count-requires Inv-loop μ-loop
 count-requires c κs = search needs
 
 loop-holds : tie.Need-loop-holds Inv-loop μ-loop
-loop-holds c = (search needs, refl, refl)
+loop-holds c = (search needs, search plain-inside, refl, refl)
 
-record-at-requires : tie.Need-record-at-requires Inv-loop μ-loop
-record-at-requires c κs = search needs
+mul-start : tie.Need-mul-start Inv-loop μ-loop
+mul-start c = search needs
+
+add-end : tie.Need-add-end Inv-loop μ-loop
+add-end c = search needs
 
 mul-put-line : tie.Need-mul-put-line Inv-loop μ-loop
 mul-put-line c = search needs
 
+sub-put-line : tie.Need-sub-put-line Inv-loop μ-loop
+sub-put-line c = search needs
+
+part-put-line-start : tie.Need-part-put-line-start Inv-loop μ-loop
+part-put-line-start c = search needs
+
+part-put-line-end : tie.Need-part-put-line-end Inv-loop μ-loop
+part-put-line-end c = search needs
+
 put-line-requires : tie.Need-put-line-requires Inv-loop μ-loop
-put-line-requires c κs = (search part-wide, search needs)
+put-line-requires c κs = (search record-wide, search needs)
 
 add-k : tie.Need-add-k Inv-loop μ-loop
 add-k c = search needs
@@ -41,7 +53,7 @@ loop-less : tie.Need-loop-less Inv-loop μ-loop
 loop-less c = search needs
 
 loop-again : tie.Need-loop-again Inv-loop μ-loop
-loop-again c = (search needs, search needs, search lines-again)
+loop-again c = (search needs, search needs, search needs, search lines-again)
 
 same-length : tie.Need-same-length Inv-loop μ-loop
 same-length c = search needs
@@ -57,8 +69,12 @@ write-lines-spec =
     μ-loop
     count-requires
     loop-holds
-    record-at-requires
+    mul-start
+    add-end
     mul-put-line
+    sub-put-line
+    part-put-line-start
+    part-put-line-end
     put-line-requires
     add-k
     loop-less
