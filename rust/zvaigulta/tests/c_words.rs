@@ -90,5 +90,5 @@ fn the_rooms_that_the_header_names_just_hold_every_text() {
     let names = ALL.iter().flat_map(|l| l.columns).map(|column| column.name.len()).max();
     assert_eq!((Some(defined("ZV_TEXT_BYTES")), Some(defined("ZV_NAME_BYTES"))), (words, names));
     assert_eq!((defined("ZV_RECORD_BYTES"), defined("ZV_MOST_RECORDS")), (zvaigulta::RECORD_BYTES, zvaigulta::MOST_RECORDS));
-    assert_eq!(defined("ZV_LINE_RECORD_BYTES"), zvaigulta::RECORD_BYTES + b"\r\n".len());
+    assert_eq!(defined("ZV_LINE_RECORD_BYTES"), zvaigulta::LINE_RECORD_BYTES);
 }
