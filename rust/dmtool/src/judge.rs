@@ -6,7 +6,7 @@ use crate::{files, progress};
 use std::ffi::OsStr;
 use std::io::Write;
 use std::time::Instant;
-use zvaigulta::explain;
+use zvaigulta::{explain, Mended, Reason, Refusal};
 
 /// Judges every file of the list, whatever became of those before it. The exit status is the worst of theirs.
 pub fn run(arguments: &Arguments, out: &mut impl Write) -> Done {
@@ -39,9 +39,21 @@ fn one(arguments: &Arguments, path: &OsStr, buffer: &mut Vec<u8>, out: &mut impl
     files::read_into(path, buffer)?;
     let form = arguments.form_of(buffer);
     let (line, status) = match files::judge(form, buffer) {
-        Ok(counts) => (counts.to_string(), FINE),
-        Err(refusal) => (explain::line_in(form, buffer, refusal), REFUSED),
+        Ok(counts) => (files::in_form(form, counts), FINE),
+        Err(refusal) => {
+            let line = files::in_form(form, explain::line_in(form, buffer, refusal));
+            (line + &hint(path, buffer, refusal), REFUSED)
+        }
     };
-    writeln!(out, "{}: {}", files::name(path), files::in_form(form, line)).map_err(output_failed)?;
+    writeln!(out, "{}: {line}", files::name(path)).map_err(output_failed)?;
     Ok(status)
+}
+
+/// That nothing but the line ends may be wrong, where the refusal does not say so itself.
+fn hint(path: &OsStr, bytes: &[u8], refusal: Refusal) -> String {
+    if refusal.reason == Reason::LineEnd || Mended::of(bytes).is_none_or(|mended| mended.places == 0) {
+        return String::new();
+    }
+    let name = if path == "-" { "-".to_string() } else { files::name(path) };
+    format!("; its line ends are wrong, 'dmtool explain {name}' says how")
 }

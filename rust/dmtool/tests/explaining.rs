@@ -49,7 +49,10 @@ fn one_reason_for_a_length() {
     let unix = ended(&good(), b"\n");
     f.put("unix.dm", &unix);
     let line = "unix.dm: refused 1: the length, 765 bytes, is not a multiple of 84";
-    assert_eq!(f.run(&["judge", "unix.dm"]).text(), format!("{line}\n"));
+    let hint = "; its line ends are wrong, 'dmtool explain unix.dm' says how";
+    assert_eq!(f.run(&["judge", "unix.dm"]).text(), format!("{line}{hint}\n"));
+    f.put("odd.dm", &good()[1..]);
+    assert_eq!(f.run(&["judge", "odd.dm"]).text(), "odd.dm: refused 1: the length, 755 bytes, is not a multiple of 84\n");
     assert!(f.run(&["show", "unix.dm", "1", "1"]).text().starts_with(&format!("{line}\n")));
     let note = "every record ends in a line feed (LF), 85 bytes in all: mend that by 'dmtool convert FILE --to lines \
                 --mend' (or --to plain); then the file is accepted";
