@@ -15,9 +15,12 @@ type Judge = fn(&[u8], usize) -> Result<Counts, Refusal>;
 const SHEET: (Judge, Judge) = (judge_sheet, judge_sheet_lines);
 const INDEX: (Judge, Judge) = (judge_index, judge_index_lines);
 
-/// How often a call on so many bytes is repeated in a round.
+/// More rounds than the other rows have: the bars are ratios of times that are close to each other, and other work on the machine comes and goes.
+const MORE_ROUNDS: usize = 2 * ROUNDS;
+
+/// How often a call on so many bytes is repeated in a round: the first time its bytes come from further away than the second time.
 fn turns(bytes: usize) -> usize {
-    4_000_000 / bytes + 2
+    2_000_000 / bytes + 3
 }
 
 /// A file in both forms, and the best seconds of judging each.
@@ -58,7 +61,7 @@ fn judging() {
     }
     // An index states its c records in four digits.
     all.extend([2_000, 9_999].map(|c_records| Twins::new("index", INDEX, files::index(c_records, 11))));
-    (0..ROUNDS).for_each(|_| all.iter_mut().for_each(Twins::round));
+    (0..MORE_ROUNDS).for_each(|_| all.iter_mut().for_each(Twins::round));
     println!("\nLine ends, judging: ns a record, and with line ends over plain.\n");
     println!("{:<16} {:>8} {:>12} {:>12} {:>14}", "file", "records", "plain", "line ends", "lines / plain");
     all.iter().for_each(Twins::print);
@@ -82,7 +85,7 @@ impl Written {
 
     fn round(&mut self) {
         let Written { plain, lines, target, best } = self;
-        let turns = 2 * turns(plain.len());
+        let turns = turns(plain.len());
         let copied = least(turns, || {
             target[..plain.len()].copy_from_slice(black_box(plain));
             black_box(&mut *target);
@@ -101,7 +104,7 @@ impl Written {
 
 fn writing() {
     let mut all = [500, 2_000, 20_000, 60_000, MOST_RECORDS].map(Written::new);
-    (0..ROUNDS).for_each(|_| all.iter_mut().for_each(Written::round));
+    (0..MORE_ROUNDS).for_each(|_| all.iter_mut().for_each(Written::round));
     println!("\nLine ends, writing: ns a record, and times as fast as a copy of the records' 84 bytes.\n");
     println!("{:>8} {:>10} {:>10} {:>10} {:>12} {:>12}", "records", "copy", "to lines", "from lines", "to / copy", "from / copy");
     all.iter().for_each(Written::print);
