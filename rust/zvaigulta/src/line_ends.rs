@@ -32,12 +32,14 @@ impl Line<'_> {
 pub struct Lines<'a> {
     bytes: &'a [u8],
     at: usize,
+    /// Whether the line before ended in carriage return and line feed.
+    ended: bool,
 }
 
 impl<'a> Lines<'a> {
     /// Of a whole file.
     pub fn of(bytes: &'a [u8]) -> Lines<'a> {
-        Lines { bytes, at: 0 }
+        Lines { bytes, at: 0, ended: false }
     }
 }
 
@@ -46,47 +48,67 @@ impl<'a> Iterator for Lines<'a> {
 
     fn next(&mut self) -> Option<Line<'a>> {
         let rest = self.bytes.get(self.at..).filter(|rest| !rest.is_empty())?;
-        let (record, end) = lengths(rest);
+        let (record, end) = lengths(rest, self.ended);
         let line = Line { start: self.at, record: rest.get(..record)?, end: rest.get(record..record + end)? };
         self.at += record + end;
+        self.ended = line.is_ended();
         Some(line)
     }
 }
 
-/// The bytes of the first line without its end, and those of its end.
-fn lengths(rest: &[u8]) -> (usize, usize) {
+fn is_mark(byte: &u8) -> bool {
+    matches!(byte, b'\r' | b'\n')
+}
+
+/// The bytes of the first line without its end, and those of its end; `ended` says whether the line before ended in carriage return and line
+/// feed.
+fn lengths(rest: &[u8], ended: bool) -> (usize, usize) {
     let end = mark(rest, RECORD_BYTES);
     let goes_on = |end: usize| is_start(rest, RECORD_BYTES + end);
-    let shorter = || crlf(rest.get(..RECORD_BYTES + 1).unwrap_or(rest)).is_some();
     match end {
         2 if is_crlf(rest, RECORD_BYTES) => (RECORD_BYTES, 2),
         _ if is_crlf(rest, RECORD_BYTES - 1) => (RECORD_BYTES - 1, 2),
-        1.. if goes_on(end) => (RECORD_BYTES, end),
-        2 if goes_on(1) => (RECORD_BYTES, 1),
-        _ if goes_on(2) && !shorter() => (RECORD_BYTES, 2),
-        _ if goes_on(0) && !shorter() => (RECORD_BYTES, 0),
-        _ => by_next_mark(rest),
+        0 if rest.iter().take(RECORD_BYTES).any(is_mark) => by_next_mark(rest),
+        0 if goes_on(0) => (RECORD_BYTES, 0),
+        0 if is_written_over(rest, ended) => (RECORD_BYTES, 2),
+        0 => by_next_mark(rest),
+        2 if !goes_on(2) && goes_on(1) => (RECORD_BYTES, 1),
+        1 if !goes_on(1) && goes_on(2) && is_two(rest) => (RECORD_BYTES, 2),
+        _ => (RECORD_BYTES, end),
     }
+}
+
+/// Whether a carriage return or line feed behind a record and the byte after it stand for both: that is one too, or the next line ends in both.
+fn is_two(rest: &[u8]) -> bool {
+    rest.get(RECORD_BYTES + 1).is_some_and(is_mark) || is_crlf(rest, LINE_RECORD_BYTES + RECORD_BYTES)
+}
+
+/// Whether two other bytes stand in the place of a line end: the next one stands where it should, or the file ends behind them. Not where one
+/// byte too many may stand before a line feed or carriage return alone, as other lines do not end in both.
+fn is_written_over(rest: &[u8], ended: bool) -> bool {
+    let next = LINE_RECORD_BYTES + RECORD_BYTES;
+    let last = rest.len() == LINE_RECORD_BYTES;
+    let longer = rest.get(RECORD_BYTES + 1).is_some_and(is_mark) && !is_crlf(rest, next) && !(last && ended);
+    (last || mark(rest, next) > 0 && is_start(rest, LINE_RECORD_BYTES)) && !longer
 }
 
 /// The same by the next carriage return or line feed, or the end of the file, whatever stands before it. Where that is near, as many whole
 /// records away, with two bytes for each end or with none, the line is the first of them.
 fn by_next_mark(rest: &[u8]) -> (usize, usize) {
-    let place = rest.iter().position(|byte| matches!(byte, b'\r' | b'\n')).unwrap_or(rest.len());
+    let place = rest.iter().position(is_mark).unwrap_or(rest.len());
     match place {
-        RECORD_BYTES..=FARTHEST if place % RECORD_BYTES == 0 => (RECORD_BYTES, 0),
-        RECORD_BYTES..=FARTHEST if place % LINE_RECORD_BYTES == RECORD_BYTES => (RECORD_BYTES, 2),
+        RECORD_BYTES..=FARTHEST if place.is_multiple_of(RECORD_BYTES) => (RECORD_BYTES, 0),
+        RECORD_BYTES..=FARTHEST if place % LINE_RECORD_BYTES == RECORD_BYTES && place < rest.len() => (RECORD_BYTES, 2),
         _ => (place, mark(rest, place)),
     }
 }
 
 /// Whether a record may start at a byte, or the file end there: the next line end, or the end of the file, stands where it should.
 fn is_start(rest: &[u8], start: usize) -> bool {
-    match rest.len().checked_sub(start) {
-        None => false,
-        Some(0 | RECORD_BYTES) => true,
-        Some(_) => mark(rest, start + RECORD_BYTES) > 0,
-    }
+    rest.get(start..).is_some_and(|next| {
+        let mark = next.iter().take(RECORD_BYTES + 1).position(is_mark);
+        next.is_empty() || mark.unwrap_or(next.len()) == RECORD_BYTES
+    })
 }
 
 /// How many bytes of a line end stand at a byte: carriage return, line feed, both in either order, or as text that was converted twice has them.
@@ -154,8 +176,12 @@ impl Mended {
         (whole && (!divided || is_plain(&mended.plain))).then_some(mended)
     }
 
-    /// One more line; whether a record goes on behind it. None where it is too long for what is left of its record.
+    /// One more line; whether a record goes on behind it. None where it is too long for what is left of its record, or has a part of a line end
+    /// in it.
     fn step(&mut self, line: &Line) -> Option<bool> {
+        if line.record.iter().any(is_mark) {
+            return None;
+        }
         let begun = self.plain.len() % RECORD_BYTES;
         let length = begun + line.record.len();
         let empty = line.record.is_empty() && begun == 0;

@@ -1420,7 +1420,7 @@ const LINES: &[Damage] = &[
         "an empty line behind each record",
         || ended(&sheet(), b"\r\n\r\n"),
         (1, 0),
-        &["an empty line stands behind record 1, at byte 87 of the file; the same at 27 other places", MEND],
+        &["an empty line stands behind record 1, at byte 87 of the file; the same at records 2, 3, 4, 5, 6 and 22 more", MEND],
         &[],
     ),
     ("an end-of-file mark", || [lines(), vec![0x1a]].concat(), (1, 0), &["behind the last line end: an end-of-file mark (the byte 1A)", MEND], &[]),
@@ -1475,6 +1475,13 @@ const LINES: &[Damage] = &[
         || lines()[..86 * 20 + 30].to_vec(),
         (1, 0),
         &["record 21 has only 30 of its 84 bytes: the file is cut off", "28 records", "20 are there: 8 are missing", "not: --mend"],
+        &[],
+    ),
+    (
+        "the file is cut off before the end of record 20",
+        || lines()[..86 * 20 - 2].to_vec(),
+        (1, 0),
+        &["record 20 ends without a line end", "20 are there: 8 are missing", "then it is refused 3 at record 20"],
         &[],
     ),
     (

@@ -142,6 +142,55 @@ fn line_ends_of_other_kinds_are_mended() {
     }
 }
 
+/// Some bytes taken out of a line, or put into it, before its end.
+fn other_length(r: &mut Random, line: &mut Vec<u8>) {
+    let by = 1 + r.below(4);
+    let at = r.below(RECORD_BYTES - by + 1);
+    let (out, new) = if r.once_in(2) { (by, Vec::new()) } else { (0, vec![*r.pick(b" 0x"); by]) };
+    line.splice(at..at + out, new);
+}
+
+/// Bytes lost or too many in one or two records of a file with line ends of any kind: never mended, and with carriage return and line feed each is
+/// named.
+#[test]
+fn bytes_lost_are_never_mended() {
+    let mut r = Random(21);
+    for n in 0..6_000 {
+        let file = if n % 2 == 0 { sheet() } else { plain(&mut r, n) };
+        let end = *r.pick(&[&b"\n"[..], b"\r", b"\n\r", b"\r\r\n", b"\r\n"]);
+        let mut lines: Vec<Vec<u8>> = file.chunks(RECORD_BYTES).map(|record| [record, end].concat()).collect();
+        let (one, two) = (r.below(lines.len()), r.below(lines.len()));
+        other_length(&mut r, &mut lines[one]);
+        if two != one && r.once_in(2) {
+            other_length(&mut r, &mut lines[two]);
+        }
+        let lines = lines.concat();
+        assert_eq!(Mended::of(&lines), None, "case {n}: records {} and {}, {end:?}", one + 1, two + 1);
+        if end == b"\r\n" && file.len() == sheet().len() {
+            let refusal = FileKind::Sheet.judge_in(Form::Lines, &lines, lines.len()).expect_err("a wrong length");
+            let notes = explain_in(Form::Lines, &lines, refusal).notes;
+            let named = [format!("record {}, ", one + 1), format!("the same at record {}", one + 1)];
+            assert!(notes.iter().any(|note| named.iter().any(|named| note.contains(named))), "case {n}: {notes:?}");
+        }
+    }
+}
+
+/// Ends of every kind, broken, missing and double by turns: mended to the records that they stood behind, or not at all.
+#[test]
+fn what_is_mended_are_the_records() {
+    let mut r = Random(22);
+    let mut mended = 0;
+    for n in 0..4_000 {
+        let plain = plain(&mut r, n);
+        let ends: [&[u8]; 10] = [b"\r\n", b"\r\n", b"\r\n", b"\n", b"\r", b"\n\r", b"\r\r\n", b"", b"  ", b"\r\n\r\n"];
+        let file: Vec<u8> = plain.chunks(RECORD_BYTES).flat_map(|record| [record, *r.pick(&ends)].concat()).collect();
+        let Some(found) = Mended::of(&file) else { continue };
+        assert!(found.plain == plain, "case {n}: {}", String::from_utf8_lossy(&file));
+        mended += 1;
+    }
+    assert!(mended > 1_000, "{mended}");
+}
+
 /// Any bytes, in either form, with any refusal: an answer without a panic; what is mended goes over and back.
 #[test]
 fn any_bytes_are_answered() {

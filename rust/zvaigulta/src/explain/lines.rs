@@ -126,12 +126,13 @@ pub fn notes(bytes: &[u8]) -> Vec<String> {
     let same = |wrong: &Wrong| found.iter().filter(|found| found.wrong == *wrong).collect::<Vec<&Found>>();
     let words = |wrong: &Wrong| same(wrong).first().map(|first| first.words(&same(wrong)));
     // Text that lost the spaces at its line ends has many short lines.
-    let trimmed = form::other_lines(text).filter(|_| same(&Wrong::Short).len() > 1 && same(&Wrong::Long).is_empty());
+    let short = same(&Wrong::Short).len() * 4 > text.len() / LINE_RECORD_BYTES && same(&Wrong::Long).is_empty();
+    let trimmed = form::other_lines(text).filter(|_| short);
     let mut notes = trimmed.map_or_else(|| Wrong::ALL.iter().filter_map(words).collect(), |trimmed| vec![trimmed]);
     let fill = bytes.get(text.len()..).filter(|fill| !fill.is_empty());
     notes.extend(fill.map(|fill| format!("behind the last line end: {}", form::named(fill))));
     let plain: Vec<u8> = Lines::of(text).filter(Line::is_record).flat_map(|line| line.record).copied().collect();
-    let cut = found.iter().any(|found| found.wrong == Wrong::Cut);
+    let cut = found.last().is_some_and(|last| matches!(last.wrong, Wrong::Cut | Wrong::Unended));
     notes.extend(Records::of(&plain).filter(|records| cut && records.missing() > 0).map(|records| records.words()));
     notes.extend(mending(bytes));
     notes
@@ -184,20 +185,25 @@ impl Found<'_> {
     }
 }
 
-/// How many more are wrong in the same way.
+/// The others that are wrong in the same way.
 fn others(same: &[&Found]) -> String {
-    match same.len() {
-        0 | 1 => String::new(),
-        n => format!("; the same at {}", number_of(n as u64 - 1, "other place")),
+    match same {
+        [] | [_] => String::new(),
+        [_, others @ ..] => format!("; the same at {}", records(others)),
     }
 }
 
 /// Which records end in some way: `record 5 ends in`, `records 5, 7 and 12 more end in`.
 fn ending(same: &[&Found], how: &str) -> String {
-    let numbers: Vec<String> = same.iter().take(MOST_LISTED).map(|found| found.record.to_string()).collect();
-    match (numbers.as_slice(), same.len()) {
-        ([one], _) => format!("record {one} ends {how}"),
-        ([first @ .., last], n) if n <= MOST_LISTED => format!("records {} and {last} end {how}", first.join(", ")),
-        (_, n) => format!("records {} and {} more end {how}", numbers.join(", "), n - MOST_LISTED),
+    format!("{} {} {how}", records(same), if same.len() == 1 { "ends" } else { "end" })
+}
+
+/// The numbers of some records in words.
+fn records(found: &[&Found]) -> String {
+    let numbers: Vec<String> = found.iter().take(MOST_LISTED).map(|found| found.record.to_string()).collect();
+    match (numbers.as_slice(), found.len()) {
+        ([one], _) => format!("record {one}"),
+        ([first @ .., last], n) if n <= MOST_LISTED => format!("records {} and {last}", first.join(", ")),
+        (_, n) => format!("records {} and {} more", numbers.join(", "), n - MOST_LISTED),
     }
 }
