@@ -19,7 +19,8 @@ pub fn run(arguments: &Arguments, out: &mut impl Write) -> Done {
     let to = target(arguments, path)?;
     let job = Job::open(arguments, path, to)?;
     let asked = Asked { path, form: arguments.form_of(&job.bytes), bytes: &job.bytes };
-    let mended = if arguments.mend { Mended::of(&job.bytes).filter(|mended| mended.places > 0) } else { None };
+    let mend = arguments.mend && files::is_whole(&job.bytes);
+    let mended = if mend { Mended::of(&job.bytes) } else { None };
     let done = said(&asked, form, mended.as_ref());
     let plain = mended.map_or_else(|| asked.plain(), |mended| Ok(mended.plain.into()))?;
     // Also where the result is to be plain: a length that is refused by 1 is no file of either form.

@@ -130,8 +130,7 @@ pub fn file(asked: &Asked, refusal: Refusal) -> Failure {
 fn refused(asked: &Asked, refusal: Refusal, mut words: Vec<String>) -> Failure {
     let of_file = refusal.number() <= 10 || refusal.reason == Reason::LineEnd;
     if of_file && (words.is_empty() || FileKind::of(asked.bytes) == FileKind::Sheet) {
-        let name = if asked.path == "-" { "-".to_string() } else { files::name(asked.path) };
-        words.push(format!("'dmtool explain {name}' says what is wrong"));
+        words.push(format!("{} says what is wrong", files::explain_command(asked.path, asked.form, asked.bytes)));
     }
     let line = files::in_form(asked.form, line_in(asked.form, asked.bytes, refusal));
     words.insert(0, format!("{}: {line}", files::name(asked.path)));

@@ -8,10 +8,16 @@ use std::fmt::Display;
 use std::fs::{self, File};
 use std::io::{self, ErrorKind, Read};
 use zvaigulta::text::shown;
-use zvaigulta::{Counts, FileKind, Form, Refusal, LINE_RECORD_BYTES, MOST_RECORDS};
+use zvaigulta::{Counts, FileKind, Form, Refusal, LINE_END, LINE_RECORD_BYTES, MOST_RECORDS};
 
-/// One record more than a file may have, with its line end. A longer file answers as this much of it does: it is refused by its length.
-const LONGEST: u64 = ((MOST_RECORDS + 1) * LINE_RECORD_BYTES) as u64;
+/// One record more than a file may have, each with two line ends, as `convert --mend` takes them. A longer file answers as this much of it does:
+/// it is refused by its length.
+const LONGEST: u64 = ((MOST_RECORDS + 1) * (LINE_RECORD_BYTES + LINE_END.len())) as u64;
+
+/// Whether bytes are all of the file that they were read from, for sure.
+pub fn is_whole(bytes: &[u8]) -> bool {
+    (bytes.len() as u64) < LONGEST
+}
 
 /// Reads as much as a file may have into a buffer.
 fn take_all(from: impl Read, into: &mut Vec<u8>) -> io::Result<usize> {
@@ -102,6 +108,17 @@ pub fn in_form(form: Form, line: impl Display) -> String {
         Form::Plain => line.to_string(),
         Form::Lines => format!("{line} ({form})"),
     }
+}
+
+/// The command that explains a file as it was read: with the form, where that is not the one which is recognised.
+pub fn explain_command(path: &OsStr, form: Form, bytes: &[u8]) -> String {
+    let option = match form {
+        _ if form == Form::of(bytes) => "",
+        Form::Lines => " --lines",
+        Form::Plain => " --plain",
+    };
+    let name = if path == "-" { "-".to_string() } else { name(path) };
+    format!("'dmtool explain{option} {name}'")
 }
 
 /// Says that a file was read with line ends, and that its result has them, where the answer has no room for it.

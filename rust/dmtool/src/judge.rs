@@ -6,7 +6,7 @@ use crate::{files, progress};
 use std::ffi::OsStr;
 use std::io::Write;
 use std::time::Instant;
-use zvaigulta::{explain, Mended, Reason, Refusal};
+use zvaigulta::{explain, Form, Mended, Reason, Refusal};
 
 /// Judges every file of the list, whatever became of those before it. The exit status is the worst of theirs.
 pub fn run(arguments: &Arguments, out: &mut impl Write) -> Done {
@@ -42,7 +42,7 @@ fn one(arguments: &Arguments, path: &OsStr, buffer: &mut Vec<u8>, out: &mut impl
         Ok(counts) => (files::in_form(form, counts), FINE),
         Err(refusal) => {
             let line = files::in_form(form, explain::line_in(form, buffer, refusal));
-            (line + &hint(path, buffer, refusal), REFUSED)
+            (line + &hint(path, form, buffer, refusal), REFUSED)
         }
     };
     writeln!(out, "{}: {line}", files::name(path)).map_err(output_failed)?;
@@ -50,10 +50,9 @@ fn one(arguments: &Arguments, path: &OsStr, buffer: &mut Vec<u8>, out: &mut impl
 }
 
 /// That nothing but the line ends may be wrong, where the refusal does not say so itself.
-fn hint(path: &OsStr, bytes: &[u8], refusal: Refusal) -> String {
-    if refusal.reason == Reason::LineEnd || Mended::of(bytes).is_none_or(|mended| mended.places == 0) {
+fn hint(path: &OsStr, form: Form, bytes: &[u8], refusal: Refusal) -> String {
+    if refusal.reason == Reason::LineEnd || Mended::of(bytes).is_none() {
         return String::new();
     }
-    let name = if path == "-" { "-".to_string() } else { files::name(path) };
-    format!("; its line ends are wrong, 'dmtool explain {name}' says how")
+    format!("; its line ends are wrong, {} says how", files::explain_command(path, form, bytes))
 }

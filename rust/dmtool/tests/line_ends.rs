@@ -208,6 +208,9 @@ fn forced_forms() {
     ] {
         let ran = f.run(words);
         assert!(ran.status == Some(1) && ran.err.contains(": refused 1: the length, "), "{words:?}: {}", ran.err);
+        let option = words.iter().rfind(|word| word.starts_with("--")).expect("a form");
+        let explained = format!("'dmtool explain {option} {}' says what is wrong\n", words[1]);
+        assert!(ran.err.ends_with(&explained), "{words:?}: {}", ran.err);
     }
     assert_eq!((f.get("good.dm"), f.get("l_good.dm")), (good(), lines(&good())));
     // Of an insertion it is the sheet's form; the block is recognised for itself.
@@ -370,6 +373,29 @@ fn the_largest_files() {
     assert_eq!(f.run(&["convert", "full.dm", "--to", "plain"]).status, Some(0));
     assert!(lines(&f.get("full.dm")) == edited && edited.len() == full.len());
     assert!(f.run(&["up", "broken.dm", "200000"]).err.starts_with("dmtool: broken.dm: refused 18 at record 200000: "));
+}
+
+/// Line ends that make the largest file longer than one may be are mended too; what is read of a file in part only is not.
+#[test]
+fn the_largest_files_are_mended() {
+    let f = Folder::new("largest_mended");
+    f.put("double.dm", &ended(large(), b"\r\n\r\n")).put("twice.dm", &ended(large(), b"\r\r\n"));
+    for name in ["double.dm", "twice.dm"] {
+        assert!(f.run(&["explain", name]).text().contains("mend that by 'dmtool convert FILE --to lines --mend'"), "{name}");
+        let ran = f.run(&["convert", name, "--to", "lines", "--mend"]);
+        assert_eq!(
+            ran.text(),
+            format!("{name}: mended its line ends at 200000 places, 200000 records, now with line ends\n"),
+            "{}",
+            ran.err
+        );
+        assert!(f.get(name) == lines(large()), "{name}");
+    }
+    let long = ended(large(), b"\r\n\r\n").repeat(2);
+    f.put("long.dm", &long);
+    let ran = f.run(&["convert", "long.dm", "--to", "plain", "--mend", "-o", "new.dm"]);
+    assert!(ran.status == Some(1) && ran.err.contains("refused 1: the file has more than 200,000 records"), "{}", ran.err);
+    assert!(f.get("long.dm") == long && !f.names().contains(&"new.dm".to_string()));
 }
 
 /// A sheet of 301 items, with line ends.

@@ -1,6 +1,6 @@
 //! The lines of a file whose records have line ends, right or not.
 
-use crate::{explain, FileKind, LINE_END, LINE_RECORD_BYTES, RECORD_BYTES};
+use crate::{explain, FileKind, LINE_END, LINE_RECORD_BYTES, MOST_RECORDS, RECORD_BYTES};
 
 /// How many bytes of records may lack their ends one behind the other and still be told by where the next line end stands: twenty records.
 const FARTHEST: usize = 20 * LINE_RECORD_BYTES;
@@ -151,7 +151,7 @@ impl Mended {
     /// Of a file whose line ends are of another kind (line feed or carriage return alone, the two the wrong way round, two carriage returns and a
     /// line feed), written over, missing or double, perhaps with NUL bytes or an end-of-file mark behind the last: its records. A line end inside
     /// a record is taken out where the file is accepted then. None where a record has another length than 84, where most records have no line
-    /// end at all, and where the file is accepted as a plain one.
+    /// end at all, where there are more than 200,000, where all ends are right, and where the file is accepted as a plain one.
     ///
     /// ```
     /// use zvaigulta::{Mended, EXAMPLE};
@@ -172,7 +172,8 @@ impl Mended {
         for line in Lines::of(text) {
             divided |= mended.step(&line)?;
         }
-        let whole = mended.plain.len().is_multiple_of(RECORD_BYTES) && !mended.plain.is_empty();
+        let records = mended.plain.len() / RECORD_BYTES;
+        let whole = mended.plain.len().is_multiple_of(RECORD_BYTES) && (1..=MOST_RECORDS).contains(&records) && mended.places > 0;
         (whole && (!divided || is_plain(&mended.plain))).then_some(mended)
     }
 

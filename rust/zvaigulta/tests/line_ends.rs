@@ -51,7 +51,7 @@ fn whole_files_are_known_for_what_they_are() {
         }
         assert_eq!(Form::of(&file), Form::Plain, "case {n}");
         assert_eq!(Form::of(&with), Form::Lines, "case {n}");
-        assert_eq!(Mended::of(&file), None, "case {n}");
+        assert_eq!((Mended::of(&file), Mended::of(&with)), (None, None), "case {n}");
         assert_eq!(Form::Lines.plain(&with).expect("lines").len(), file.len(), "case {n}");
     }
 }
@@ -128,7 +128,7 @@ fn line_ends_of_other_kinds_are_mended() {
     let kinds: [&[u8]; 5] = [b"\n", b"\r", b"\n\r", b"\r\r\n", b"\r\n"];
     for n in 0..2_000 {
         let plain = if n % 7 == 0 { index() } else { plain(&mut r, n) };
-        let alike = *r.pick(&kinds);
+        let alike = *r.pick(&kinds[..4]);
         let mixed = r.once_in(3);
         let file: Vec<u8> = plain
             .chunks(RECORD_BYTES)

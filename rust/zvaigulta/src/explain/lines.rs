@@ -21,7 +21,7 @@ pub fn explain(bytes: &[u8], refusal: Refusal) -> Explanation {
     }
     told.notes = match (form::start(bytes), length::other(bytes.len(), Form::Lines)) {
         (Some(start), _) => vec![start],
-        (None, Some(other)) if refusal.reason == Reason::Length => vec![other],
+        (None, Some(other)) if refusal.reason == Reason::Length && mending(bytes).is_none() => vec![other],
         _ => notes(bytes),
     };
     told
