@@ -7,6 +7,7 @@ use std::io;
 use std::os::fd::AsRawFd;
 use std::os::unix::ffi::OsStrExt;
 use std::path::{Path, PathBuf};
+use std::sync::atomic::{AtomicBool, Ordering};
 
 /// Opens a folder's new file that has no name: it is gone when it is closed, also by kill -9, unless it was given one.
 pub const O_TMPFILE: i32 = 0o20_200_000;
@@ -25,6 +26,29 @@ extern "C" {
     fn fsetxattr(file: c_int, name: *const c_char, value: *const c_void, size: usize, flags: c_int) -> c_int;
     fn fremovexattr(file: c_int, name: *const c_char) -> c_int;
     fn madvise(start: *mut c_void, length: usize, advice: c_int) -> c_int;
+    fn fcntl(file: c_int, command: c_int, ...) -> c_int;
+}
+
+const F_GETFD: c_int = 1;
+
+/// Whether standard input and standard output were closed when the process was started.
+static CLOSED: [AtomicBool; 2] = [AtomicBool::new(false), AtomicBool::new(false)];
+
+extern "C" fn look_at_standard() {
+    for (number, closed) in (0..).zip(&CLOSED) {
+        // SAFETY: the call takes no pointer and changes nothing; it answers -1 for a number that is not open.
+        closed.store(unsafe { fcntl(number, F_GETFD) } == -1, Ordering::Relaxed);
+    }
+}
+
+/// The system's loader calls what stands here before the language's own start, which opens `/dev/null` in place of what is closed.
+#[used]
+#[link_section = ".init_array"]
+static BEFORE_START: extern "C" fn() = look_at_standard;
+
+/// Whether standard input (0) or standard output (1) was closed from the start.
+pub fn was_closed(number: usize) -> bool {
+    CLOSED.get(number).is_some_and(|closed| closed.load(Ordering::Relaxed))
 }
 
 const MADV_HUGEPAGE: c_int = 14;

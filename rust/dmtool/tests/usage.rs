@@ -112,7 +112,7 @@ fn closed_from_the_start() {
             ran.err
         );
     }
-    for words in ["judge good.dm >/dev/null", "judge good.dm 1>>/dev/null", "batch </dev/null"] {
+    for words in ["judge good.dm >/dev/null", "judge good.dm 1<>/dev/null", "batch </dev/null", "batch 0<>/dev/null"] {
         assert_eq!(on(words).status, Some(0), "{words}");
     }
 }
