@@ -1,6 +1,6 @@
 //! The two forms of a file: records end to end, or with a line end behind each.
 
-use crate::line_ends::{crlf, is_plain};
+use crate::line_ends::{crlf, reads_as_plain};
 use crate::{from_lines, to_lines, Refusal, LINE_RECORD_BYTES, RECORD_BYTES};
 use std::borrow::Cow;
 use std::fmt;
@@ -31,7 +31,8 @@ pub enum Form {
 
 impl Form {
     /// The form in which bytes, a file or a block, are to be read: with line ends where at least as many of their records end so as do not,
-    /// counted anew behind a line of another length; else plain. What is accepted as a plain file, or is a sound plain block, is always plain.
+    /// counted anew behind a line of another length; else plain. What is accepted as a plain file, a plain sheet that is refused for its counts
+    /// alone (10), and a sound plain block are always plain.
     ///
     /// So a file with line ends is known for one while some of them are broken or bytes of it are lost, and judging then says where.
     ///
@@ -46,7 +47,7 @@ impl Form {
     /// # Ok::<(), zvaigulta::Refusal>(())
     /// ```
     pub fn of(bytes: &[u8]) -> Form {
-        if has_line_ends(bytes) && !is_plain(bytes) {
+        if has_line_ends(bytes) && !reads_as_plain(bytes) {
             Form::Lines
         } else {
             Form::Plain

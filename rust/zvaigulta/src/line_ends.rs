@@ -1,6 +1,6 @@
 //! The lines of a file whose records have line ends, right or not.
 
-use crate::{explain, FileKind, LINE_END, LINE_RECORD_BYTES, MOST_RECORDS, RECORD_BYTES};
+use crate::{explain, FileKind, Reason, LINE_END, LINE_RECORD_BYTES, MOST_RECORDS, RECORD_BYTES};
 
 /// How many bytes of records may lack their ends one behind the other and still be told by where the next line end stands: twenty records.
 const FARTHEST: usize = 20 * LINE_RECORD_BYTES;
@@ -151,7 +151,8 @@ impl Mended {
     /// Of a file whose line ends are of another kind (line feed or carriage return alone, the two the wrong way round, two carriage returns and a
     /// line feed), written over, missing or double, perhaps with NUL bytes or an end-of-file mark behind the last: its records. A line end inside
     /// a record is taken out where the file is accepted then. None where a record has another length than 84, where most records have no line
-    /// end at all, where there are more than 200,000, where all ends are right, and where the file is accepted as a plain one.
+    /// end at all, where there are more than 200,000, where all ends are right, and where the file is accepted as a plain one, or a plain
+    /// sheet refused for its counts alone (10).
     ///
     /// ```
     /// use zvaigulta::{Mended, EXAMPLE};
@@ -164,7 +165,7 @@ impl Mended {
     pub fn of(bytes: &[u8]) -> Option<Mended> {
         let text = without_fill(bytes);
         let marked = Lines::of(text).filter(|line| line.is_record() && matches!(line.end, [b'\r' | b'\n', ..])).count();
-        if marked == 0 || marked * 2 < text.len() / LINE_RECORD_BYTES || is_plain(bytes) {
+        if marked == 0 || marked * 2 < text.len() / LINE_RECORD_BYTES || reads_as_plain(bytes) {
             return None;
         }
         let mut mended = Mended { plain: Vec::with_capacity(text.len()), places: usize::from(text.len() < bytes.len()) };
@@ -174,7 +175,7 @@ impl Mended {
         }
         let records = mended.plain.len() / RECORD_BYTES;
         let whole = mended.plain.len().is_multiple_of(RECORD_BYTES) && (1..=MOST_RECORDS).contains(&records) && mended.places > 0;
-        (whole && (!divided || is_plain(&mended.plain))).then_some(mended)
+        (whole && (!divided || is_accepted(&mended.plain))).then_some(mended)
     }
 
     /// One more line; whether a record goes on behind it. None where it is too long for what is left of its record, or has a part of a line end
@@ -193,6 +194,16 @@ impl Mended {
 }
 
 /// Whether bytes are accepted as a plain file, or are a sound plain block.
-pub fn is_plain(bytes: &[u8]) -> bool {
+fn is_accepted(bytes: &[u8]) -> bool {
     FileKind::of(bytes).judge(bytes, bytes.len()).is_ok() || explain::is_block(bytes)
+}
+
+/// The same, or a plain sheet in which nothing but counts is wrong: all its records are read in order before these are compared. Not so an index,
+/// whose names of sheets may be any bytes.
+pub fn reads_as_plain(bytes: &[u8]) -> bool {
+    let kind = FileKind::of(bytes);
+    match kind.judge(bytes, bytes.len()) {
+        Ok(_) => true,
+        Err(refusal) => refusal.reason == Reason::Count && kind == FileKind::Sheet || explain::is_block(bytes),
+    }
 }

@@ -4,7 +4,7 @@ mod town;
 
 use reference::random::Random;
 use reference::sheets;
-use town::{ended, index, sheet};
+use town::{ended, index, sheet, with};
 use zvaigulta::explain::{explain_in, line_in};
 use zvaigulta::{from_lines, to_lines, FileKind, Form, Mended, Reason, LINE_RECORD_BYTES, RECORD_BYTES};
 
@@ -54,6 +54,27 @@ fn whole_files_are_known_for_what_they_are() {
         assert_eq!((Mended::of(&file), Mended::of(&with)), (None, None), "case {n}");
         assert_eq!(Form::Lines.plain(&with).expect("lines").len(), file.len(), "case {n}");
     }
+}
+
+/// A plain sheet whose attribute data is text in lines, with a carriage return and line feed wherever a file with line ends has them.
+fn sheet_of_text(data: usize) -> Vec<u8> {
+    let mut sheet = sheet();
+    let text: Vec<u8> = (0..data * RECORD_BYTES).map(|n| b"\r\nx"[(n % 86).checked_sub(84).unwrap_or(2)]).collect();
+    let at = 16 * RECORD_BYTES;
+    sheet.splice(at..at + 2 * RECORD_BYTES, text);
+    with(sheet, 16, 27, &format!("{data:>4}{data:>4}"))
+}
+
+/// A plain sheet of which nothing but a count differs is read as plain, whatever stands in its texts; an index with line ends, whose records may be
+/// any bytes, with them.
+#[test]
+fn counts_that_differ() {
+    let file = sheet_of_text(200);
+    let refusal = zvaigulta::judge_sheet(&file, file.len()).expect_err("a count differs");
+    assert_eq!((refusal.reason, Form::of(&file), Mended::of(&file)), (Reason::Count, Form::Plain, None));
+    let index = sheets::index_of(&mut Random(1), 410, 0);
+    assert_eq!((index.len(), lines(&index).len() % RECORD_BYTES), (42 * RECORD_BYTES, 0));
+    assert_eq!(Form::of(&lines(&index)), Form::Lines);
 }
 
 /// Records enough for lengths that are multiples of 84 and of 86.
