@@ -31,8 +31,9 @@ pub enum Form {
 
 impl Form {
     /// The form in which bytes, a file or a block, are to be read: with line ends where at least as many of their records end so as do not,
-    /// counted anew behind a line of another length; else plain. What is accepted as a plain file, a plain sheet that is refused for its counts
-    /// alone (10), and a sound plain block are always plain.
+    /// counted anew behind a line of another length, or where one at least does and the length is a multiple of 86 and not of 84; else plain. What
+    /// is accepted as a plain file, a plain sheet that is refused for its counts alone (10), and a sound plain block are always plain; and so are
+    /// plain records with one line end behind the last.
     ///
     /// So a file with line ends is known for one while some of them are broken or bytes of it are lost, and judging then says where.
     ///
@@ -47,7 +48,7 @@ impl Form {
     /// # Ok::<(), zvaigulta::Refusal>(())
     /// ```
     pub fn of(bytes: &[u8]) -> Form {
-        if has_line_ends(bytes) && !reads_as_plain(bytes) {
+        if (has_line_ends(bytes) || has_their_length(bytes)) && !reads_as_plain(bytes) {
             Form::Lines
         } else {
             Form::Plain
@@ -129,6 +130,18 @@ fn has_line_ends(bytes: &[u8]) -> bool {
         rest = rest.get(line.unwrap_or(LINE_RECORD_BYTES)..).unwrap_or(&[]);
     }
     ended > 0 && ended >= other
+}
+
+/// Whether the length is that of records with line ends and not of plain ones, and one of the records at least ends so. One line end behind the last
+/// of plain records is not meant.
+fn has_their_length(bytes: &[u8]) -> bool {
+    let length = bytes.len();
+    if !length.is_multiple_of(LINE_RECORD_BYTES) || length.is_multiple_of(RECORD_BYTES) || !bytes.contains(&b'\r') {
+        return false;
+    }
+    let behind_plain = length % RECORD_BYTES == LINE_END.len();
+    let looked_at = if behind_plain { length - LINE_RECORD_BYTES } else { length };
+    bytes.chunks(LINE_RECORD_BYTES).take(looked_at / LINE_RECORD_BYTES).any(|line| line.ends_with(LINE_END))
 }
 
 /// The bytes up to a line end, and that: behind a record where it stands there, else behind the first before that place or at most one byte

@@ -1390,6 +1390,20 @@ const LINES: &[Damage] = &[
         &[(3, "line end")],
     ),
     (
+        "every end broken but that of record 20",
+        || (1..=28).filter(|record| *record != 20).fold(lines(), |file, record| lines_with(file, record, 84, 2, b"  ")),
+        (18, 1),
+        &["records 1, 2, 3, 4, 5 and 22 more end in other bytes than carriage return and line feed", "not: lost"],
+        &[(1, "line end")],
+    ),
+    (
+        "every end broken but the last",
+        || (1..28).fold(lines(), |file, record| lines_with(file, record, 84, 2, b"  ")),
+        (18, 1),
+        &["records 1, 2, 3, 4, 5 and 22 more end in other bytes than carriage return and line feed", "not: lost"],
+        &[(1, "line end")],
+    ),
+    (
         "LF alone behind record 5",
         || lines_with(lines(), 5, 84, 2, b"\n"),
         (1, 0),

@@ -97,10 +97,27 @@ struct Found<'a> {
     wrong: Wrong,
 }
 
+/// A line, or the records of 86 bytes that it is where it stands at their places: they have other bytes for their ends, but for the last perhaps.
+/// That is likely, not sure, and so good for words alone.
+fn in_place<'a>(text: &'a [u8], line: Line<'a>) -> Vec<Line<'a>> {
+    let length = line.record.len() + line.end.len();
+    let whole =
+        length > LINE_RECORD_BYTES && length.is_multiple_of(LINE_RECORD_BYTES) && line.start.is_multiple_of(LINE_RECORD_BYTES);
+    if !whole || !line.end.is_empty() && !line.is_ended() {
+        return vec![line];
+    }
+    let chunks = text.get(line.start..line.start + length).unwrap_or(&[]).chunks_exact(LINE_RECORD_BYTES).enumerate();
+    let record = |(nth, chunk): (usize, &'a [u8])| {
+        let (record, end) = chunk.split_at(RECORD_BYTES);
+        Line { start: line.start + nth * LINE_RECORD_BYTES, record, end }
+    };
+    chunks.map(record).collect()
+}
+
 /// The lines that are wrong.
 fn found(text: &[u8]) -> Vec<Found<'_>> {
     let mut found = Vec::new();
-    let mut lines = Lines::of(text).peekable();
+    let mut lines = Lines::of(text).flat_map(|line| in_place(text, line)).peekable();
     let mut record = 0;
     while let Some(line) = lines.next() {
         record += usize::from(!line.record.is_empty());
