@@ -100,6 +100,9 @@ impl Arguments {
         if self.force && self.output.is_none() && !self.help {
             return Err(Failure::Usage("--force goes with -o OTHER: it lets the result replace another file".to_string()));
         }
+        if self.mend && self.form == Some(Form::Plain) && !self.help {
+            return Err(Failure::Usage("--mend is about line ends and does not go with --plain; give one of them".to_string()));
+        }
         Ok(self)
     }
 

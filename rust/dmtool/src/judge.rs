@@ -42,7 +42,9 @@ fn one(arguments: &Arguments, path: &OsStr, buffer: &mut Vec<u8>, out: &mut impl
         Ok(counts) => (files::in_form(form, counts), FINE),
         Err(refusal) => {
             let line = files::in_form(form, explain::line_in(form, buffer, refusal));
-            (line + &hint(path, form, buffer, refusal), REFUSED)
+            let plain = arguments.form == Some(Form::Plain);
+            let hint = if plain { String::new() } else { hint(path, form, buffer, refusal) };
+            (line + &hint, REFUSED)
         }
     };
     writeln!(out, "{}: {line}", files::name(path)).map_err(output_failed)?;

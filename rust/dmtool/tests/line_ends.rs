@@ -219,6 +219,17 @@ fn forced_forms() {
     assert_eq!(f.get("l_good.dm"), lines(&f.get("good.dm")));
 }
 
+/// The hint at line ends is for who did not ask for the plain form.
+#[test]
+fn no_hint_where_plain_is_asked_for() {
+    let f = Folder::new("plain_hint");
+    f.put("unix.dm", &ended(&good(), b"\n"));
+    let line = "unix.dm: refused 1: the length, 765 bytes, is not a multiple of 84";
+    let hint = "; its line ends are wrong, 'dmtool explain unix.dm' says how";
+    assert_eq!(f.run(&["judge", "unix.dm"]).text(), format!("{line}{hint}\n"));
+    assert_eq!(f.run(&["judge", "--plain", "unix.dm"]).text(), format!("{line}\n"));
+}
+
 #[test]
 fn wrong_words() {
     let f = both("form_words");
@@ -231,6 +242,8 @@ fn wrong_words() {
         &["convert", "--to", "lines"],
         &["convert", "-", "--to", "lines"],
         &["convert", "good.dm", "--to", "lines", "--force"],
+        &["convert", "good.dm", "--to", "lines", "--mend", "--plain"],
+        &["convert", "l_good.dm", "--plain", "--mend", "--to", "plain"],
         &["judge", "good.dm", "--mend"],
         &["normal", "good.dm", "--to", "lines"],
         &["batch", "--lines"],
