@@ -117,8 +117,34 @@ pub fn explain_command(path: &OsStr, form: Form, bytes: &[u8]) -> String {
         Form::Lines => " --lines",
         Form::Plain => " --plain",
     };
-    let name = if path == "-" { "-".to_string() } else { name(path) };
-    format!("'dmtool explain{option} {name}'")
+    let word = word(path);
+    let around = match (word.contains('\''), word.contains('"')) {
+        (false, _) => "'",
+        (true, false) => "\"",
+        (true, true) => "",
+    };
+    format!("{around}dmtool explain{option} {word}{around}")
+}
+
+/// A file's name as a word of a command that is copied to a shell: as it is where it means itself there, else in single quotes. One that would be an
+/// option is named by its folder.
+fn word(path: &OsStr) -> String {
+    let means_itself = |c: char| c.is_alphanumeric() || "_-./,:+@%".contains(c);
+    let folder = if path.as_encoded_bytes().starts_with(b"-") && path != "-" { "./" } else { "" };
+    match path.to_str() {
+        Some(text) if !text.is_empty() && text.chars().all(means_itself) => format!("{folder}{text}"),
+        Some(text) if !text.chars().any(char::is_control) => format!("'{folder}{}'", text.replace('\'', "'\\''")),
+        _ => format!("$'{folder}{}'", path.as_encoded_bytes().iter().map(in_octal).collect::<String>()),
+    }
+}
+
+/// A byte of a name that cannot be printed as it is, as shells read it between `$'` and `'`.
+fn in_octal(byte: &u8) -> String {
+    match byte {
+        b'\'' | b'\\' => format!("\\{}", char::from(*byte)),
+        b' '..=b'~' => char::from(*byte).to_string(),
+        other => format!("\\{other:03o}"),
+    }
 }
 
 /// Says that a file was read with line ends, and that its result has them, where the answer has no room for it.

@@ -5,8 +5,10 @@ mod support;
 
 use reference::random::Random;
 use reference::{sheets, RECORD};
+use std::ffi::OsStr;
+use std::os::unix::ffi::OsStrExt;
 use std::os::unix::fs::symlink;
-use std::process::Stdio;
+use std::process::{Command, Stdio};
 use std::thread;
 use std::time::Duration;
 use support::fault::Faults;
@@ -228,6 +230,36 @@ fn no_hint_where_plain_is_asked_for() {
     let hint = "; its line ends are wrong, 'dmtool explain unix.dm' says how";
     assert_eq!(f.run(&["judge", "unix.dm"]).text(), format!("{line}{hint}\n"));
     assert_eq!(f.run(&["judge", "--plain", "unix.dm"]).text(), format!("{line}\n"));
+}
+
+/// The command that a hint names, copied to a shell, explains the file, whatever its name.
+#[test]
+fn commands_that_can_be_copied() {
+    let f = Folder::new("copied");
+    let names: [(&[u8], &str); 9] = [
+        (b"unix.dm", "'dmtool explain unix.dm'"),
+        ("\u{56f3}\u{9762}.dm".as_bytes(), "'dmtool explain \u{56f3}\u{9762}.dm'"),
+        (b"a b.dm", "\"dmtool explain 'a b.dm'\""),
+        (b"-x.dm", "'dmtool explain ./-x.dm'"),
+        (b"- x.dm", "\"dmtool explain './- x.dm'\""),
+        (b"it's.dm", "\"dmtool explain 'it'\\''s.dm'\""),
+        (b"a\"b;$(x)*.dm", "dmtool explain 'a\"b;$(x)*.dm'"),
+        (b"~#&.dm", "\"dmtool explain '~#&.dm'\""),
+        (b"-a\n1\xff\\'.dm", "\"dmtool explain $'./-a\\0121\\377\\\\\\'.dm'\""),
+    ];
+    for (name, quoted) in names {
+        let name = OsStr::from_bytes(name);
+        std::fs::write(f.0.join(name), ended(&good(), b"\n")).unwrap();
+        let judged = f.tool(&["judge", "--"]).arg(name).output().unwrap();
+        let judged = String::from_utf8(judged.stdout).unwrap();
+        assert!(judged.ends_with(&format!("; its line ends are wrong, {quoted} says how\n")), "{judged}");
+        let around = &quoted[..usize::from(!quoted.starts_with('d'))];
+        let command = quoted.strip_prefix(around).and_then(|quoted| quoted.strip_suffix(around)).expect("a command");
+        let command = command.replacen("dmtool", env!("CARGO_BIN_EXE_dmtool"), 1);
+        let ran = Command::new("bash").arg("-c").arg(&command).current_dir(&f.0).output().unwrap();
+        let said = String::from_utf8(ran.stdout).unwrap();
+        assert!(said.contains("every record ends in a line feed (LF)"), "{command}: {said}");
+    }
 }
 
 #[test]
