@@ -22,6 +22,11 @@ impl Line<'_> {
         self.record.len() == RECORD_BYTES
     }
 
+    /// Whether it has, and behind it a line end of some kind.
+    pub fn is_marked(&self) -> bool {
+        self.is_record() && self.end.first().is_some_and(is_mark)
+    }
+
     /// Whether its end is carriage return and line feed.
     pub fn is_ended(&self) -> bool {
         self.end == LINE_END
@@ -164,7 +169,7 @@ impl Mended {
     /// ```
     pub fn of(bytes: &[u8]) -> Option<Mended> {
         let text = without_fill(bytes);
-        let marked = Lines::of(text).filter(|line| line.is_record() && matches!(line.end, [b'\r' | b'\n', ..])).count();
+        let marked = Lines::of(text).filter(Line::is_marked).count();
         if marked == 0 || marked * 2 < text.len() / LINE_RECORD_BYTES || reads_as_plain(bytes) {
             return None;
         }

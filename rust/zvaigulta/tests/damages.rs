@@ -872,6 +872,74 @@ const FORMS: &[Damage] = &[
         &[(2, "lower left X")],
     ),
     (
+        "a LF behind each record, and a byte too many in record 8",
+        || off(b"\n", 8, 0, b"1"),
+        (1, 0),
+        &[
+            "record 8, from byte 596 of the file on, has 85 bytes before its line end: 1 byte is too many; compare it with the original; ",
+            "records 1, 2, 3, 4, 5 and 22 more end in a line feed alone (LF)",
+            "not: take",
+            "not: --mend",
+        ],
+        &[],
+    ),
+    (
+        "a LF behind each record, and two bytes of record 8 lost",
+        || off(b"\n", 8, 2, b""),
+        (1, 0),
+        &["record 8, from byte 596 of the file on, has 82 bytes before its line end: 2 bytes are lost; compare it", "not: take", "not: --mend"],
+        &[],
+    ),
+    (
+        "a LF behind each record, and a byte of record 1 lost",
+        || off(b"\n", 1, 1, b""),
+        (1, 0),
+        &["record 1, from byte 1 of the file on, has 83 bytes before its line end: 1 byte is lost", "not: spaces", "not: --mend"],
+        &[],
+    ),
+    (
+        "a LF behind each record, and a byte of the last lost",
+        || off(b"\n", 28, 1, b""),
+        (1, 0),
+        &["record 28, from byte 2296 of the file on, has 83 bytes before its line end: 1 byte is lost", "not: take", "not: --mend"],
+        &[],
+    ),
+    (
+        "a LF behind each record, and the file is cut off inside record 21",
+        || ended(&sheet(), b"\n")[..85 * 20 + 30].to_vec(),
+        (1, 0),
+        &["record 21 has only 30 of its 84 bytes: the file is cut off", "20 are there: 8 are missing", "not: take", "not: --mend"],
+        &[],
+    ),
+    (
+        "a CR behind each record, and a byte of record 8 lost",
+        || off(b"\r", 8, 1, b""),
+        (1, 0),
+        &["record 8, from byte 596 of the file on, has 83 bytes", "22 more end in a carriage return alone (CR)", "not: take", "not: --mend"],
+        &[],
+    ),
+    (
+        "a CR behind each record, and a byte too many in record 2",
+        || off(b"\r", 2, 0, b" "),
+        (1, 0),
+        &["record 2, from byte 86 of the file on, has 85 bytes before its line end: 1 byte is too many", "not: take", "not: --mend"],
+        &[],
+    ),
+    (
+        "LF CR behind each record, and a byte of record 8 lost",
+        || off(b"\n\r", 8, 1, b""),
+        (1, 0),
+        &["record 8, from byte 603 of the file on, has 83 bytes before its line end: 1 byte is lost", "not: take", "not: --mend"],
+        &[],
+    ),
+    (
+        "CR CR LF behind each record, and two bytes of record 8 lost",
+        || off(b"\r\r\n", 8, 2, b""),
+        (1, 0),
+        &["record 8, from byte 610 of the file on, has 82 bytes before its line end: 2 bytes are lost", "not: take", "not: --mend"],
+        &[],
+    ),
+    (
         "a LF behind each record, and a count that differs",
         || ended(&with(sheet(), 7, 18, "    4"), b"\n"),
         (1, 0),
@@ -1351,6 +1419,14 @@ fn lines() -> Vec<u8> {
 /// A file with line ends, and other bytes in the place of some, from a byte of a line on that is counted from 0.
 fn lines_with(mut file: Vec<u8>, record: usize, start: usize, out: usize, new: &[u8]) -> Vec<u8> {
     let at = (record - 1) * LINE_RECORD_BYTES + start;
+    file.splice(at..at + out, new.iter().copied());
+    file
+}
+
+/// The sheet with an end behind each record, and other bytes in the place of some of a record, from its byte 41 on.
+fn off(end: &[u8], record: usize, out: usize, new: &[u8]) -> Vec<u8> {
+    let mut file = ended(&sheet(), end);
+    let at = (record - 1) * (RECORD_BYTES + end.len()) + 40;
     file.splice(at..at + out, new.iter().copied());
     file
 }

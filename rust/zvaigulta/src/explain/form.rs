@@ -1,6 +1,6 @@
 //! Files in another form than records of 84 bytes end to end: text with line ends or a byte order mark, EBCDIC, padding.
 
-use super::lines::{mending, notes as line_notes};
+use super::lines::{mending, notes as line_notes, other_lengths};
 use super::{block, near, Fault};
 use crate::layout::{Layout, SHEET_A, SHEET_B};
 use crate::line_ends::without_fill;
@@ -11,7 +11,7 @@ use std::ops::Range;
 
 /// The form that is recognised, and what to do about it. `refused` is the refused record, if the refusal names one.
 pub fn of(bytes: &[u8], refused: Option<usize>) -> Option<String> {
-    let lines = || lines(bytes).or_else(|| mixed_lines(bytes)).or_else(|| other_lines(bytes));
+    let lines = || other_lengths(bytes).or_else(|| lines(bytes)).or_else(|| mixed_lines(bytes)).or_else(|| other_lines(bytes));
     let whole = || framed(bytes).or_else(lines).or_else(|| utf_8(bytes));
     start(bytes).or_else(whole).or_else(|| tail(bytes, refused))
 }

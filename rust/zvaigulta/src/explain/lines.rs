@@ -114,10 +114,24 @@ fn in_place<'a>(text: &'a [u8], line: Line<'a>) -> Vec<Line<'a>> {
     chunks.map(record).collect()
 }
 
+/// Line ends of which a part may be taken for the end of a record that has lost a byte.
+const LONG_ENDS: [&[u8]; 2] = [b"\n\r", b"\r\r\n"];
+
+/// A line with the whole of its end, where that is one of those which other lines have.
+fn with_end<'a>(text: &'a [u8], line: Line<'a>, ends: &[&[u8]]) -> Line<'a> {
+    let whole = line.record.split_last().and_then(|(_, record)| {
+        let start = line.start + record.len();
+        let end = text.get(start..start + 1 + line.end.len()).filter(|end| ends.contains(end))?;
+        Some(Line { start: line.start, record, end })
+    });
+    whole.unwrap_or(line)
+}
+
 /// The lines that are wrong.
 fn found(text: &[u8]) -> Vec<Found<'_>> {
     let mut found = Vec::new();
-    let mut lines = Lines::of(text).flat_map(|line| in_place(text, line)).peekable();
+    let ends: Vec<&[u8]> = LONG_ENDS.into_iter().filter(|end| Lines::of(text).any(|line| line.end == *end)).collect();
+    let mut lines = Lines::of(text).flat_map(|line| in_place(text, with_end(text, line, &ends))).peekable();
     let mut record = 0;
     while let Some(line) = lines.next() {
         record += usize::from(!line.record.is_empty());
@@ -153,6 +167,17 @@ pub fn notes(bytes: &[u8]) -> Vec<String> {
     notes.extend(Records::of(&plain).filter(|records| cut && records.missing() > 0).map(|records| records.words()));
     notes.extend(mending(bytes));
     notes
+}
+
+/// What is wrong with the lines of a file, where most of them are records with a line end of some kind and others have another length.
+pub fn other_lengths(bytes: &[u8]) -> Option<String> {
+    let text = without_fill(bytes);
+    let marked = Lines::of(text).filter(Line::is_marked).count();
+    if marked == 0 || marked * 2 < text.len() / LINE_RECORD_BYTES || mending(bytes).is_some() {
+        return None;
+    }
+    let other = |found: &Found| matches!(found.wrong, Wrong::Cut | Wrong::Short | Wrong::Long | Wrong::Inside);
+    found(text).iter().any(other).then(|| notes(bytes).join("; "))
 }
 
 /// The command that mends the line ends, and what becomes of the file.
