@@ -167,8 +167,8 @@ Writes the records of a file or a block with carriage return and line feed behin
 Nothing else is judged or changed: over and back gives the same bytes. The result replaces FILE, unless -o names another place.
 
   --mend       takes line ends of another kind as well: line feed or carriage return alone, the two the wrong way round, two other
-               bytes in their place, none behind a record, an end-of-file mark behind the last; each record must have its 84 bytes;
-               not together with --plain
+               bytes in their place, none behind a record, one behind the last alone, an end-of-file mark; each record must have its 84
+               bytes; not together with --plain
 ",
     replacing!(),
     "\

@@ -372,6 +372,9 @@ fn convert_mends_line_ends() {
         with(3 * 86 + 40, 0, b"\r\n"),
         [&right[..], b"\x1a"].concat(),
         [&right[..], &[0; 100]].concat(),
+        [&good()[..], b"\r\n"].concat(),
+        [&good()[..], b"\n"].concat(),
+        [&good()[..], b"\r"].concat(),
     ];
     for (n, bytes) in cases.iter().enumerate() {
         f.put("file.dm", bytes);

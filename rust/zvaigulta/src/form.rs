@@ -31,9 +31,9 @@ pub enum Form {
 
 impl Form {
     /// The form in which bytes, a file or a block, are to be read: with line ends where at least as many of their records end so as do not,
-    /// counted anew behind a line of another length, or where one at least does and the length is a multiple of 86 and not of 84; else plain. What
-    /// is accepted as a plain file, a plain sheet that is refused for its counts alone (10), and a sound plain block are always plain; and so are
-    /// plain records with one line end behind the last.
+    /// counted anew behind a line of another length, or where one at least does, not the last alone behind whole plain records, and the length is a
+    /// multiple of 86 and not of 84; else plain. What is accepted as a plain file, a plain sheet that is refused for its counts alone (10), and a
+    /// sound plain block are always plain.
     ///
     /// So a file with line ends is known for one while some of them are broken or bytes of it are lost, and judging then says where.
     ///

@@ -155,7 +155,7 @@ pub struct Mended {
 impl Mended {
     /// Of a file whose line ends are of another kind (line feed or carriage return alone, the two the wrong way round, two carriage returns and a
     /// line feed), written over, missing or double, perhaps with NUL bytes or an end-of-file mark behind the last: its records. A line end inside
-    /// a record is taken out where the file is accepted then. None where a record has another length than 84, where most records have no line
+    /// a record is taken out where the file is accepted then, one behind plain records where they are accepted. None where a record has another length than 84, where most records have no line
     /// end at all, where there are more than 200,000, where all ends are right, and where the file is accepted as a plain one, or a plain
     /// sheet refused for its counts alone (10).
     ///
@@ -169,11 +169,15 @@ impl Mended {
     /// ```
     pub fn of(bytes: &[u8]) -> Option<Mended> {
         let text = without_fill(bytes);
+        let fill = usize::from(text.len() < bytes.len());
+        if let Some(plain) = before_last_end(bytes) {
+            return Some(Mended { plain: plain.to_vec(), places: 1 + fill });
+        }
         let marked = Lines::of(text).filter(Line::is_marked).count();
         if marked == 0 || marked * 2 < text.len() / LINE_RECORD_BYTES || reads_as_plain(bytes) {
             return None;
         }
-        let mut mended = Mended { plain: Vec::with_capacity(text.len()), places: usize::from(text.len() < bytes.len()) };
+        let mut mended = Mended { plain: Vec::with_capacity(text.len()), places: fill };
         let mut divided = false;
         for line in Lines::of(text) {
             divided |= mended.step(&line)?;
@@ -196,6 +200,16 @@ impl Mended {
         self.places += usize::from(empty || length < RECORD_BYTES || !line.is_ended());
         (length <= RECORD_BYTES).then_some(length < RECORD_BYTES && !empty)
     }
+}
+
+/// The plain records of a file that has one line end behind the last of them, perhaps a fill behind that, and is accepted without. With one record
+/// alone, that is a file with line ends. Where a carriage return or line feed stands in the records as well, bytes may be lost before it.
+pub fn before_last_end(bytes: &[u8]) -> Option<&[u8]> {
+    let text = without_fill(bytes);
+    let end = mark(text, text.len() - text.len() % RECORD_BYTES);
+    let plain = text.get(..text.len() - end).filter(|plain| end > 0 && plain.len() > RECORD_BYTES)?;
+    let whole = plain.len().is_multiple_of(RECORD_BYTES) && !plain.iter().any(is_mark);
+    (whole && !reads_as_plain(bytes) && is_accepted(plain)).then_some(plain)
 }
 
 /// Whether bytes are accepted as a plain file, or are a sound plain block.

@@ -817,6 +817,8 @@ const COLUMNS: &[Damage] = &[
     ),
 ];
 
+const TAKE_AWAY: &str = "take that away by 'dmtool convert FILE --to plain --mend' (or --to lines)";
+
 /// Files in another form.
 const FORMS: &[Damage] = &[
     (
@@ -1077,7 +1079,35 @@ const FORMS: &[Damage] = &[
         "a line end behind the last record",
         || [sheet(), b"\n".to_vec()].concat(),
         (1, 0),
-        &["behind record 28: nothing but a line end; without that the file is accepted"],
+        &["behind record 28: nothing but a line end; without that the file is accepted", TAKE_AWAY],
+        &[],
+    ),
+    (
+        "CR LF behind the last record",
+        || [sheet(), b"\r\n".to_vec()].concat(),
+        (1, 0),
+        &["behind record 28: nothing but a line end; without that the file is accepted", TAKE_AWAY],
+        &[],
+    ),
+    (
+        "CR behind the last record of an index",
+        || [index(), b"\r".to_vec()].concat(),
+        (1, 0),
+        &["behind record 5: nothing but a line end; without that the file is accepted", TAKE_AWAY],
+        &[],
+    ),
+    (
+        "CR LF behind the last record of a block",
+        || [&sheet()[84 * 7..84 * 10], b"\r\n"].concat(),
+        (1, 0),
+        &["behind record 3: nothing but a line end; without that it is a sound block", TAKE_AWAY],
+        &[],
+    ),
+    (
+        "a line end behind the last record, and a count that differs",
+        || [with(sheet(), 7, 18, "    4"), b"\n".to_vec()].concat(),
+        (1, 0),
+        &["behind record 28: nothing but a line end; without that it is refused 10 at record 7", "not: --mend"],
         &[],
     ),
     (

@@ -163,6 +163,45 @@ fn line_ends_of_other_kinds_are_mended() {
     }
 }
 
+/// Line ends of every kind.
+const ENDS: [&[u8]; 5] = [b"\n", b"\r", b"\n\r", b"\r\r\n", b"\r\n"];
+
+/// One line end behind the last of plain records is taken away, also where that gives the length of records with line ends.
+#[test]
+fn one_end_behind_plain_records() {
+    let mut r = Random(5);
+    let block = sheet()[7 * RECORD_BYTES..10 * RECORD_BYTES].to_vec();
+    for plain in [sheet(), index(), block, sheets::sheet_of_points(44), sheets::sheet_of_points(87), sheets::sheet(&mut r, 3)] {
+        for (end, fill) in ENDS.iter().flat_map(|end| [(end, &b""[..]), (end, b"\x1a"), (end, &[0; 40])]) {
+            let file = [&plain, *end, fill].concat();
+            assert_eq!(Form::of(&file), Form::Plain, "{end:?} {fill:?}");
+            let mended = Mended::of(&file).expect("an end to take away");
+            assert!(mended.plain == plain && mended.places == 1 + usize::from(!fill.is_empty()), "{end:?} {fill:?}");
+        }
+    }
+    let one = [&index()[..35], b" 0 0   0", &index()[43..RECORD_BYTES], b"\r\n"].concat();
+    assert_eq!((Form::of(&one), Mended::of(&one)), (Form::Lines, None));
+}
+
+/// Every byte of a file lost, doubled or another put before it, with an end of every kind behind each record or behind the last alone: never mended.
+#[test]
+fn no_byte_lost_is_mended() {
+    for (end, last) in ENDS.iter().flat_map(|end| [(*end, *end), (b"", end)]) {
+        for plain in [sheet(), index(), sheets::sheet(&mut Random(31), 2), sheet()[15 * RECORD_BYTES..18 * RECORD_BYTES].to_vec()]
+        {
+            let file = [&ended(&plain, end)[..], if end.is_empty() { last } else { b"" }].concat();
+            for at in 0..plain.len() {
+                let at = at / RECORD_BYTES * (RECORD_BYTES + end.len()) + at % RECORD_BYTES;
+                let byte = [file[at]];
+                for (out, new) in [(1, &b""[..]), (0, &byte), (0, b"1"), (0, b" ")] {
+                    let damaged = [&file[..at], new, &file[at + out..]].concat();
+                    assert_eq!(Mended::of(&damaged), None, "{end:?} {last:?} byte {at}: {out} out, {new:?} in");
+                }
+            }
+        }
+    }
+}
+
 /// Some bytes taken out of a line, or put into it, before its end.
 fn other_length(r: &mut Random, line: &mut Vec<u8>) {
     let by = 1 + r.below(4);

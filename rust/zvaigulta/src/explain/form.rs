@@ -3,7 +3,7 @@
 use super::lines::{mending, notes as line_notes, other_lengths};
 use super::{block, near, Fault};
 use crate::layout::{Layout, SHEET_A, SHEET_B};
-use crate::line_ends::without_fill;
+use crate::line_ends::{before_last_end, without_fill};
 use crate::outline::{part, Record, Sort};
 use crate::text::{number_of, quoted};
 use crate::{FileKind, Form, Refusal, MOST_RECORDS, RECORD_BYTES};
@@ -13,7 +13,15 @@ use std::ops::Range;
 pub fn of(bytes: &[u8], refused: Option<usize>) -> Option<String> {
     let lines = || other_lengths(bytes).or_else(|| lines(bytes)).or_else(|| mixed_lines(bytes)).or_else(|| other_lines(bytes));
     let whole = || framed(bytes).or_else(lines).or_else(|| utf_8(bytes));
-    start(bytes).or_else(whole).or_else(|| tail(bytes, refused))
+    start(bytes).or_else(|| last_end(bytes)).or_else(whole).or_else(|| tail(bytes, refused))
+}
+
+/// One line end behind plain records, and what takes it away.
+pub fn last_end(bytes: &[u8]) -> Option<String> {
+    let plain = before_last_end(bytes)?;
+    let what = named(bytes.get(plain.len()..)?);
+    let command = "take that away by 'dmtool convert FILE --to plain --mend' (or --to lines)";
+    Some(format!("behind record {}: nothing but {what}; {}: {command}", plain.len() / RECORD_BYTES, without(plain)))
 }
 
 /// By the first bytes.
@@ -194,7 +202,7 @@ pub fn named(fill: &[u8]) -> String {
     match fill {
         [0x1a] => "an end-of-file mark (the byte 1A)".to_string(),
         [0x1a, ..] => format!("an end-of-file mark (the byte 1A) and {}", number_of(count - 1, "fill byte")),
-        [b'\r', b'\n'] | [b'\n'] | [b'\r'] => "a line end".to_string(),
+        [b'\r', b'\n'] | [b'\n'] | [b'\r'] | [b'\n', b'\r'] | [b'\r', b'\r', b'\n'] => "a line end".to_string(),
         fill if fill.iter().all(|byte| *byte == 0) => number_of(count, "NUL byte"),
         fill => format!("{}, {}", number_of(count, "fill byte"), quoted(fill.get(..8).unwrap_or(fill))),
     }

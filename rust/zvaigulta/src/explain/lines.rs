@@ -150,6 +150,9 @@ fn found(text: &[u8]) -> Vec<Found<'_>> {
 /// What is wrong with the lines, what stands behind the last, how many records are missing, and what mends the line ends.
 pub fn notes(bytes: &[u8]) -> Vec<String> {
     let text = without_fill(bytes);
+    if let Some(last) = form::last_end(bytes) {
+        return vec![last];
+    }
     if !text.iter().any(|byte| matches!(byte, b'\r' | b'\n')) {
         return vec![format!("there are no line ends in the file: read as plain, {}", form::judged(bytes))];
     }
