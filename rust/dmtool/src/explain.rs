@@ -26,7 +26,7 @@ pub fn run(arguments: &Arguments, out: &mut impl Write) -> Done {
         Err(refusal) => {
             let line = line_in(form, &bytes, refusal);
             writeln!(out, "{name}: {}", files::in_form(form, &line)).map_err(output_failed)?;
-            print(form, &bytes, refusal, &line, out).map_err(output_failed)?;
+            print(&Asked { path, form, bytes: &bytes }, refusal, &line, out).map_err(output_failed)?;
             Ok(REFUSED)
         }
     }
@@ -34,9 +34,11 @@ pub fn run(arguments: &Arguments, out: &mut impl Write) -> Done {
 
 /// What there is to say first that `line` has not said, then the refused record whole, then of each other record with a fault its
 /// marked columns.
-fn print(form: Form, bytes: &[u8], refusal: Refusal, line: &str, out: &mut impl Write) -> io::Result<()> {
+fn print(asked: &Asked, refusal: Refusal, line: &str, out: &mut impl Write) -> io::Result<()> {
+    let Asked { path, form, bytes } = *asked;
     let Explanation { faults, notes, .. } = explain_in(form, bytes, refusal);
-    notes.iter().filter(|note| !line.contains(note.as_str())).try_for_each(|note| writeln!(out, "{note}"))?;
+    let unsaid = notes.iter().filter(|note| !line.contains(note.as_str()));
+    unsaid.map(|note| files::with_name(note, path)).try_for_each(|note| writeln!(out, "{note}"))?;
     let (records, mut others) = (form.records(bytes), Vec::new());
     for record in Outline::of(&records) {
         let whole = Some(record.number) == refusal.record;

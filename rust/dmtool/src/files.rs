@@ -117,13 +117,27 @@ pub fn explain_command(path: &OsStr, form: Form, bytes: &[u8]) -> String {
         Form::Lines => " --lines",
         Form::Plain => " --plain",
     };
-    let word = word(path);
-    let around = match (word.contains('\''), word.contains('"')) {
+    quoted(&format!("dmtool explain{option} {}", word(path)))
+}
+
+/// A note of the library with the file's name in the command that mends it. Standard input has none that a command could mend.
+pub fn with_name(note: &str, path: &OsStr) -> String {
+    let parts = note.split_once("'dmtool convert FILE ").filter(|_| path != "-");
+    let parts = parts.and_then(|(before, rest)| Some((before, rest.split_once('\'')?)));
+    parts.map_or_else(
+        || note.to_string(),
+        |(before, (words, behind))| format!("{before}{}{behind}", quoted(&format!("dmtool convert {} {words}", word(path)))),
+    )
+}
+
+/// A command in quotation marks that it does not hold itself.
+fn quoted(command: &str) -> String {
+    let around = match (command.contains('\''), command.contains('"')) {
         (false, _) => "'",
         (true, false) => "\"",
         (true, true) => "",
     };
-    format!("{around}dmtool explain{option} {word}{around}")
+    format!("{around}{command}{around}")
 }
 
 /// A file's name as a word of a command that is copied to a shell: as it is where it means itself there, else in single quotes. One that would be an

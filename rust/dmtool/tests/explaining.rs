@@ -54,7 +54,7 @@ fn one_reason_for_a_length() {
     f.put("odd.dm", &good()[1..]);
     assert_eq!(f.run(&["judge", "odd.dm"]).text(), "odd.dm: refused 1: the length, 755 bytes, is not a multiple of 84\n");
     assert!(f.run(&["show", "unix.dm", "1", "1"]).text().starts_with(&format!("{line}\n")));
-    let note = "every record ends in a line feed (LF), 85 bytes in all: mend that by 'dmtool convert FILE --to lines \
+    let note = "every record ends in a line feed (LF), 85 bytes in all: mend that by 'dmtool convert unix.dm --to lines \
                 --mend' (or --to plain); then the file is accepted";
     assert_eq!(f.run(&["explain", "unix.dm"]).seen(), (Some(1), format!("{line}\n{note}\n"), true));
     assert!(f.run(&["insert", "unix.dm", "7", "unix.dm"]).err.starts_with(&format!("dmtool: {line}\n")));

@@ -259,6 +259,12 @@ fn commands_that_can_be_copied() {
         let ran = Command::new("bash").arg("-c").arg(&command).current_dir(&f.0).output().unwrap();
         let said = String::from_utf8(ran.stdout).unwrap();
         assert!(said.contains("every record ends in a line feed (LF)"), "{command}: {said}");
+        let mend = quoted.replacen("dmtool explain", "dmtool convert", 1);
+        let mend = format!("{} --to lines --mend{around} (or --to plain)", &mend[..mend.len() - around.len()]);
+        assert!(said.contains(&format!("mend that by {mend}; then the file is accepted")), "{mend}: {said}");
+        let command = command.replacen(" explain", " convert", 1) + " --to lines --mend";
+        assert!(Command::new("bash").arg("-c").arg(&command).current_dir(&f.0).output().unwrap().status.success(), "{command}");
+        assert!(std::fs::read(f.0.join(name)).unwrap() == lines(&good()), "{command}");
     }
 }
 
@@ -429,7 +435,8 @@ fn the_largest_files_are_mended() {
     let f = Folder::new("largest_mended");
     f.put("double.dm", &ended(large(), b"\r\n\r\n")).put("twice.dm", &ended(large(), b"\r\r\n"));
     for name in ["double.dm", "twice.dm"] {
-        assert!(f.run(&["explain", name]).text().contains("mend that by 'dmtool convert FILE --to lines --mend'"), "{name}");
+        let command = format!("mend that by 'dmtool convert {name} --to lines --mend' (or --to plain)");
+        assert!(f.run(&["explain", name]).text().contains(&command), "{name}");
         let ran = f.run(&["convert", name, "--to", "lines", "--mend"]);
         assert_eq!(
             ran.text(),
