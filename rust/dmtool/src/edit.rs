@@ -54,7 +54,9 @@ pub fn insert(arguments: &Arguments, out: &mut impl Write) -> Done {
     let place = at.unwrap_or(plain.len() / RECORD_BYTES + 1);
     let mut sheet = copied(&plain, block.len());
     let counts = sheet.insert(place, &block).map_err(|r| match form.plain(&read) {
-        Err(wrong) if r.reason == Reason::Block => explain::block(&asked, &read, wrong, r),
+        Err(wrong) if r.reason == Reason::Block => {
+            explain::block(&asked, &Asked { path: block_path, form, bytes: &read }, wrong, r)
+        }
         _ => explain::insertion(&asked, &plain, place, &block, r),
     })?;
     let result = Edited { form: asked.form, sheet, counts };

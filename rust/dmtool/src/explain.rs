@@ -108,9 +108,9 @@ pub fn insertion(asked: &Asked, sheet: &[u8], place: usize, block: &[u8], refusa
 }
 
 /// The same where the block has line ends, and they are wrong.
-pub fn block(asked: &Asked, block: &[u8], wrong: Refusal, refusal: Refusal) -> Failure {
-    let notes = explain_in(Form::Lines, block, wrong).notes;
-    refused(asked, refusal, notes.iter().map(|note| format!("in the block: {note}")).collect())
+pub fn block(asked: &Asked, block: &Asked, wrong: Refusal, refusal: Refusal) -> Failure {
+    let notes = explain_in(block.form, block.bytes, wrong).notes;
+    refused(asked, refusal, notes.iter().map(|note| format!("in the block: {}", files::with_name(note, block.path))).collect())
 }
 
 /// A refused removal as the failure of its subcommand.

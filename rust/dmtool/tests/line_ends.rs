@@ -164,7 +164,8 @@ fn a_block_with_a_broken_end() {
     let ran = f.run(&["insert", "l_good.dm", "7", "broken.dm"]);
     let refused = "dmtool: l_good.dm: refused 12: the block is not exactly one sound item with a level from 2 to 9 (line ends)\n";
     let what = "in the block: record 1 ends in line feed and carriage return (LF CR), the wrong way round\n";
-    let next = "in the block: mend that by 'dmtool convert FILE --to lines --mend' (or --to plain); then it is a sound block, ";
+    let next =
+        "in the block: mend that by 'dmtool convert broken.dm --to lines --mend' (or --to plain); then it is a sound block, ";
     assert!(ran.err.starts_with(&format!("{refused}{what}{next}")) && ran.status == Some(1), "{}", ran.err);
     let ran = f.run(&["insert", "good.dm", "7", "cut.dm"]);
     assert!(ran.err.contains("\nin the block: record 3 has only 28 of its 84 bytes: the file is cut off\n"), "{}", ran.err);
