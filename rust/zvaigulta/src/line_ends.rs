@@ -155,9 +155,9 @@ pub struct Mended {
 impl Mended {
     /// Of a file whose line ends are of another kind (line feed or carriage return alone, the two the wrong way round, two carriage returns and a
     /// line feed), written over, missing or double, perhaps with NUL bytes or an end-of-file mark behind the last: its records. A line end inside
-    /// a record is taken out where the file is accepted then, one behind plain records where they are accepted. None where a record has another length than 84, where most records have no line
-    /// end at all, where there are more than 200,000, where all ends are right, and where the file is accepted as a plain one, or a plain
-    /// sheet refused for its counts alone (10).
+    /// a record is taken out where the file is accepted then, one behind plain records where they are accepted. None where a record has another
+    /// length than 84, where most records have no line end at all, where there are more than 200,000, where all ends are right, and where the
+    /// file is accepted as a plain one, or a plain sheet refused for its counts alone (10).
     ///
     /// ```
     /// use zvaigulta::{Mended, EXAMPLE};
