@@ -1,0 +1,4 @@
+pub mod DirectoryRecords
+pub mod DirectoryLayers
+pub mod DirectoryJudged
+pub mod DirectoryRefused

@@ -1,0 +1,13 @@
+// A directory of layers behind a sheet: what is right, and what judging, appending and jumping answer. The meaning stands in specs/Directory.antt, the
+// claims in proofs/Claims.antt.
+
+// The edition of a directory: what its records list of a layer, and how.
+pub enum Edition {
+    One,
+}
+
+// A jump: the record number of the layer's header; or number and record of the refusal.
+pub enum Jumped {
+    Header(usize),
+    Refused(u8, usize),
+}
