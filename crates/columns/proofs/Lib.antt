@@ -8,3 +8,4 @@ pub mod Alone
 pub mod InRecord
 pub mod NumberIn
 pub mod Spaces
+pub mod Compared

@@ -5,6 +5,7 @@ use Prim.Native.Nat.{ℕ, _+_}
 use lib.Dec.{leb}
 use lib.IntN.{ℤ}
 use lib.ListN.{length}
+use Rattle.format.specs.Text.{same}
 use Rattle.format.specs.declared.Column.{Column}
 use Rattle.format.specs.declared.Column.the-variants.{Malformed}
 use Rattle.format.specs.Column.{columnOf, numberOf, fits, written, widthOk}
@@ -36,3 +37,8 @@ writeAt r start width z =
     cond (widthOk width && fits width z && leb (start + width) (length r))
     (record { done = true; bytes = splice start width (written width z) r })
     (record { done = false; bytes = r })
+
+-- that column holds a number in written form: not so of a number that does not fit the width, of a width that is not allowed, or of a column that is not
+-- whole inside the record
+unfoldable pub isWrittenAt : List ℕ → ℕ → ℕ → ℤ → Bool
+isWrittenAt r start width z = (widthOk width && fits width z && leb (start + width) (length r)) && same (column start width r) (written width z)

@@ -5,9 +5,10 @@ ghost use Prim.Native.Nat.{_≤_, _<_, _^_};
 ghost use lib.ListN.{length};
 ghost use lib.IntN.{natAbs};
 ghost use Rattle.format.specs.Column.{columnOf, integer, readAlone, writeAlone};
+ghost use Rattle.format.specs.Text.{same};
 ghost use Rattle.format.specs.Layout.{spaces};
 ghost use Rattle.format.specs.Answers.{numberAnswer, writtenAnswer};
-ghost use Rattle.columns.specs.InRecord.{columnAt, numberIn, spacesAt, writeAt};
+ghost use Rattle.columns.specs.InRecord.{columnAt, numberIn, spacesAt, writeAt, isWrittenAt};
 ghost use Rattle.columns.specs.ReadSteps.{roleOf, stepOf, finishOf, numberKept};
 ghost use Rattle.columns.specs.WriteSteps.{byteOf, beforeOf, filled, choiceOf};
 use format::Column;
@@ -344,5 +345,38 @@ pub fn write_at(record: &mut [u8], start: usize, width: usize, value: i64) -> bo
             fill(&mut record[start..start + width], first);
             true
         }
+    }
+}
+
+// These are the bytes that would be written: all of them are looked at, from the last to the first.
+fn is_filled(column: &[u8], first: Rest) -> bool
+    ensures { λ r. ⌜ r ≡ same (now (column .entry)) (filled (length (now (column .entry))) first) ⌝ }
+{
+    let mut s = first;
+    let mut equal = true;
+    let mut i = column.len();
+    while 0 < i {
+        i -= 1;
+        equal = equal & (column[i] == last_byte(s));
+        s = before_last(s);
+    }
+    equal
+}
+
+// The column of `width` bytes from `start` holds the number in written form: not so of a column that is not whole inside the record, nor where width or
+// number do not allow it.
+pub fn is_written_at(record: &[u8], start: usize, width: usize, value: i64) -> bool
+    ensures { λ r. ⌜ r ≡ isWrittenAt (now («record» .entry)) start width value ⌝ }
+{
+    if record.len() < start {
+        return false;
+    }
+    if record.len() - start < width {
+        return false;
+    }
+    let c = choose(width, value);
+    match c {
+        Choice::Refuse => false,
+        Choice::Write(first) => is_filled(&record[start..start + width], first),
     }
 }

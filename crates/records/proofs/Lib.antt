@@ -8,3 +8,4 @@ pub mod Plain
 pub mod Entries
 pub mod DataFaults
 pub mod Laws
+pub mod Outlined

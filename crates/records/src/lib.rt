@@ -4,10 +4,12 @@ ghost use mathlib.Core.Path.{_≡_};
 ghost use lib.ListN.{length};
 ghost use Rattle.format.specs.Record.{typeOf, notes, dataFault};
 ghost use Rattle.records.specs.Entry.{entryOf, dataFaultOf, countStart, countWidth, statedCount, statesCounts};
+ghost use Rattle.records.specs.Outline.{outlineOf};
 ghost use Rattle.records.specs.Steps.{codeOf};
 
 mod data;
 mod items;
+mod outlines;
 mod reading;
 mod rules;
 
@@ -16,6 +18,7 @@ use files::RECORD;
 pub use items::Entry;
 use layouts::DataNote;
 use layouts::Header;
+pub use outlines::Outline;
 
 // What an item's data records hold: so many points in 3D or 2D, triangles or heights; a note; attributes.
 pub enum Held {
@@ -77,6 +80,24 @@ pub fn entry(record: &[u8]) -> Entry
         TypeCode::Grid => items::grid_entry(record),
         TypeCode::Net => items::net_entry(record),
         TypeCode::Other => items::refused(4),
+    }
+}
+
+// The kind, level and data records of a header or an item, with no fault looked for: where its record is known to have none. A malformed or
+// negative column counts as 0.
+pub fn outline(record: &[u8]) -> Outline
+    ensures { λ r. ⌜ r ≡ outlineOf (now («record» .entry)) ⌝ }
+{
+    if record.len() != RECORD {
+        return outlines::no_outline();
+    }
+    let code = read_type(record);
+    match code {
+        TypeCode::Header => outlines::header_outline(record),
+        TypeCode::Element(number) => outlines::element_outline(record, number),
+        TypeCode::Grid => outlines::grid_outline(record),
+        TypeCode::Net => outlines::net_outline(record),
+        TypeCode::Other => outlines::no_outline(),
     }
 }
 
