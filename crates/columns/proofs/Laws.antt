@@ -3,18 +3,23 @@
 use mathlib.Core.Path.{_≡_, refl, ap, sym, _∙_}
 use mathlib.Core.Bool.{Bool, true, false, cond, _&&_}
 use mathlib.Core.List.{List}
-use Prim.Native.Nat.{ℕ, _+_, _≤_}
+use Prim.Native.Nat.{ℕ, _+_, _^_, _≤_, _<_}
+use native.Mathlib.Nat.{pow-le-pow-right}
 use native.Mathlib.Omega.{arith}
-use borrow.Author.Tests.{le-leb, leb-true}
+use borrow.Author.Tests.{le-leb, lt-ltb, leb-true}
 use lib.Dec.{leb}
-use lib.IntN.{ℤ}
+use lib.IntN.{ℤ, pos}
 use lib.ListN.{length}
+use mir.Syntax.{w64}
+use mir.Val.{SFits, toZ, ofZ}
+use mir.ValLaws.{toZ-ofZ}
 use Rattle.format.specs.declared.Column.the-variants.{Value, Malformed}
 use Rattle.format.specs.Column.{columnOf, fits, written}
 use Rattle.format.specs.Layout.{column, splice}
 use Rattle.format.proofs.Basics.{and-true}
 use Rattle.format.proofs.Columns.{length-column, length-written, length-splice, column-own}
 use Rattle.format.proofs.NormalReads.{read-fits}
+use Rattle.format.proofs.ColumnFits.{fits-plus}
 use Rattle.format.proofs.ColumnRoundTrip.{reads-back}
 use Rattle.columns.specs.declared.State.{State}
 use Rattle.columns.specs.InRecord.{columnAt, Rewritten, writeAt}
@@ -69,3 +74,13 @@ module _ (l : List ℕ) (start width : ℕ) where
     pub read-after-write : columnAt (splice start width (written width z) l) start width ≡ Value z
     unfolding columnAt
     read-after-write = simp (le-leb width 18 most, length-spliced, le-leb (start + width) (length l) room, column-own start width (written width z) l (length-written width z) room) (reads-back width some most z fit)
+
+-- ---- A NUMBER OF AT LEAST 0, in a column of up to seven bytes
+
+module _ (width n : ℕ) (most : width ≤ 7) (small : n < 10 ^ width) where
+  pub number-fits : SFits w64 (pos n)
+  number-fits = record { sfits = omega (arith, pow-le-pow-right {n = 10} (omega arith) {i = width} {j = 7} most) }
+
+  pub number-written : (l l′ : List ℕ) (start : ℕ) (done : Bool) → start + width ≤ length l → 1 ≤ width → record { done = done; bytes = l′ } ≡ writeAt l start width (toZ w64 (ofZ w64 (pos n))) → l′ ≡ splice start width (written width (pos n)) l
+  number-written l l′ start done room some e =
+      write-at-bytes l start width (pos n) room some (omega arith) (fits-plus width n some (omega arith) ∙ lt-ltb n (10 ^ width) small) done l′ (e ∙ ap (writeAt l start width) (toZ-ofZ w64 (pos n) number-fits))

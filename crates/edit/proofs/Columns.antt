@@ -3,23 +3,17 @@ use mathlib.Core.Path.{_≡_, refl, ap, _∙_}
 use mathlib.Core.Bool.{Bool, true, false}
 use mathlib.Core.List.{List}
 use Prim.Native.Nat.{ℕ, _+_, _-_, _*_, _^_, _≤_, _<_}
-use native.Mathlib.Nat.{pow-le-pow-right}
 use native.Mathlib.Omega.{arith}
 use borrow.Author.Tests.{lt-ltb, ltb-true, ltb-false}
 use lib.Dec.{ltb}
 use lib.IntN.{pos}
 use lib.ListN.{length}
-use mir.Syntax.{w64}
-use mir.Val.{SFits, toZ, ofZ}
-use mir.ValLaws.{toZ-ofZ}
 use Rattle.format.specs.Column.{written}
 use Rattle.format.specs.Layout.{column, splice, find, numberAt, header, sheetB}
 use Rattle.format.specs.Record.{countIn}
 use Rattle.format.proofs.Columns.{length-column, number-below, length-splice, length-written}
-use Rattle.format.proofs.ColumnFits.{fits-plus}
 use Rattle.format.proofs.RecordHeaders.{number-count}
 use Rattle.columns.specs.InRecord.{numberIn, writeAt}
-use Rattle.columns.proofs.Laws.{write-at-bytes}
 use Rattle.columns.proofs.NumberIn.{number-in-below}
 use Rattle.edit.specs.declared.counts.Change.{Change}
 use Rattle.records.specs.Entry.{countStart, countWidth}
@@ -34,16 +28,6 @@ module _ (r : List ℕ) (n : ℕ) (wide : length r ≡ 84) (e : n ≡ numberIn r
 
   pub total-small : n < 100000
   total-small = omega (arith, number-in-below r 18 5)
-
--- ---- writing
-
-module _ (width n : ℕ) (most : width ≤ 7) (small : n < 10 ^ width) where
-  pub number-fits : SFits w64 (pos n)
-  number-fits = record { sfits = omega (arith, pow-le-pow-right {n = 10} (omega arith) {i = width} {j = 7} most) }
-
-  pub number-written : (l l′ : List ℕ) (start : ℕ) (done : Bool) → start + width ≤ length l → 1 ≤ width → record { done = done; bytes = l′ } ≡ writeAt l start width (toZ w64 (ofZ w64 (pos n))) → l′ ≡ splice start width (written width (pos n)) l
-  number-written l l′ start done room some e =
-      write-at-bytes l start width (pos n) room some (omega arith) (fits-plus width n some (omega arith) ∙ lt-ltb n (10 ^ width) small) done l′ (e ∙ ap (writeAt l start width) (toZ-ofZ w64 (pos n) number-fits))
 
 -- ---- `write_counts`
 

@@ -1,5 +1,5 @@
 -- `write_number` writes one column. Assumes nothing.
-use Rattle.edit.proofs.Columns.{number-fits, number-written}
+use Rattle.columns.proofs.Laws.{number-fits, number-written}
 use borrow.Author.Needs.{needs}
 use Rattle.edit.proofs.counts.write_number.Statement.{statement}
 use Rattle.edit.proofs.counts.write_number.Tie as tie
