@@ -1,5 +1,5 @@
 -- What opening answers of a body, from what its walk ensures. Assumes nothing.
-use mathlib.Core.Path.{_≡_, refl, sym, ap, subst, _∙_}
+use mathlib.Core.Path.{_≡_, refl, sym, ap, _∙_}
 use mathlib.Core.Bool.{Bool, true, false, cond, _&&_}
 use mathlib.Core.List.{List, [], _∷_}
 use Prim.Native.Nat.{ℕ, zero, suc, _+_, _-_, _≤_, _<_}
@@ -14,12 +14,14 @@ use Rattle.format.specs.Record.{View}
 use Rattle.format.specs.Judge.{File, items, accepted, countFault, bodyFault, verdict, judge, dueAfter, isHeaderAt}
 use Rattle.format.specs.Edit.{lastHeader}
 use Rattle.format.specs.Above.{lastStart}
+use Rattle.format_directory.specs.declared.Edition.{Edition}
 use Rattle.part_and_index.specs.declared.SheetPart.{SheetPart}
 use Rattle.judge.specs.declared.body_records.Extent.{Extent}
 use Rattle.judge.specs.declared.walk.Seen.{Seen}
 use Rattle.judge.specs.declared.Sheet.{Sheet}
-use Rattle.judge.specs.declared.walk.WalkedBody.{WalkedBody}
-use Rattle.judge.specs.Walks.{ExtentOf, viewsFrom, faultFrom, entries, wrongAt, upTo, seenNone, SeenUpTo, Body, bodyOf, wrongSheetOf, Stands, standingSheet, WholeBody, bodySheet}
+use Rattle.judge.specs.declared.opening.Against.{Against}
+use Rattle.judge.specs.declared.walk.WalkedLayers.{WalkedLayers}
+use Rattle.judge.specs.Walks.{ExtentOf, viewsFrom, faultFrom, entries, wrongAt, upTo, bodyOf, wrongSheetOf, Stands, standingSheet, WholeBody, bodySheet, Listing, BodyAgainst}
 use Rattle.judge.specs.Sheet.{values, startBefore, headerBefore, refusedSheet, sheetFor}
 use Rattle.judge.proofs.Steps.{views-end}
 use Rattle.judge.proofs.Joined.{wrong-first}
@@ -61,13 +63,7 @@ or-none : (low : ℕ) → orElse (wrongAt low) none ≡ wrongAt low
 or-none zero = refl
 or-none (suc low) = refl
 
-pub begin-seen : (s : Seen) (k : ℕ) → s ≡ seenNone k → SeenUpTo k s
-begin-seen s k e = rw e (record { few = omega arith; nine = refl })
-
-pub begun-body : (file : List ℕ) (x : Extent) (k begun : ℕ) (s : Seen) (w : WalkedBody) → begun ≡ k → s ≡ seenNone begun → Body file x begun 0 s w → Body file x k 0 (seenNone k) w
-begun-body file x k begun s w begins none-seen walked = rw begins at (subst (λ (s : Seen). Body file x begun 0 s w) none-seen walked)
-
-module _ (file : List ℕ) (x : Extent) (extent-of : ExtentOf file x) (part : SheetPart) (w : WalkedBody) (b : WholeBody file x part w) where
+module _ (file : List ℕ) (x : Extent) (extent-of : ExtentOf file x) (part : SheetPart) (w : WalkedLayers) (b : WholeBody file x (part .length) w) where
   abbrev f : File
   f = bodyOf file x part
 
@@ -78,29 +74,36 @@ module _ (file : List ℕ) (x : Extent) (extent-of : ExtentOf file x) (part : Sh
   unfolding judge
   answers-fault r ne e = e ∙ rw (b .fails ne)
 
+  module _ (directory : List (List ℕ)) (e : Edition) where
+    pub against-fault : (r : Against) → (w .number ≡ 0 → ⊥) → r .sheet ≡ refusedSheet (w .number) (w .at) → BodyAgainst file x part directory e r
+    against-fault r ne q = record { sheet-is = answers-fault (r .sheet) ne q; listing = λ z. absurd (ne (sym (ap (λ (s : Sheet). s .fault) q) ∙ z)) }
+
+    pub against-body : (s : Sheet) → s ≡ bodySheet file x part → Listing file x (part .length) directory e (w .layers) (w .unlisted) → BodyAgainst file x part directory e (record { sheet = s; layers = w .layers; unlisted = w .unlisted })
+    against-body s q l = record { sheet-is = q; listing = λ z. l }
+
   module _ (z : w .number ≡ 0) where
-    over : viewsFrom file x (w .next) ≡ []
-    over = views-end file x extent-of (w .next) (omega (arith, b .whole z refl))
+    over : viewsFrom file x (x .records) ≡ []
+    over = views-end file x extent-of (x .records) (omega arith)
 
     no-fault : faultFrom 0 (suc (part .length)) body ≡ none
-    no-fault = b .passes z .same ∙ ap (faultFrom 0 (suc (w .next))) over
+    no-fault = b .passes z .same ∙ ap (faultFrom 0 (suc (x .records))) over
 
     items-are : items (entries body) ≡ w .seen .items
     items-are = omega (arith, b .sees z .all, ap (λ (l : List View). items (entries l)) over)
 
     wrong-is : countFault 0 (suc (part .length)) body ≡ wrongAt (w .low)
-    wrong-is = b .passes z .wrong (ap (faultFrom 0 (suc (w .next))) over) ∙ ap (λ (l : List View). orElse (wrongAt (w .low)) (countFault 0 (suc (w .next)) l)) over ∙ or-none (w .low)
+    wrong-is = b .passes z .wrong (ap (faultFrom 0 (suc (x .records))) over) ∙ ap (λ (l : List View). orElse (wrongAt (w .low)) (countFault 0 (suc (x .records)) l)) over ∙ or-none (w .low)
 
     -- what stands before the place
-    none-left : upTo (x .before) (suc (w .next)) (viewsFrom file x (w .next)) ≡ []
-    none-left = up-empty (suc (x .before) - suc (w .next)) (viewsFrom file x (w .next)) over
+    none-left : upTo (x .before) (suc (x .records)) (viewsFrom file x (x .records)) ≡ []
+    none-left = up-empty (suc (x .before) - suc (x .records)) (viewsFrom file x (x .records)) over
 
     same-front : upTo (x .before) (suc (part .length)) body ≡ take (x .before - part .length) body
     same-front = let e : suc (x .before) - suc (part .length) ≡ x .before - part .length = omega arith in ap (λ (n : ℕ). take n body) e
 
     start-found : w .seen .start ≡ startBefore f (x .before)
     start-found =
-        sym (b .sees z .last ∙ ap (lastStart 0 (suc (w .next)) (w .seen .start)) none-left)
+        sym (b .sees z .last ∙ ap (lastStart 0 (suc (x .records)) (w .seen .start)) none-left)
         ∙ ap (lastStart 0 (suc (part .length)) (part .length)) same-front
         ∙ ap (λ (n : ℕ). lastStart 0 n (part .length) (take (x .before - part .length) body)) (sym (add-one (part .length)))
         ∙ ap (λ (n : ℕ). lastStart 0 (part .length + 1) n (take (x .before - part .length) body)) (sym (add-zero (part .length)))
@@ -108,7 +111,7 @@ module _ (file : List ℕ) (x : Extent) (extent-of : ExtentOf file x) (part : Sh
 
     header-found : (level : ℕ) → level ≤ 8 → getD (w .seen .headers) level 0 ≡ headerBefore f (x .before) level
     header-found level h =
-        sym (b .sees z .above level h ∙ ap (lastHeader level 0 (suc (w .next)) (getD (w .seen .headers) level 0)) none-left)
+        sym (b .sees z .above level h ∙ ap (lastHeader level 0 (suc (x .records)) (getD (w .seen .headers) level 0)) none-left)
         ∙ ap (λ (n : ℕ). lastHeader level 0 (suc (part .length)) n (upTo (x .before) (suc (part .length)) body)) (getD-replicate 9 level (part .length) 0 (omega arith))
         ∙ ap (lastHeader level 0 (suc (part .length)) (part .length)) same-front
         ∙ ap (λ (n : ℕ). lastHeader level 0 n (part .length) (take (x .before - part .length) body)) (sym (add-one (part .length)))

@@ -26,7 +26,7 @@ use Rattle.judge.specs.declared.walk.WalkedBody.{WalkedBody}
 use Rattle.judge.specs.Walks.{recordAt, viewsFrom, faultFrom, entries, ExtentOf, entryFault, lastBefore, withItem, JoinsTo, SeesTo, SeenUpTo, Item, Child, Body, passedBodyOf, itemAsGroup}
 use Rattle.judge.proofs.Steps.{views-more, views-end, fault-here}
 use Rattle.judge.proofs.EntryLaws.{Sound, sound, fault-is}
-use Rattle.judge.proofs.Ends.{level-some, ends-same, ends-uncounted}
+use Rattle.judge.proofs.Ends.{ends-same, ends-uncounted}
 use Rattle.judge.proofs.ChildLaws.{item-child}
 use Rattle.judge.proofs.Joined.{joins-none, joins-more, sees-none, sees-more}
 
@@ -85,27 +85,25 @@ module _ (file : List ℕ) (x : Extent) (k opened : ℕ) (s : Seen) (at : ℕ) (
     onward = λ z. absurd (ne z);
     within = λ z. absurd (ne z);
     counts = λ z. absurd (ne z);
-    whole = λ z. absurd (ne z);
   }
 
   -- the record at hand has a fault, number and entry as the code has them
   pub body-fault : (w : WalkedBody) (e : Entry) (number : ℕ) → at < x .records → e ≡ entryOf (recordAt file x at) → number ≡ entryFault e opened → (number ≡ 0 → ⊥) → w .number ≡ number → w .at ≡ at + 1 → Body file x k opened s w
   body-fault w e number h is of ne p q = fails-at w (λ z. ne (sym p ∙ z)) (ap (faultFrom opened (suc at)) (views-more file x extent-of at h) ∙ fault-here opened (suc at) (view (recordAt file x at)) (viewsFrom file x (at + 1)) number (fault-is file x at opened e number extent-of h is of) ne ∙ rw (p, q, add-one at))
 
-  stopped : faultFrom opened (suc at) (viewsFrom file x at) ≡ faultFrom (opened - 1) (suc at) (viewsFrom file x at) → (faultFrom (opened - 1) (suc at) (viewsFrom file x at) ≡ none → (kind : ℕ) → countUnder opened kind (entries (viewsFrom file x at)) ≡ 0) → (opened ≡ 0 → at ≡ x .records) → Body file x k opened s (passedBodyOf at low tally s′)
-  stopped same silent end = record {
+  stopped : faultFrom opened (suc at) (viewsFrom file x at) ≡ faultFrom (opened - 1) (suc at) (viewsFrom file x at) → (faultFrom (opened - 1) (suc at) (viewsFrom file x at) ≡ none → (kind : ℕ) → countUnder opened kind (entries (viewsFrom file x at)) ≡ 0) → Body file x k opened s (passedBodyOf at low tally s′)
+  stopped same silent = record {
     fails = λ h. absurd (h refl);
-    passes = λ z. record { same = g .joins .same ∙ same; wrong = λ e. g .joins .wrong (same ∙ e); deeper = g .joins .deeper };
+    passes = λ z. record { same = g .joins .same ∙ same; wrong = λ e. g .joins .wrong (same ∙ e); deeper = g .joins .deeper; layers = g .joins .layers };
     sees = λ z. g .sees;
     seen-then = λ z. g .seen-then;
     onward = λ z. g .start;
     within = λ z. g .within;
     counts = λ z e kind. omega (arith, g .counts kind, silent e kind);
-    whole = λ z. end;
   }
 
   pub body-ends : (w : WalkedBody) → x .records ≤ at → w ≡ passedBodyOf at low tally s′ → Body file x k opened s w
-  body-ends w h e = rw e (stopped (rw (views-end file x extent-of at h)) (λ q kind. rw (views-end file x extent-of at h)) (λ o. omega (arith, g .within)))
+  body-ends w h e = rw e (stopped (rw (views-end file x extent-of at h)) (λ q kind. rw (views-end file x extent-of at h)))
 
   -- there is room for one more of a kind in the tally, and for one more item
   module _ (here : at < x .records) (wide : length file < 2 ^ 64) where
@@ -134,8 +132,7 @@ module _ (file : List ℕ) (x : Extent) (k opened : ℕ) (s : Seen) (at : ℕ) (
         let r = view (recordAt file x at) in
         let shallow : r .level ≤ opened = omega (arith, d .level-is) in
         rw same (stopped (rw (views-more file x extent-of at here) (ends-same opened (suc at) r rest (d .well) shallow))
-        (λ q kind. rw (views-more file x extent-of at here) (ends-uncounted opened (suc at) r rest (d .well) shallow (rw (views-more file x extent-of at here) at q) kind))
-        (λ o. omega (arith, level-some opened (suc at) r rest (d .well))))
+        (λ q kind. rw (views-more file x extent-of at here) (ends-uncounted opened (suc at) r rest (d .well) shallow (rw (views-more file x extent-of at here) at q) kind)))
 
     -- one more of its kind
     pub group-goes : (c : WalkedGroup) → Child file x at opened s′ c → c .number ≡ 0 → (low′ : ℕ) → low′ ≡ first low (c .low) → Going file x k opened s (c .next) (set tally (e .kind) (getD tally (e .kind) 0 + 1)) low′ (c .seen)

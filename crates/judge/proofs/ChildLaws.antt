@@ -8,7 +8,7 @@ use native.Mathlib.Numerals.{add-one}
 use lib.ListN.{getD, length-set}
 use Rattle.format.specs.Basics.{none}
 use Rattle.format.specs.Record.{Kind, head, item, neither, isHead, countIndex, nothing, View, view}
-use Rattle.format.specs.Judge.{countUnder, countsAgree}
+use Rattle.format.specs.Judge.{lowestLevel, countUnder, countsAgree}
 use Rattle.judge.specs.declared.body_records.Extent.{Extent}
 use Rattle.judge.specs.declared.walk.Seen.{Seen}
 use Rattle.judge.specs.declared.walk.Walked.{Walked}
@@ -21,7 +21,7 @@ use Rattle.records.specs.declared.items.Entry.{Entry}
 use Rattle.records.proofs.Laws.{counts-agree-at}
 use Rattle.judge.proofs.Steps.{views-more, wide-at}
 use Rattle.judge.proofs.EntryLaws.{Sound}
-use Rattle.judge.proofs.Joined.{sees-item, sees-header, step-item, joins-item, item-counted, step-header, joins-agreed, joins-differing, header-counted}
+use Rattle.judge.proofs.Joined.{sees-item, sees-header, step-item, joins-item, item-counted, step-header, joins-agreed, joins-differing, header-layers, header-counted}
 
 item-of : (k : Kind) → isHead k ≡ false → countIndex k ≤ 9 → k ≡ item (pred (countIndex k))
 item-of head e l = cc
@@ -55,6 +55,9 @@ module _ (file : List ℕ) (x : Extent) (extent-of : ExtentOf file x) (k : ℕ) 
     level-is : one .level ≡ suc opened
     level-is = omega (arith, s .level-is, s .near)
 
+    no-item-there : opened ≡ 0 → ⊥
+    no-item-there q = let l : 2 ≤ one .level = subst (λ (j : Kind). lowestLevel j ≤ one .level) kind-is ((good opened nothing one (s .well)) .low) in omega (arith, level-is)
+
     own : Item file x k (one .dataRecords) (one .dataHeld) w
     own = rw (← s .records-are, ← s .held-is) d
 
@@ -67,6 +70,7 @@ module _ (file : List ℕ) (x : Extent) (extent-of : ExtentOf file x) (k : ℕ) 
       further = λ z. own .start z;
       within = λ z. own .within z;
       counts = λ z kind. rw more (item-counted opened (suc k) one rest (s .well) level-is _ kind-is _ _ (own .passes z) kind);
+      layers = λ z q. absurd (no-item-there q);
     }
 
   -- a header, by the walk of its body
@@ -91,6 +95,7 @@ module _ (file : List ℕ) (x : Extent) (extent-of : ExtentOf file x) (k : ℕ) 
           further = λ z. absurd (nz z);
           within = λ z. absurd (nz z);
           counts = λ z. absurd (nz z);
+          layers = λ z. absurd (nz z);
         }
 
     module _ (z : w .number ≡ 0) where
@@ -116,6 +121,7 @@ module _ (file : List ℕ) (x : Extent) (extent-of : ExtentOf file x) (k : ℕ) 
             further = λ q. omega (arith, b .onward z);
             within = λ q. b .within z;
             counts = λ q kind. rw more (header-counted opened (suc k) one rest (s .well) (s .deep) header-is _ _ _ inner kind);
+            layers = λ q o. rw more (header-layers opened (suc k) one rest (s .well) (s .deep) header-is _ _ _ inner o);
           }
 
       -- what the header is asked, by the tally of its body

@@ -2,20 +2,22 @@
 use mathlib.Core.Path.{_≡_, refl, sym, ap, ap₂, _∙_}
 use mathlib.Core.Bool.{Bool, true, false, not}
 use mathlib.Core.List.{List, [], _++_, map}
-use Prim.Native.Nat.{ℕ, _*_, _/_, _≤_, _<_}
+use Prim.Native.Nat.{ℕ, suc, _*_, _/_, _≤_, _<_}
 use native.Mathlib.Omega.{arith}
 use borrow.Author.Tests.{not-true, not-false}
 use lib.ListN.{length, take, drop}
 use lib.Seq.{length-take-le}
 use Rattle.format.specs.Basics.{Answer, given, refused, chunks, flat, stageOneOk}
 use Rattle.format.specs.Record.{view}
-use Rattle.format.specs.Judge.{Counts, fileOf, accepted, judge, judgeRecords, judgeIndexRecords, judgeSheet, judgeIndex, afterStageOne}
+use Rattle.format.specs.Judge.{Counts, File, fileOf, accepted, judge, judgeRecords, judgeIndexRecords, judgeSheet, judgeIndex, afterStageOne}
 use Rattle.format.specs.Answers.{judgedAnswer}
 use Rattle.format.specs.declared.Judged.the-variants.{Accepted, Refused}
 use Rattle.format.proofs.JudgeStages.{WholeOf, length-ok, stage-one}
 use Rattle.format.proofs.JudgeRecords.{sheet-by}
 use Rattle.format.proofs.AcceptedSheet.{counted-are}
 use Rattle.format.proofs.ChecksJudging.{sheet-numbered}
+use Rattle.format_directory.specs.declared.Edition.{Edition}
+use Rattle.format_directory.specs.Directory.{layersFrom, layersOf}
 use Rattle.files.specs.declared.Stride.{Stride}
 use Rattle.files.specs.declared.Stride.the-variants.{Plain, Lines}
 use Rattle.files.specs.Records.{strideOf, recordsOf, lengthOk}
@@ -27,7 +29,9 @@ use Rattle.part_and_index.specs.declared.Fault.{Fault}
 use Rattle.part_and_index.proofs.Laws.{SoundPart, sound-part, refused-part, sound-index, refused-index}
 use Rattle.judge.specs.declared.body_records.Extent.{Extent}
 use Rattle.judge.specs.declared.Sheet.{Sheet}
-use Rattle.judge.specs.Walks.{ExtentOf, viewsFrom, bodyOf, bodySheet}
+use Rattle.judge.specs.declared.opening.Against.{Against}
+use Rattle.judge.specs.Listed.{firstUnlisted}
+use Rattle.judge.specs.Walks.{ExtentOf, viewsFrom, bodyOf, bodySheet, layersAt, BodyAgainst, OpenedAgainst}
 use Rattle.judge.specs.Sheet.{refusedSheet, sheetFor, openedSheet, recordsSheet, openedIn, judgeBy}
 
 -- ---- behind stage one: the sheet part, then the body
@@ -67,6 +71,23 @@ module _ (stride : Stride) (file : List ℕ) (part : SheetPart) (found : part �
         e
         ∙ (λ i. sheetFor (judge (file-is i)) (sound .unit-is i) (sound .corners-are i) (file-is i) before)
         ∙ rw (sound .no-fault)
+
+    -- the same against the records of a directory
+    layers-are : layersAt file x (part .length) ≡ layersOf rs
+    unfolding layersOf
+    layers-are = ap (λ (f : File). layersFrom 0 (suc (f .partLength)) (f .body)) file-is
+
+    pub file-against : (directory : List (List ℕ)) (e : Edition) (r : Against) → BodyAgainst file x part directory e r → OpenedAgainst rs before directory e r
+    file-against directory e r b = record {
+      sheet-is = file-body (r .sheet) (b .sheet-is);
+      count = λ z. b .listing z .count ∙ ap length layers-are;
+      first-is = λ z. b .listing z .first-is ∙ ap (firstUnlisted e directory 0) layers-are;
+    }
+
+  pub part-against : (before : ℕ) (directory : List (List ℕ)) (e : Edition) (r : Against) → (part .fault ≡ 0 → ⊥) → r .sheet ≡ refusedSheet (part .fault) (part .at) → OpenedAgainst rs before directory e r
+  part-against before directory e r ne q =
+      let no : r .sheet .fault ≡ 0 → ⊥ = λ z. ne (sym (ap (λ (s : Sheet). s .fault) q) ∙ z) in
+      record { sheet-is = part-refused before (r .sheet) ne q; count = λ z. absurd (no z); first-is = λ z. absurd (no z) }
 
 -- ---- stage one, where `ok` is what its test came to
 module _ (stride : Stride) (used : ℕ) (buffer : List ℕ) (ok : Bool) (of : ok ≡ lengthOk stride used buffer) where

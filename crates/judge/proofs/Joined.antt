@@ -12,13 +12,14 @@ use Rattle.format.specs.Basics.{Fault, none, fault, orElse, toFault, unless, fi
 use Rattle.format.specs.Record.{nothing, head, item, isHead, countIndex, View}
 use Rattle.format.specs.Judge.{walk, faultAt, headersAndItems, items, countUnder, countsAgree, countFault, openAfter, dueAfter}
 use Rattle.format.proofs.JudgeSteps.{walk-step}
+use Rattle.format_directory.specs.Directory.{Layer, layerBody, layersFrom}
 use Rattle.judge.specs.declared.walk.Seen.{Seen}
 use Rattle.judge.specs.Walks.{faultFrom, entries, wrongAt, lastBefore, withItem, withHeader, Through, Joins, Sees}
 use Rattle.judge.proofs.Steps.{any-owner}
 use Rattle.judge.proofs.SeenLaws.{start-step, header-step, header-set}
 
 pub joins-none : (opened i : ℕ) (rs : List View) → Joins opened i rs opened i rs 0
-joins-none opened i rs = record { same = refl; wrong = λ h. refl; deeper = λ level kind h. refl }
+joins-none opened i rs = record { same = refl; wrong = λ h. refl; deeper = λ level kind h. refl; layers = λ h. refl }
 
 -- the first of two wrong counts
 pub wrong-first : (a b : ℕ) (f : Fault) → orElse (wrongAt a) (orElse (wrongAt b) f) ≡ orElse (wrongAt (first a b)) f
@@ -30,6 +31,7 @@ joins-more opened i rs j ss after k ts low low′ f g = record {
   same = f .same ∙ g .same;
   wrong = λ h. f .wrong (g .same ∙ h) ∙ ap (orElse (wrongAt low)) (g .wrong h) ∙ wrong-first low low′ _;
   deeper = λ level kind h. f .deeper level kind h ∙ g .deeper level kind h;
+  layers = λ h. f .layers h ∙ g .layers h;
 }
 
 -- ---- what is seen
@@ -103,6 +105,7 @@ module _ (opened i : ℕ) (r : View) (rs : List View) (well : faultAt opened 0 n
         same = step-item ∙ t .same opened ∙ any-owner opened (r .dataHeld) nothing i 0 i′ rs′;
         wrong = λ h. rw is (t .wrong);
         deeper = λ level kind h. one-deeper level kind h ∙ ap (countUnder level kind) behind-item;
+        layers = λ h. rw is (t .layers);
       }
 
       pub item-counted : (kind : ℕ) → countUnder opened kind (entries (r ∷ rs)) ≡ cond (eqb (countIndex (r .kind)) kind) 1 0 + countUnder opened kind (entries rs′)
@@ -125,6 +128,7 @@ module _ (opened i : ℕ) (r : View) (rs : List View) (well : faultAt opened 0 n
         same = step-header ∙ b .same;
         wrong = wrong;
         deeper = λ level kind h. one-deeper level kind h ∙ ap (countUnder level kind) behind-header ∙ b .deeper level kind (omega arith);
+        layers = λ h. rw (is, deep, ne-eqb (suc opened) 1 (λ e. omega arith)) (b .layers (omega arith));
       }
 
       pub joins-agreed : (faultFrom opened i′ rs′ ≡ none → countsAgree r (entries rs) ≡ true) → Joins opened i (r ∷ rs) opened i′ rs′ low
@@ -136,6 +140,10 @@ module _ (opened i : ℕ) (r : View) (rs : List View) (well : faultAt opened 0 n
           there : (x : ℕ) → 0 < x → fault 10 x ≡ orElse (wrongAt x) (countFault 0 i′ rs′)
           there zero l = absurd (omega arith)
           there (suc x) l = refl
+
+      -- at open level 0 it is the header of a layer
+      pub header-layers : opened ≡ 0 → layersFrom 0 i (r ∷ rs) ≡ record { header = i; body = layerBody 0 rs } ∷ layersFrom 0 i′ rs′
+      header-layers z = rw (is, deep, z) (ap (λ (ls : List Layer). record { header = i; body = layerBody 0 rs } ∷ ls) (b .layers (omega arith)))
 
       pub header-counted : (kind : ℕ) → countUnder opened kind (entries (r ∷ rs)) ≡ cond (eqb (countIndex (r .kind)) kind) 1 0 + countUnder opened kind (entries rs′)
       header-counted kind = one-counted kind ∙ ap (λ (x : ℕ). cond (eqb (countIndex (r .kind)) kind) 1 0 + x) (ap (countUnder opened kind) behind-header ∙ b .deeper opened kind (omega arith))

@@ -6,9 +6,11 @@ mod Joined
 mod Ends
 mod ChildLaws
 mod BodyLaws
+mod LayersLaws
 mod ItemLaws
 mod SheetLaws
 pub mod PlaceLaws
 mod AnswerLaws
 mod FileLaws
 pub mod Opened
+pub mod ListedLaws

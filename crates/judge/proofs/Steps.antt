@@ -11,6 +11,7 @@ use Rattle.format.specs.Record.{Data, nothing, View, view}
 use Rattle.format.specs.Judge.{walk, faultAt, headersAndItems, countFault}
 use Rattle.format.specs.Edit.{lastHeader}
 use Rattle.format.specs.Above.{lastStart}
+use Rattle.format_directory.specs.Directory.{layersFrom}
 use Rattle.files.specs.Records.{strideOf, recordsOf}
 use Rattle.files.specs.declared.Stride.{Stride}
 use Rattle.files.specs.declared.Stride.the-variants.{Plain, Lines}
@@ -62,7 +63,7 @@ one-due : (left : ℕ) → 0 < left → left ≡ suc (left - 1)
 one-due left h = omega arith
 
 pub through-none : (held : Data) (owner due i : ℕ) (rs : List View) → Through held owner due i rs due i rs
-through-none held owner due i rs = record { same = λ o. refl; behind = refl; wrong = refl; start = λ before latest. refl; header = λ before level latest. refl }
+through-none held owner due i rs = record { same = λ o. refl; behind = refl; wrong = refl; start = λ before latest. refl; header = λ before level latest. refl; layers = refl }
 
 module _ (held : Data) (owner : ℕ) (r : View) (rs : List View) (i left : ℕ) (h : 0 < left) where
   step-fault : (opened : ℕ) → walk opened left held owner i (r ∷ rs) ≡ orElse (toFault (r .faultAsData held (left - 1)) i) (walk opened (left - 1) held owner (suc i) rs)
@@ -79,6 +80,7 @@ module _ (held : Data) (owner : ℕ) (r : View) (rs : List View) (i left : ℕ) 
     wrong = ap (λ (x : ℕ). countFault x i (r ∷ rs)) (one-due left h);
     start = λ before latest. ap (λ (x : ℕ). lastStart x i latest (upTo before i (r ∷ rs))) (one-due left h) ∙ start-data before i (left - 1) latest r rs;
     header = λ before level latest. ap (λ (x : ℕ). lastHeader level x i latest (upTo before i (r ∷ rs))) (one-due left h) ∙ header-data before i level (left - 1) latest r rs;
+    layers = ap (λ (x : ℕ). layersFrom x i (r ∷ rs)) (one-due left h);
   }
 
 pub through-more : (held : Data) (owner a i b j c k : ℕ) (rs ss ts : List View) → Through held owner a i rs b j ss → Through held owner b j ss c k ts → Through held owner a i rs c k ts
@@ -88,6 +90,7 @@ through-more held owner a i b j c k rs ss ts f g = record {
   wrong = f .wrong ∙ g .wrong;
   start = λ before latest. f .start before latest ∙ g .start before latest;
   header = λ before level latest. f .header before level latest ∙ g .header before level latest;
+  layers = f .layers ∙ g .layers;
 }
 
 pub data-missing : (opened left : ℕ) (held : Data) (owner i : ℕ) → 0 < left → walk opened left held owner i [] ≡ fault 3 owner

@@ -1,3 +1,4 @@
+pub mod Listed
 pub mod Walks
 pub mod Sheet
 pub mod Cases

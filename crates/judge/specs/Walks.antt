@@ -2,7 +2,7 @@
 -- of this. Assumes nothing.
 use mathlib.Core.Path.{_≡_}
 use mathlib.Core.Bool.{Bool, true, cond, _&&_}
-use mathlib.Core.List.{List, [], map}
+use mathlib.Core.List.{List, [], _∷_, map}
 use Prim.Native.Nat.{ℕ, zero, suc, _+_, _-_, _*_, _≤_, _<_}
 use lib.Dec.{leb, ltb, eqb}
 use lib.ListN.{length, take, drop, getD, set, replicate}
@@ -11,6 +11,8 @@ use Rattle.format.specs.Record.{Data, nothing, View, view, isHead, countIndex}
 use Rattle.format.specs.Judge.{walk, faultAt, headersAndItems, items, countUnder, countFault, File, accepted, judge}
 use Rattle.format.specs.Edit.{lastHeader}
 use Rattle.format.specs.Above.{lastStart}
+use Rattle.format_directory.specs.declared.Edition.{Edition}
+use Rattle.format_directory.specs.Directory.{Layer, layerBody, layersFrom, layersOf}
 use Rattle.files.specs.Records.{recordsOf}
 use Rattle.records.specs.declared.items.Entry.{Entry}
 use Rattle.part_and_index.specs.declared.SheetPart.{SheetPart}
@@ -19,8 +21,11 @@ use Rattle.judge.specs.declared.walk.Seen.{Seen}
 use Rattle.judge.specs.declared.walk.Walked.{Walked}
 use Rattle.judge.specs.declared.walk.WalkedGroup.{WalkedGroup}
 use Rattle.judge.specs.declared.walk.WalkedBody.{WalkedBody}
+use Rattle.judge.specs.declared.walk.WalkedLayers.{WalkedLayers}
+use Rattle.judge.specs.declared.opening.Against.{Against}
 use Rattle.judge.specs.declared.Sheet.{Sheet}
-use Rattle.judge.specs.Sheet.{values, startBefore, headerBefore, acceptedSheet, sheetFor}
+use Rattle.judge.specs.Sheet.{values, startBefore, headerBefore, acceptedSheet, sheetFor, recordsSheet}
+use Rattle.judge.specs.Listed.{firstUnlisted}
 
 -- ---- The records of a file, which count from 0 here; record k has number k + 1
 -- the file has as many records as the walk is told
@@ -93,14 +98,16 @@ pub record Through (held : Data) (owner due i : ℕ) (rs : List View) (left i′
   pub wrong : countFault due i rs ≡ countFault left i′ rs′
   pub start : (before latest : ℕ) → lastStart due i latest (upTo before i rs) ≡ lastStart left i′ latest (upTo before i′ rs′)
   pub header : (before level latest : ℕ) → lastHeader level due i latest (upTo before i rs) ≡ lastHeader level left i′ latest (upTo before i′ rs′)
+  pub layers : layersFrom due i rs ≡ layersFrom left i′ rs′
 
 -- ---- Headers and items: from rs at one open level to rs′ at another nothing is wrong; `low` is the first header between them whose counts differ, 0 for
 -- none. Counts are those of a file in which stage two finds nothing: that is the premise of `wrong`. What stands between counts for no header of a level
--- lower than the open one
+-- lower than the open one, and in a layer no other begins
 pub record Joins (openLevel i : ℕ) (rs : List View) (openLevel′ i′ : ℕ) (rs′ : List View) (low : ℕ) : Type 0 where
   pub same : faultFrom openLevel i rs ≡ faultFrom openLevel′ i′ rs′
   pub wrong : faultFrom openLevel′ i′ rs′ ≡ none → countFault 0 i rs ≡ orElse (wrongAt low) (countFault 0 i′ rs′)
   pub deeper : (level kind : ℕ) → level < openLevel → countUnder level kind (entries rs) ≡ countUnder level kind (entries rs′)
+  pub layers : 0 < openLevel → layersFrom 0 i rs ≡ layersFrom 0 i′ rs′
 
 -- what is seen at rs, and what is seen then at rs′: how many items, the last header or item before the place, the last header of each level
 pub record Sees (before i : ℕ) (rs : List View) (s : Seen) (i′ : ℕ) (rs′ : List View) (s′ : Seen) : Type 0 where
@@ -146,6 +153,10 @@ pub record HeaderAt (file : List ℕ) (x : Extent) (k openLevel : ℕ) : Type 0 
   pub header : isHead ((view (recordAt file x k)) .kind) ≡ true
   pub deep : (view (recordAt file x k)) .level ≡ suc openLevel
 
+-- the layers from record k on
+abbrev pub layersAt : List ℕ → Extent → (k : ℕ) → List Layer
+layersAt file x k = layersFrom 0 (suc k) (viewsFrom file x k)
+
 -- one header or item a level below the open one, at record k, with all that belongs to it
 pub record Child (file : List ℕ) (x : Extent) (k openLevel : ℕ) (s : Seen) (w : WalkedGroup) : Type 0 where
   pub fails : (w .number ≡ 0 → ⊥) → Fails file x k openLevel (w .number) (w .at)
@@ -155,6 +166,7 @@ pub record Child (file : List ℕ) (x : Extent) (k openLevel : ℕ) (s : Seen) (
   pub further : w .number ≡ 0 → k < w .next
   pub within : w .number ≡ 0 → w .next ≤ x .records
   pub counts : w .number ≡ 0 → (kind : ℕ) → countUnder openLevel kind (entries (viewsFrom file x k)) ≡ cond (eqb (countIndex ((view (recordAt file x k)) .kind)) kind) 1 0 + countUnder openLevel kind (entries (viewsFrom file x (w .next)))
+  pub layers : w .number ≡ 0 → openLevel ≡ 0 → layersAt file x k ≡ record { header = suc k; body = layerBody 0 (viewsFrom file x (k + 1)) } ∷ layersAt file x (w .next)
 
 -- what `walk_body` ensures: all that stands below the open level from record k on. It stops at a record that the level above may hold, or
 -- at the end
@@ -166,7 +178,21 @@ pub record Body (file : List ℕ) (x : Extent) (k openLevel : ℕ) (s : Seen) (w
   pub onward : w .number ≡ 0 → k ≤ w .next
   pub within : w .number ≡ 0 → w .next ≤ x .records
   pub counts : w .number ≡ 0 → faultFrom (openLevel - 1) (suc (w .next)) (viewsFrom file x (w .next)) ≡ none → (kind : ℕ) → countUnder openLevel kind (entries (viewsFrom file x k)) ≡ getD (w .tally) kind 0
-  pub whole : w .number ≡ 0 → openLevel ≡ 0 → w .next ≡ x .records
+
+-- what `walk_layers` ensures of all that stands from record k on: as a body at open level 0, which only the end ends
+pub record WholeBody (file : List ℕ) (x : Extent) (k : ℕ) (w : WalkedLayers) : Type 0 where
+  pub fails : (w .number ≡ 0 → ⊥) → Fails file x k 0 (w .number) (w .at)
+  pub passes : w .number ≡ 0 → JoinsTo file x k 0 (x .records) 0 (w .low)
+  pub sees : w .number ≡ 0 → SeesTo file x k (seenNone k) (x .records) (w .seen)
+  pub seen-then : w .number ≡ 0 → SeenUpTo (x .records) (w .seen)
+
+-- and of the layers against the records of a directory
+pub record Listing (file : List ℕ) (x : Extent) (k : ℕ) (directory : List (List ℕ)) (e : Edition) (layers unlisted : ℕ) : Type 0 where
+  pub count : layers ≡ length (layersAt file x k)
+  pub first-is : unlisted ≡ firstUnlisted e directory 0 (layersAt file x k)
+
+abbrev pub passedLayersOf : (low : ℕ) → Seen → (layers unlisted : ℕ) → WalkedLayers
+passedLayersOf low seen layers unlisted = record { number = 0; at = 0; low = low; seen = seen; layers = layers; unlisted = unlisted }
 
 -- a sheet, by what its sheet part came to
 abbrev pub bodyOf : List ℕ → Extent → SheetPart → File
@@ -199,9 +225,16 @@ pub record Stands (file : List ℕ) (x : Extent) (part : SheetPart) (s : Seen) :
 abbrev pub standingSheet : List ℕ → Extent → SheetPart → Seen → Sheet
 standingSheet file x part s = acceptedSheet (s .items) (part .unit) (part .corners) (bodyOf file x part) (x .before)
 
--- the walk of a whole body, behind the sheet part; what opening answers of it
-abbrev pub WholeBody : List ℕ → Extent → SheetPart → WalkedBody → Type 0
-WholeBody file x part w = Body file x (part .length) 0 (seenNone (part .length)) w
-
+-- what opening answers of a body
 abbrev pub bodySheet : List ℕ → Extent → SheetPart → Sheet
 bodySheet file x part = sheetFor (judge (bodyOf file x part)) (part .unit) (part .corners) (bodyOf file x part) (x .before)
+
+-- the same against the records of a directory
+pub record BodyAgainst (file : List ℕ) (x : Extent) (part : SheetPart) (directory : List (List ℕ)) (e : Edition) (r : Against) : Type 0 where
+  pub sheet-is : r .sheet ≡ bodySheet file x part
+  pub listing : r .sheet .fault ≡ 0 → Listing file x (part .length) directory e (r .layers) (r .unlisted)
+
+pub record OpenedAgainst (records : List (List ℕ)) (before : ℕ) (directory : List (List ℕ)) (e : Edition) (r : Against) : Type 0 where
+  pub sheet-is : r .sheet ≡ recordsSheet records before
+  pub count : r .sheet .fault ≡ 0 → r .layers ≡ length (layersOf records)
+  pub first-is : r .sheet .fault ≡ 0 → r .unlisted ≡ firstUnlisted e directory 0 (layersOf records)

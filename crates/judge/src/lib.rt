@@ -2,11 +2,15 @@
 // of it.
 use files::Stride;
 use format::Judged;
+use format_directory::Edition;
 use part_and_index::FourCorners;
 ghost use mathlib.Core.Path.{_≡_};
 ghost use Rattle.format.specs.Judge.{judgeRecords, judgeIndexRecords, judgeSheet, judgeIndex};
 ghost use Rattle.format.specs.Answers.{judgedAnswer};
+ghost use Rattle.files.specs.declared.Stride.the-variants.{Plain};
+ghost use Rattle.files.specs.Records.{recordsOf};
 ghost use Rattle.judge.specs.Sheet.{judgeBy, openedIn};
+ghost use Rattle.judge.specs.Listed.{refusedListed, listedIn};
 
 mod body_records;
 mod opening;
@@ -36,6 +40,53 @@ pub fn open_sheet(buffer: &[u8], used: usize, before: usize) -> Sheet
         return opening::refused(1, 0);
     }
     opening::open_file(&buffer[..used], Stride::Plain, before)
+}
+
+// A sheet against the records of a directory: the fault, 0 for none, and its record; else how many items it has, how many records its sheet part, how many
+// layers, and the first of these, counted from 1, that the directory does not list with its header, 0 where it lists every one.
+pub struct ListedSheet {
+    pub fault: u8,
+    pub at: usize,
+    pub items: usize,
+    pub part: usize,
+    pub layers: usize,
+    pub unlisted: usize,
+}
+
+// One that is refused: no values.
+fn refused_listed(fault: u8, at: usize) -> ListedSheet
+    ensures { λ r. ⌜ r ≡ refusedListed fault at ⌝ }
+{
+    ListedSheet {
+        fault,
+        at,
+        items: 0,
+        part: 0,
+        layers: 0,
+        unlisted: 0,
+    }
+}
+
+// Opens the sheet file in the first `used` bytes of the buffer against the records of a directory, in the one walk that judges it.
+pub fn open_listed(buffer: &[u8], used: usize, directory: &[u8], edition: Edition) -> ListedSheet
+    ensures { λ r. ⌜ r ≡ listedIn edition used (now (buffer .entry)) (recordsOf Plain (now (directory .entry))) ⌝ }
+{
+    if !files::length_ok(buffer, used, Stride::Plain) {
+        return refused_listed(1, 0);
+    }
+    let opened = opening::open_against(&buffer[..used], Stride::Plain, 0, directory, edition);
+    let sheet = opened.sheet;
+    if sheet.fault != 0 {
+        return refused_listed(sheet.fault, sheet.at);
+    }
+    ListedSheet {
+        fault: 0,
+        at: 0,
+        items: sheet.items,
+        part: sheet.part,
+        layers: opened.layers,
+        unlisted: opened.unlisted,
+    }
 }
 
 // Judges the first `used` bytes of the buffer as a sheet file whose records stand at a stride.

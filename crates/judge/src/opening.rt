@@ -4,15 +4,17 @@ use super::body_records;
 use super::body_records::Extent;
 use super::walk;
 use super::walk::Seen;
-use super::walk::WalkedBody;
+use super::walk::WalkedLayers;
 use files::Stride;
+use format_directory::Edition;
 use part_and_index::SheetPart;
 use records::Entry;
 ghost use mathlib.Core.Path.{_≡_};
 ghost use Prim.Native.Nat.{_-_, _≤_};
+ghost use Rattle.files.specs.declared.Stride.the-variants.{Plain};
 ghost use Rattle.files.specs.Records.{recordsOf};
 ghost use Rattle.judge.specs.Sheet.{refusedSheet, recordsSheet};
-ghost use Rattle.judge.specs.Walks.{ExtentOf, dueOfEntry, openOfEntry, placeIn, sheetWith, Stands, standingSheet, WholeBody, wrongSheetOf, bodySheet};
+ghost use Rattle.judge.specs.Walks.{ExtentOf, dueOfEntry, openOfEntry, placeIn, sheetWith, Stands, standingSheet, WholeBody, wrongSheetOf, bodySheet, BodyAgainst, OpenedAgainst};
 
 // Record 2 where the sheet's two counts differ from those found, else 0.
 fn wrong_sheet(part: SheetPart, items: usize, records: usize) -> usize
@@ -120,9 +122,27 @@ fn at_place(file: &[u8], extent: Extent, part: SheetPart, seen: Seen) -> Sheet
     accepted(part, due, open_of(entry), seen)
 }
 
+// A sheet that is opened against a directory: how many layers it has, and the first of them, counted from 1, that the directory does not list, or 0.
+pub(crate) struct Against {
+    pub sheet: Sheet,
+    pub layers: usize,
+    pub unlisted: usize,
+}
+
+// The same of a sheet that is refused.
+fn refused_against(fault: u8, at: usize) -> Against
+    ensures { λ r. ⌜ r .sheet ≡ refusedSheet fault at ⌝ }
+{
+    Against {
+        sheet: refused(fault, at),
+        layers: 0,
+        unlisted: 0,
+    }
+}
+
 // Stage three of a body that passes stage two: the sheet's own counts, then those of its headers, lowest record first.
-fn stage_three(file: &[u8], extent: Extent, part: SheetPart, body: WalkedBody) -> Sheet
-    requires { ⌜ (ExtentOf (now file) extent) × (part .length ≤ extent .records) × (body .number ≡ 0) × (WholeBody (now file) extent part body) ⌝ }
+fn stage_three(file: &[u8], extent: Extent, part: SheetPart, body: WalkedLayers) -> Sheet
+    requires { ⌜ (ExtentOf (now file) extent) × (part .length ≤ extent .records) × (body .number ≡ 0) × (WholeBody (now file) extent (part .length) body) ⌝ }
     ensures { λ r. ⌜ r ≡ bodySheet (now (file .entry)) extent part ⌝ }
 {
     let seen = body.seen;
@@ -135,29 +155,53 @@ fn stage_three(file: &[u8], extent: Extent, part: SheetPart, body: WalkedBody) -
 }
 
 // The body of a sheet, behind its sheet part: stage two, then stage three.
-fn open_body(file: &[u8], extent: Extent, part: SheetPart) -> Sheet
+fn open_body(
+    file: &[u8],
+    extent: Extent,
+    part: SheetPart,
+    directory: &[u8],
+    edition: Edition,
+) -> Against
     requires { ⌜ (ExtentOf (now file) extent) × (part .length ≤ extent .records) ⌝ }
-    ensures { λ r. ⌜ r ≡ bodySheet (now (file .entry)) extent part ⌝ }
+    ensures { λ r. ⌜ BodyAgainst (now (file .entry)) extent part (recordsOf Plain (now (directory .entry))) edition r ⌝ }
 {
-    let body = walk::walk_whole(file, extent, part.length);
+    let body = walk::walk_whole(file, extent, part.length, directory, edition);
     if body.number != 0 {
-        return refused(body.number, body.at);
+        return refused_against(body.number, body.at);
     }
-    stage_three(file, extent, part, body)
+    Against {
+        sheet: stage_three(file, extent, part, body),
+        layers: body.layers,
+        unlisted: body.unlisted,
+    }
 }
 
-// A file of records at a stride, behind stage one: its sheet part, then its body.
-pub(crate) fn open_file(file: &[u8], stride: Stride, before: usize) -> Sheet
-    ensures { λ r. ⌜ r ≡ recordsSheet (recordsOf stride (now (file .entry))) before ⌝ }
+// A file of records at a stride, behind stage one, against the records of a directory: its sheet part, then its body.
+pub(crate) fn open_against(
+    file: &[u8],
+    stride: Stride,
+    before: usize,
+    directory: &[u8],
+    edition: Edition,
+) -> Against
+    ensures { λ r. ⌜ OpenedAgainst (recordsOf stride (now (file .entry))) before (recordsOf Plain (now (directory .entry))) edition r ⌝ }
 {
     let part = part_and_index::sheet_part(file, stride);
     if part.fault != 0 {
-        return refused(part.fault, part.at);
+        return refused_against(part.fault, part.at);
     }
     let extent = Extent {
         stride,
         records: files::count(file, stride),
         before,
     };
-    open_body(file, extent, part)
+    open_body(file, extent, part, directory, edition)
+}
+
+// The same with no directory.
+pub(crate) fn open_file(file: &[u8], stride: Stride, before: usize) -> Sheet
+    ensures { λ r. ⌜ r ≡ recordsSheet (recordsOf stride (now (file .entry))) before ⌝ }
+{
+    let opened = open_against(file, stride, before, &file[..0], Edition::One);
+    opened.sheet
 }

@@ -2,14 +2,18 @@
 // before the place.
 use super::body_records;
 use super::body_records::Extent;
+use format_directory::Edition;
 use records::Entry;
 use records::Tally;
 ghost use mathlib.Core.Path.{_≡_};
-ghost use Prim.Native.Nat.{_<_, _≤_};
-ghost use Rattle.format.specs.Basics.{first};
+ghost use Prim.Native.Nat.{suc, _<_, _≤_};
+ghost use Rattle.format.specs.Basics.{first, unless};
+ghost use Rattle.files.specs.declared.Stride.the-variants.{Plain};
+ghost use Rattle.files.specs.Records.{recordsOf};
+ghost use Rattle.directory_columns.specs.Numbers.{listsHeader};
 ghost use Rattle.records.specs.Entry.{toData};
 ghost use Rattle.judge.specs.Walks.{ExtentOf, lastBefore, seenNone, withHeader, SeenUpTo, passedOf, passedGroupOf, passedBodyOf};
-ghost use Rattle.judge.specs.Walks.{Item, HeaderAt, Child, Body};
+ghost use Rattle.judge.specs.Walks.{Item, HeaderAt, Child, Body, WholeBody, Listing, passedLayersOf};
 
 // What a walk has seen so far: how many items; and of what stands before the place the last header or item, and the last header of each level,
 // by their numbers in the file.
@@ -44,6 +48,16 @@ pub(crate) struct WalkedBody {
     pub low: usize,
     pub tally: Tally,
     pub seen: Seen,
+}
+
+// The same of all layers. `layers` counts them; `unlisted` is the first of them, counted from 1, that a directory does not list, or 0.
+pub(crate) struct WalkedLayers {
+    pub number: u8,
+    pub at: usize,
+    pub low: usize,
+    pub seen: Seen,
+    pub layers: usize,
+    pub unlisted: usize,
 }
 
 // A walk that found a fault.
@@ -82,6 +96,19 @@ fn failed_body(number: u8, at: usize, seen: Seen) -> WalkedBody
     }
 }
 
+fn failed_layers(number: u8, at: usize, seen: Seen) -> WalkedLayers
+    ensures { λ r. ⌜ (r .number ≡ number) × (r .at ≡ at) ⌝ }
+{
+    WalkedLayers {
+        number,
+        at,
+        low: 0,
+        seen,
+        layers: 0,
+        unlisted: 0,
+    }
+}
+
 // A walk that came to the record `next` without one.
 fn passed(next: usize) -> Walked
     ensures { λ r. ⌜ r ≡ passedOf next ⌝ }
@@ -115,6 +142,19 @@ fn passed_body(next: usize, low: usize, tally: Tally, seen: Seen) -> WalkedBody
         low,
         tally,
         seen,
+    }
+}
+
+fn passed_layers(low: usize, seen: Seen, layers: usize, unlisted: usize) -> WalkedLayers
+    ensures { λ r. ⌜ r ≡ passedLayersOf low seen layers unlisted ⌝ }
+{
+    WalkedLayers {
+        number: 0,
+        at: 0,
+        low,
+        seen,
+        layers,
+        unlisted,
     }
 }
 
@@ -238,11 +278,64 @@ fn walk_body(file: &[u8], extent: Extent, k: usize, open_level: usize, given: Se
     passed_body(at, low, tally, seen)
 }
 
+// The number of a layer, counted from 0, where a directory does not list it with its header; else 0.
+fn unlisted(directory: &[u8], edition: Edition, layer: usize, header: usize) -> usize
+    requires { ⌜ layer < header ⌝ }
+    ensures { λ r. ⌜ r ≡ unless (listsHeader edition (recordsOf Plain (now (directory .entry))) layer header) (suc layer) ⌝ }
+{
+    if directory_columns::is_listed(directory, edition, layer, header) {
+        0
+    } else {
+        layer + 1
+    }
+}
+
+// All layers, from record k on, against the records of a directory.
+fn walk_layers(
+    file: &[u8],
+    extent: Extent,
+    k: usize,
+    directory: &[u8],
+    edition: Edition,
+) -> WalkedLayers
+    requires { ⌜ (ExtentOf (now file) extent) × (k ≤ extent .records) ⌝ }
+    ensures { λ r. ⌜ (WholeBody (now (file .entry)) extent k r) × (r .number ≡ 0 → Listing (now (file .entry)) extent k (recordsOf Plain (now (directory .entry))) edition (r .layers) (r .unlisted)) ⌝ }
+{
+    let mut at = k;
+    let mut low = 0;
+    let mut seen = seen_none(k);
+    let mut layers = 0;
+    let mut wrong = 0;
+    while at < extent.records {
+        let entry = body_records::entry_at(file, extent, at);
+        let fault = body_records::entry_fault(entry, 0);
+        if fault != 0 {
+            return failed_layers(fault, at + 1, seen);
+        }
+        let layer = walk_group(file, extent, at, 0, seen);
+        if layer.number != 0 {
+            return failed_layers(layer.number, layer.at, seen);
+        }
+        wrong = first_of(wrong, unlisted(directory, edition, layers, at + 1));
+        layers += 1;
+        at = layer.next;
+        low = first_of(low, layer.low);
+        seen = layer.seen;
+    }
+    passed_layers(low, seen, layers, wrong)
+}
+
 // All of the body, behind a sheet part of so many records.
-pub(crate) fn walk_whole(file: &[u8], extent: Extent, part: usize) -> WalkedBody
+pub(crate) fn walk_whole(
+    file: &[u8],
+    extent: Extent,
+    part: usize,
+    directory: &[u8],
+    edition: Edition,
+) -> WalkedLayers
     requires { ⌜ (ExtentOf (now file) extent) × (part ≤ extent .records) ⌝ }
-    ensures { λ r. ⌜ Body (now (file .entry)) extent part 0 (seenNone part) r ⌝ }
+    ensures { λ r. ⌜ (WholeBody (now (file .entry)) extent part r) × (r .number ≡ 0 → Listing (now (file .entry)) extent part (recordsOf Plain (now (directory .entry))) edition (r .layers) (r .unlisted)) ⌝ }
 {
     let first = body_records::begin(file, part);
-    walk_body(file, extent, first, 0, seen_none(first))
+    walk_layers(file, extent, first, directory, edition)
 }

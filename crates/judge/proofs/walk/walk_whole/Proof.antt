@@ -1,5 +1,5 @@
--- `walk_whole` walks the body from its first record, with nothing seen. Assumes nothing.
-use Rattle.judge.proofs.AnswerLaws.{begin-seen, begun-body}
+-- `walk_whole` walks the layers from the first record of the body. Assumes nothing.
+use Rattle.judge.proofs.LayersLaws.{begun-layers}
 use borrow.Author.Needs.{needs}
 use Rattle.judge.proofs.walk.walk_whole.Statement.{statement}
 use Rattle.judge.proofs.walk.walk_whole.Tie as tie
@@ -7,14 +7,11 @@ use Rattle.judge.proofs.walk.walk_whole.Tie as tie
 begin-requires : tie.Need-begin-requires
 begin-requires c κs = search needs
 
-seen-none-requires : tie.Need-seen-none-requires
-seen-none-requires c κs = search needs
-
-walk-body-requires : tie.Need-walk-body-requires
-walk-body-requires c κs = (search needs, search needs, search needs, search begin-seen)
+walk-layers-requires : tie.Need-walk-layers-requires
+walk-layers-requires c κs = search needs
 
 returns : tie.Need-returns
-returns c = search begun-body
+returns c = begun-layers _ _ _ _ _ _ _ (c .before .begin .ensures) (c .walk-layers .ensures)
 
 pub walk-whole-spec : {M : Type 1} → statement M
-walk-whole-spec = tie.close (tie.spec begin-requires seen-none-requires walk-body-requires returns)
+walk-whole-spec = tie.close (tie.spec begin-requires walk-layers-requires returns)

@@ -1,0 +1,100 @@
+-- `walk_layers` walks layer after layer. The loop's invariant is `Layering`, its measure the records left. Assumes nothing.
+use Prim.Native.Nat.{_-_}
+use Rattle.files.specs.declared.Stride.the-variants.{Plain}
+use Rattle.files.specs.Records.{recordsOf}
+use borrow.Author.Needs.{needs}
+use Rattle.judge.proofs.LayersLaws.{Layering, layering, layer-header, layers-fault, layer-below, layers-fit, layer-stops, layer-further, layer-goes, layers-end, layers-listed}
+use Rattle.judge.proofs.walk.walk_layers.Statement.{statement}
+use Rattle.judge.proofs.walk.walk_layers.Tie as tie
+
+abbrev Inv-loop : tie.InvT-loop
+Inv-loop file extent k directory edition at₀ low₀ seen₀ layers₀ wrong₀ at low seen layers wrong = Layering file extent k (recordsOf Plain directory) edition at low seen layers wrong
+
+abbrev μ-loop : tie.MeasureT-loop
+μ-loop file extent k directory edition at₀ low₀ seen₀ layers₀ wrong₀ at low seen layers wrong = extent .records - at
+
+seen-none-requires : tie.Need-seen-none-requires Inv-loop μ-loop
+seen-none-requires c κs = search needs
+
+loop-holds : tie.Need-loop-holds Inv-loop μ-loop
+loop-holds c = search layering
+
+entry-at-requires : tie.Need-entry-at-requires Inv-loop μ-loop
+entry-at-requires c κs = search needs
+
+entry-fault-requires : tie.Need-entry-fault-requires Inv-loop μ-loop
+entry-fault-requires c κs = search needs
+
+add-failed-layers : tie.Need-add-failed-layers Inv-loop μ-loop
+add-failed-layers c = search needs
+
+failed-layers-requires : tie.Need-failed-layers-requires Inv-loop μ-loop
+failed-layers-requires c κs = search needs
+
+returns : tie.Need-returns Inv-loop μ-loop
+returns c = (search layers-fault, search needs)
+
+walk-group-requires : tie.Need-walk-group-requires Inv-loop μ-loop
+walk-group-requires c κs = (search needs, search needs, search needs, search layer-header, search needs)
+
+failed-layers-requires-2 : tie.Need-failed-layers-requires-2 Inv-loop μ-loop
+failed-layers-requires-2 c κs = search needs
+
+returns-2 : tie.Need-returns-2 Inv-loop μ-loop
+returns-2 c = (search layer-stops, search needs)
+
+add-unlisted : tie.Need-add-unlisted Inv-loop μ-loop
+add-unlisted c = search needs
+
+unlisted-requires : tie.Need-unlisted-requires Inv-loop μ-loop
+unlisted-requires c κs = search layer-below
+
+first-of-requires : tie.Need-first-of-requires Inv-loop μ-loop
+first-of-requires c κs = search needs
+
+add-layers : tie.Need-add-layers Inv-loop μ-loop
+add-layers c = search (layers-fit, c .before .before .before .before .before .before .before .before .before)
+
+first-of-requires-2 : tie.Need-first-of-requires-2 Inv-loop μ-loop
+first-of-requires-2 c κs = search needs
+
+loop-less : tie.Need-loop-less Inv-loop μ-loop
+loop-less c = search layer-further
+
+loop-again : tie.Need-loop-again Inv-loop μ-loop
+loop-again c =
+    let begun = c .before .before .before .before .before .before .before .before .before .before .before .before in
+    let walked = c .before .before .before .before .before .before in
+    layer-goes _ _ _ _ _ _ _ _ _ _ (begun .loop .inv) _ (walked .walk-group .ensures) (search needs) _ _ _ (c .before .before .before .unlisted .ensures) (c .before .before .first-of .ensures) (c .before .first-of2 .ensures)
+
+passed-layers-requires : tie.Need-passed-layers-requires Inv-loop μ-loop
+passed-layers-requires c κs = search needs
+
+returns-3 : tie.Need-returns-3 Inv-loop μ-loop
+returns-3 c = (search layers-end, search layers-listed)
+
+pub walk-layers-spec : {M : Type 1} → statement M
+walk-layers-spec =
+    tie.close
+    (tie.spec
+    Inv-loop
+    μ-loop
+    seen-none-requires
+    loop-holds
+    entry-at-requires
+    entry-fault-requires
+    add-failed-layers
+    failed-layers-requires
+    returns
+    walk-group-requires
+    failed-layers-requires-2
+    returns-2
+    add-unlisted
+    unlisted-requires
+    first-of-requires
+    add-layers
+    first-of-requires-2
+    loop-less
+    loop-again
+    passed-layers-requires
+    returns-3)
