@@ -24,17 +24,17 @@ use Rattle.format.proofs.Columns.{length-written, read-written}
 use Rattle.format.proofs.JudgeWalks.{orElse-none, toFault-none}
 
 -- ---- what an edition has of its own
-length-listed : (e : Edition) (l : Layer) → length (listed e l) ≡ perLayer e
+pub length-listed : (e : Edition) (l : Layer) → length (listed e l) ≡ perLayer e
 length-listed One l = refl
 
-length-endListed : (e : Edition) (p c : ℕ) → length (endListed e p c) ≡ endColumns e
+pub length-endListed : (e : Edition) (p c : ℕ) → length (endListed e p c) ≡ endColumns e
 length-endListed One p c = refl
 
 -- the numbers of so many layers fit a record
-row-fits : (e : Edition) (k : ℕ) → k ≤ perRecord e → perLayer e * k ≤ 11
+pub row-fits : (e : Edition) (k : ℕ) → k ≤ perRecord e → perLayer e * k ≤ 11
 row-fits One k h = omega arith
 
-end-fits : (e : Edition) → endColumns e ≤ 11
+pub end-fits : (e : Edition) → endColumns e ≤ 11
 end-fits One = omega arith
 
 pub same-self : (l : List ℕ) → same l l ≡ true
@@ -50,7 +50,7 @@ pub record Two (l : List ℕ) : Type 0 where
   pub y : ℕ
   pub are : l ≡ x ∷ y ∷ []
 
-two-letters : (e : Edition) → Two (letters e)
+pub two-letters : (e : Edition) → Two (letters e)
 unfolding bytes
 two-letters One = record { x = 90; y = 32; are = refl }
 
@@ -71,7 +71,7 @@ seven-written : (n : ℕ) → n < 10000000 → isWritten (written 7 (pos n)) ≡
 unfolding isWritten
 seven-written n l = true-and _ _ (ap formed (seven-column n l)) (ap (λ (z : ℤ). same (written 7 (pos n)) (written 7 z)) (ap integer (seven-column n l)) ∙ same-self (written 7 (pos n)))
 
-length-columns : (ns : List ℕ) → length (columnsOf ns) ≡ 7 * length ns
+pub length-columns : (ns : List ℕ) → length (columnsOf ns) ≡ 7 * length ns
 length-columns [] = refl
 length-columns (n ∷ ns) = rw (length-append (written 7 (pos n)) (columnsOf ns)) (omega (arith, length-written 7 (pos n), length-columns ns))
 
@@ -83,7 +83,7 @@ columns-drop (n ∷ ns) (suc k) z l = ap₂ (λ (a : ℕ) (b : List ℕ). drop a
     more : 7 * suc k ≡ 7 + 7 * k
     more = omega arith
 
-short-get : (ns : List ℕ) (k : ℕ) → Short ns → k < length ns → getD ns k 0 < 10000000
+pub short-get : (ns : List ℕ) (k : ℕ) → Short ns → k < length ns → getD ns k 0 < 10000000
 unfolding Short
 short-get [] k s l = absurd (omega arith)
 short-get (n ∷ ns) zero s l = s .0
@@ -105,7 +105,7 @@ unfolding numberIn
 number-at l ns t k s h = ap (λ (r : List ℕ). numberOf (columnOf r)) (column-at l ns t k h) ∙ ap numberOf (seven-column (getD ns k 0) (short-get ns k s h))
 
 -- all are in written form, and the rest is spaces
-spaces-replicate : (n : ℕ) → spaces (replicate n 32) ≡ true
+pub spaces-replicate : (n : ℕ) → spaces (replicate n 32) ≡ true
 spaces-replicate zero = refl
 spaces-replicate (suc n) = spaces-replicate n
 
@@ -115,19 +115,19 @@ all-written [] n s = spaces-replicate n
 all-written (m ∷ ns) n s = ap (λ (x : List ℕ). isWritten (take 7 x) && areWritten (length ns) (drop 7 x)) (append-assoc (written 7 (pos m)) (columnsOf ns) (replicate n 32)) ∙ true-and _ _ (ap isWritten (take-at (written 7 (pos m)) (columnsOf ns ++ replicate n 32) 7 (length-written 7 (pos m))) ∙ seven-written m (s .0)) (ap (areWritten (length ns)) (drop-at (written 7 (pos m)) (columnsOf ns ++ replicate n 32) 7 (length-written 7 (pos m))) ∙ all-written ns n (s .1))
 
 -- ---- widths
-length-record : (l ns : List ℕ) → Two l → length ns ≤ 11 → length (recordOf l ns) ≡ 84
+pub length-record : (l ns : List ℕ) → Two l → length ns ≤ 11 → length (recordOf l ns) ≡ 84
 length-record l ns t h = ap (λ (x : List ℕ). length (x ++ (columnsOf ns ++ replicate (82 - 7 * length ns) 32))) (t .are) ∙ ap (λ (k : ℕ). suc (suc k)) (length-append (columnsOf ns) (replicate (82 - 7 * length ns) 32) ∙ ap₂ (λ (a b : ℕ). a + b) (length-columns ns) (length-replicate {A = ℕ} (82 - 7 * length ns) 32)) ∙ (omega arith)
 
-length-listedAll : (e : Edition) (ls : List Layer) → length (listedAll e ls) ≡ perLayer e * length ls
+pub length-listedAll : (e : Edition) (ls : List Layer) → length (listedAll e ls) ≡ perLayer e * length ls
 length-listedAll e [] = omega arith
 length-listedAll e (l ∷ ls) = length-append (listed e l) (listedAll e ls) ∙ ap₂ (λ (a b : ℕ). a + b) (length-listed e l) (length-listedAll e ls) ∙ (omega arith)
 
-most : (n : ℕ) (ls : List Layer) → length (take n ls) ≤ n
+pub most : (n : ℕ) (ls : List Layer) → length (take n ls) ≤ n
 most zero ls = omega arith
 most (suc n) [] = omega arith
 most (suc n) (l ∷ ls) = omega (arith, most n ls)
 
-length-row : (e : Edition) (ls : List Layer) → length ls ≤ perRecord e → length (row e ls) ≡ 84
+pub length-row : (e : Edition) (ls : List Layer) → length ls ≤ perRecord e → length (row e ls) ≡ 84
 unfolding row
 length-row e ls h = length-record (letters e) (listedAll e ls) (two-letters e) (omega (arith, length-listedAll e ls, row-fits e (length ls) h))
 
@@ -135,7 +135,7 @@ pub length-closing : (e : Edition) (p c : ℕ) → length (closing e p c) ≡ 84
 unfolding closing
 length-closing e p c = length-record (endLetters e) (endListed e p c) (two-endLetters e) (omega (arith, length-endListed e p c, end-fits e))
 
-wide-rows : (e : Edition) (n : ℕ) (ls : List Layer) → Wide (map (row e) (shared (perRecord e) n ls))
+pub wide-rows : (e : Edition) (n : ℕ) (ls : List Layer) → Wide (map (row e) (shared (perRecord e) n ls))
 unfolding Wide
 wide-rows e zero ls = tt
 wide-rows e (suc n) ls = (length-row e (take (perRecord e) ls) (most (perRecord e) ls), wide-rows e n (drop (perRecord e) ls))
@@ -146,7 +146,7 @@ wide-directory e p ls = wide-append (map (row e) (shared (perRecord e) (roundUp 
 
 -- ---- the closing record
 module _ (p c : ℕ) (lp : p < 10000000) (lc : c < 10000000) where
-  short-end : (e : Edition) → Short (endListed e p c)
+  pub short-end : (e : Edition) → Short (endListed e p c)
   unfolding Short
   short-end One = (lp, (lc, tt))
 
@@ -197,7 +197,7 @@ unfoldable pub AllFit : List Layer → Type 0
 AllFit [] = Unit {0}
 AllFit (l ∷ ls) = Fits l × AllFit ls
 
-short-listed : (e : Edition) (l : Layer) → Fits l → Short (listed e l)
+pub short-listed : (e : Edition) (l : Layer) → Fits l → Short (listed e l)
 unfolding Short
 short-listed One l f = (omega arith, tt)
 
@@ -206,18 +206,18 @@ unfolding Short
 short-append [] b p q = q
 short-append (n ∷ a) b p q = (p .0, short-append a b (p .1) q)
 
-short-all : (e : Edition) (ls : List Layer) → AllFit ls → Short (listedAll e ls)
+pub short-all : (e : Edition) (ls : List Layer) → AllFit ls → Short (listedAll e ls)
 unfolding Short AllFit
 short-all e [] f = tt
 short-all e (l ∷ ls) f = short-append (listed e l) (listedAll e ls) (short-listed e l (f .0)) (short-all e ls (f .1))
 
-fit-take : (n : ℕ) (ls : List Layer) → AllFit ls → AllFit (take n ls)
+pub fit-take : (n : ℕ) (ls : List Layer) → AllFit ls → AllFit (take n ls)
 unfolding AllFit
 fit-take zero ls f = tt
 fit-take (suc n) [] f = tt
 fit-take (suc n) (l ∷ ls) f = (f .0, fit-take n ls (f .1))
 
-fit-drop : (n : ℕ) (ls : List Layer) → AllFit ls → AllFit (drop n ls)
+pub fit-drop : (n : ℕ) (ls : List Layer) → AllFit ls → AllFit (drop n ls)
 unfolding AllFit
 fit-drop zero ls f = f
 fit-drop (suc n) [] f = tt
@@ -245,11 +245,11 @@ unfolding row
 row-lists e g j i f l h = number-at (letters e) (listedAll e g) (two-letters e) (perLayer e * j + i) (short-all e g f) (inside-row e g j i l h) ∙ listed-at e g j i l h
 
 -- the record in which a layer stands
-length-shared : (k n : ℕ) (ls : List Layer) → length (shared k n ls) ≡ n
+pub length-shared : (k n : ℕ) (ls : List Layer) → length (shared k n ls) ≡ n
 length-shared k zero ls = refl
 length-shared k (suc n) ls = ap suc (length-shared k n (drop k ls))
 
-getD-shared : (k n : ℕ) (ls : List Layer) (q : ℕ) → q < n → getD (shared k n ls) q [] ≡ take k (drop (k * q) ls)
+pub getD-shared : (k n : ℕ) (ls : List Layer) (q : ℕ) → q < n → getD (shared k n ls) q [] ≡ take k (drop (k * q) ls)
 getD-shared k zero ls q l = absurd (omega arith)
 getD-shared k (suc n) ls zero l = ap (λ (m : ℕ). take k (drop m ls)) none₁
   where
@@ -260,12 +260,12 @@ getD-shared k (suc n) ls (suc q) l = getD-shared k n (drop k ls) q (omega arith)
     more : k + k * q ≡ k * suc q
     more = omega arith
 
-getD-rows : (e : Edition) (G : List (List Layer)) (q : ℕ) (Z : List (List ℕ)) → q < length G → getD (map (row e) G ++ Z) q [] ≡ row e (getD G q [])
+pub getD-rows : (e : Edition) (G : List (List Layer)) (q : ℕ) (Z : List (List ℕ)) → q < length G → getD (map (row e) G ++ Z) q [] ≡ row e (getD G q [])
 getD-rows e [] q Z l = absurd (omega arith)
 getD-rows e (g ∷ G) zero Z l = refl
 getD-rows e (g ∷ G) (suc q) Z l = getD-rows e G q Z (omega arith)
 
-in-take : (k : ℕ) (l : List Layer) (i : ℕ) → i < k → i < length l → i < length (take k l)
+pub in-take : (k : ℕ) (l : List Layer) (i : ℕ) → i < k → i < length l → i < length (take k l)
 in-take zero l i a b = absurd (omega arith)
 in-take (suc k) [] i a b = absurd (omega arith)
 in-take (suc k) (x ∷ l) zero a b = omega arith

@@ -3,12 +3,15 @@ use mathlib.Core.Path.{_≡_, refl, ap, sym, _∙_}
 use mathlib.Core.Bool.{Bool, true, false, not}
 use mathlib.Core.List.{List}
 use Prim.Native.Nat.{ℕ, _/_}
+use native.Mathlib.Omega.{arith}
 use borrow.Author.Tests.{not-true, not-false}
 use lib.ListN.{length, take}
 use Rattle.format.specs.Basics.{Answer, given, refused, chunks, stageOneOk}
+use Rattle.format.specs.Sheet.{partLength}
 use Rattle.format.specs.Judge.{Counts, judgeSheet, afterStageOne, AcceptedSheet}
 use Rattle.format.proofs.JudgeStages.{stage-one}
 use Rattle.format.proofs.AcceptedSheet.{elements-are}
+use Rattle.format.proofs.ChecksJudging.{sheet-numbered}
 use Rattle.files.specs.declared.Stride.the-variants.{Plain}
 use Rattle.files.specs.Records.{recordsOf, lengthOk}
 use Rattle.files.proofs.Records.{front-records}
@@ -23,6 +26,15 @@ use Rattle.judge.specs.Sheet.{openedIn}
 use Rattle.judge.specs.Listed.{firstUnlisted, refusedListed, listedSheet, listedIn}
 use Rattle.judge.proofs.FileLaws.{sheet-opened}
 use Rattle.judge.proofs.Opened.{Opened, opened-sheet, sheet-refused-is}
+
+-- what fault 0 says of a sheet `r` that was opened against a directory: that it is accepted, and what its numbers are
+pub record OpenedListed (e : Edition) (used : ℕ) (buffer : List ℕ) (directory : List (List ℕ)) (r : ListedSheet) : Type 0 where
+  pub counts : Counts
+  pub judged : judgeSheet used buffer ≡ given counts
+  pub items-are : r .items ≡ counts .items
+  pub part-is : r .part ≡ partLength (chunks (used / 84) buffer)
+  pub layers-are : r .layers ≡ length (layersOf (chunks (used / 84) buffer))
+  pub unlisted-is : r .unlisted ≡ firstUnlisted e directory 0 (layersOf (chunks (used / 84) buffer))
 
 module _ (used : ℕ) (buffer : List ℕ) (directory : List (List ℕ)) (e : Edition) where
   by : (answer : Answer Counts) → judgeSheet used buffer ≡ answer → listedIn e used buffer directory ≡ listedSheet e answer (chunks (used / 84) buffer) directory
@@ -74,3 +86,19 @@ module _ (used : ℕ) (buffer : List ℕ) (directory : List (List ℕ)) (e : Edi
         go : (answer : Answer Counts) → judgeSheet used buffer ≡ answer → judgeSheet used buffer ≡ refused (r .fault) (r .at)
         go (given counts) q = absurd (ne (ap (λ (x : ListedSheet). x .fault) (is ∙ by (given counts) q)))
         go (refused number at) q = q ∙ rw (is ∙ by (refused number at) q)
+
+    pub opened-listed : r .fault ≡ 0 → OpenedListed e used buffer directory r
+    opened-listed z = go (judgeSheet used buffer) refl
+      where
+        go : (answer : Answer Counts) → judgeSheet used buffer ≡ answer → OpenedListed e used buffer directory r
+        go (given counts) q =
+            let fields : r ≡ listedSheet e (given counts) (chunks (used / 84) buffer) directory = is ∙ by (given counts) q in
+            record {
+              counts = counts;
+              judged = q;
+              items-are = ap (λ (x : ListedSheet). x .items) fields;
+              part-is = ap (λ (x : ListedSheet). x .part) fields;
+              layers-are = ap (λ (x : ListedSheet). x .layers) fields;
+              unlisted-is = ap (λ (x : ListedSheet). x .unlisted) fields;
+            }
+        go (refused number at) q = absurd (omega (arith, z, ap (λ (x : ListedSheet). x .fault) (is ∙ by (refused number at) q), sheet-numbered used buffer number at q))

@@ -15,21 +15,7 @@ use Rattle.files.specs.declared.Stride.the-variants.{Plain, Lines}
 use Rattle.files.specs.Records.{strideOf, recordsOf}
 use Rattle.files.specs.Buffers.{putAt}
 use Rattle.files.proofs.Records.{wide-records, length-records, stride-plain, stride-lines, record-read}
-use Rattle.files.proofs.Buffers.{put-there}
-
--- ---- some bytes stand in front in a target, and behind them what stood there; more are put behind them
-module _ (front part target target₀ : List ℕ) (at : ℕ) (so-far : target ≡ front ++ drop at target₀) (long : length front ≡ at) (room : at + length part ≤ length target₀) where
-  same-length : length target ≡ length target₀
-  same-length = ap length so-far ∙ length-append front (drop at target₀) ∙ rw (length-drop at target₀) (omega arith)
-
-  put-behind : putAt target at part ≡ (front ++ part) ++ drop (at + length part) target₀
-  put-behind =
-      put-there target at part (omega (arith, same-length))
-      ∙ ap₂ (λ (x y : List ℕ). x ++ (part ++ y)) (ap (take at) so-far ∙ take-at front (drop at target₀) at long) rest
-      ∙ sym (append-assoc front part (drop (at + length part) target₀))
-    where
-      rest : drop (at + length part) target ≡ drop (at + length part) target₀
-      rest = sym (drop-drop (length part) at target) ∙ ap (drop (length part)) (ap (drop at) so-far ∙ drop-at front (drop at target₀) at long) ∙ drop-drop (length part) at target₀
+use Rattle.files.proofs.Buffers.{put-there, put-behind}
 
 -- ---- `put_line`: a record put in, and two bytes stored behind it
 module _ (target r put : List ℕ) (start : ℕ) (wide : length r ≡ 84) (room : start + 86 ≤ length target) (is : put ≡ putAt target start r) where

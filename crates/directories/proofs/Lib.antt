@@ -1,0 +1,6 @@
+mod OneRecord
+mod Rows
+mod Different
+mod Written
+mod Judged
+mod Appended

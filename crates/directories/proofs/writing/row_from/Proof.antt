@@ -1,0 +1,71 @@
+-- `row_from` writes layer after layer. The loop's invariant is `Filling`, its measure the columns left. Assumes nothing.
+use Prim.Native.Nat.{_-_, _≤_}
+use borrow.Author.Needs.{needs}
+use Rattle.directories.proofs.Written.{Filling, filling, column-small, header-small, layer-added, last-row, full-row}
+use Rattle.directories.proofs.writing.row_from.Statement.{statement}
+use Rattle.directories.proofs.writing.row_from.Tie as tie
+
+abbrev Inv-loop : tie.InvT-loop
+Inv-loop file k each count bytes₀ at₀ i₀ bytes at i = (count ≤ 200000) × Filling file k each bytes₀ bytes at i
+
+abbrev μ-loop : tie.MeasureT-loop
+μ-loop file k each count bytes₀ at₀ i₀ bytes at i = each - i
+
+per-record-requires : tie.Need-per-record-requires Inv-loop μ-loop
+per-record-requires c κs = search needs
+
+count-requires : tie.Need-count-requires Inv-loop μ-loop
+count-requires c κs = search needs
+
+blank-row-requires : tie.Need-blank-row-requires Inv-loop μ-loop
+blank-row-requires c κs = search needs
+
+loop-holds : tie.Need-loop-holds Inv-loop μ-loop
+loop-holds c = (search needs, search filling)
+
+next-layer-requires : tie.Need-next-layer-requires Inv-loop μ-loop
+next-layer-requires c κs = search needs
+
+returns : tie.Need-returns Inv-loop μ-loop
+returns c = search last-row
+
+add-with-number : tie.Need-add-with-number Inv-loop μ-loop
+add-with-number c = search needs
+
+with-number-requires : tie.Need-with-number-requires Inv-loop μ-loop
+with-number-requires c κs = (search column-small, search header-small)
+
+add-at : tie.Need-add-at Inv-loop μ-loop
+add-at c = search needs
+
+add-i : tie.Need-add-i Inv-loop μ-loop
+add-i c = search needs
+
+loop-less : tie.Need-loop-less Inv-loop μ-loop
+loop-less c = search needs
+
+loop-again : tie.Need-loop-again Inv-loop μ-loop
+loop-again c = (search needs, search layer-added)
+
+returns-2 : tie.Need-returns-2 Inv-loop μ-loop
+returns-2 c = search full-row
+
+pub row-from-spec : {M : Type 1} → statement M
+row-from-spec =
+    tie.close
+    (tie.spec
+    Inv-loop
+    μ-loop
+    per-record-requires
+    count-requires
+    blank-row-requires
+    loop-holds
+    next-layer-requires
+    returns
+    add-with-number
+    with-number-requires
+    add-at
+    add-i
+    loop-less
+    loop-again
+    returns-2)
