@@ -28,14 +28,14 @@ use Rattle.files.proofs.Buffers.{put-behind}
 use Rattle.files.proofs.Records.{front-records, length-records}
 use Rattle.format_directory.specs.declared.Edition.{Edition}
 use Rattle.format_directory.specs.Directory.{Layer, layersFrom, layersOf, perRecord, row, closing, shared, directoryOf, appendTo, appendDirectory}
-use Rattle.format_directory.proofs.DirectoryRecords.{most, length-row, length-closing, length-shared, wide-rows}
+use Rattle.format_directory.proofs.DirectoryRecords.{most, length-row, length-closing, length-shared, length-directory, wide-rows}
 use Rattle.format_directory.proofs.DirectoryJudged.{Accepted, accepted-of, few-layers}
 use Rattle.judge.specs.declared.ListedSheet.{ListedSheet}
 use Rattle.judge.specs.Listed.{listedIn}
 use Rattle.judge.proofs.ListedLaws.{OpenedListed, listed-refusal, opened-listed}
 use Rattle.directories.specs.declared.writing.Row.{Row}
 use Rattle.directories.specs.Steps.{viewsIn, layersIn, RowFrom, rowsPut, directoryPut}
-use Rattle.directories.proofs.Different.{length-directory, rows-few}
+use Rattle.directories.proofs.Different.{rows-few}
 
 -- all 84 bytes of a record, as the code lends them
 whole-part : (b : List ℕ) → length b ≡ 84 → take (84 - 0) (drop 0 b) ≡ b

@@ -19,7 +19,7 @@ use Rattle.format.proofs.Lists.{Wide, wide-get}
 use Rattle.format_directory.specs.declared.Edition.{Edition}
 use Rattle.format_directory.specs.declared.Edition.the-variants.{One}
 use Rattle.format_directory.specs.Directory.{Layer, noLayer, letters, endLetters, endListed, endColumns, listed, listedAll, perLayer, perRecord, recordOf, row, closing, shared, directoryOf, differs}
-use Rattle.format_directory.proofs.DirectoryRecords.{AllFit, Short, short-all, short-end, fit-take, fit-drop, two-letters, two-endLetters, length-listedAll, length-endListed, length-shared, getD-shared, getD-rows, most, in-take, row-fits, end-fits, wide-directory}
+use Rattle.format_directory.proofs.DirectoryRecords.{AllFit, Short, short-all, short-end, fit-take, fit-drop, two-letters, two-endLetters, length-listedAll, length-endListed, length-shared, getD-shared, getD-rows, most, in-take, row-fits, end-fits, wide-directory, length-directory, row-at, closing-at}
 use Rattle.directory_columns.specs.Numbers.{numberIs, listsHeader}
 use Rattle.judge.specs.Listed.{firstUnlisted}
 use Rattle.directories.specs.Steps.{framed, numbersAre, closingIs, rightRows, inRow, behindRows, differenceAt, Against, FirstDifferent}
@@ -191,23 +191,6 @@ module _ (D R : List (List ℕ)) (wide : Wide R) (p i : ℕ) (inside : i < lengt
       go : (t : Bool) → ltb i (length D) ≡ t → differs (p + i) (drop i D) (drop i R) ≡ differs (p + suc i) (drop (suc i) D) (drop (suc i) R)
       go true l = ap₂ (differs (p + i)) (drop-cons D i [] (ltb-true i (length D) l)) next-right ∙ ap (λ (t : Bool). orElse (toFault (unless t 19) (p + i)) (differs (suc (p + i)) (drop (suc i) D) (drop (suc i) R))) e ∙ ap (λ (n : ℕ). differs n (drop (suc i) D) (drop (suc i) R)) more
       go false l = absurd (omega (arith, wide-get i R wide inside, ap length (sym is ∙ List·getD-eq-default D [] (ltb-false i (length D) l))))
-
--- ---- the right directory: so many rows, and the closing record
-directory-is : (e : Edition) (p : ℕ) (ls : List Layer) → directoryOf e p ls ≡ map (row e) (shared (perRecord e) (roundUp (length ls) (perRecord e)) ls) ++ (closing e p (length ls) ∷ [])
-unfolding directoryOf
-directory-is e p ls = refl
-
-rows-length : (e : Edition) (n : ℕ) (ls : List Layer) → length (map (row e) (shared (perRecord e) n ls)) ≡ n
-rows-length e n ls = length-map (shared (perRecord e) n ls) (row e) ∙ length-shared (perRecord e) n ls
-
-pub length-directory : (e : Edition) (p : ℕ) (ls : List Layer) → length (directoryOf e p ls) ≡ roundUp (length ls) (perRecord e) + 1
-length-directory e p ls = ap length (directory-is e p ls) ∙ length-append (map (row e) (shared (perRecord e) (roundUp (length ls) (perRecord e)) ls)) (closing e p (length ls) ∷ []) ∙ ap (λ (n : ℕ). n + 1) (rows-length e (roundUp (length ls) (perRecord e)) ls)
-
-row-at : (e : Edition) (p : ℕ) (ls : List Layer) (i : ℕ) → i < roundUp (length ls) (perRecord e) → getD (directoryOf e p ls) i [] ≡ row e (take (perRecord e) (drop (perRecord e * i) ls))
-row-at e p ls i h = ap (λ (x : List (List ℕ)). getD x i []) (directory-is e p ls) ∙ getD-rows e (shared (perRecord e) (roundUp (length ls) (perRecord e)) ls) i (closing e p (length ls) ∷ []) (omega (arith, length-shared (perRecord e) (roundUp (length ls) (perRecord e)) ls)) ∙ ap (row e) (getD-shared (perRecord e) (roundUp (length ls) (perRecord e)) ls i h)
-
-closing-at : (e : Edition) (p : ℕ) (ls : List Layer) (rows : ℕ) → rows ≡ roundUp (length ls) (perRecord e) → drop rows (directoryOf e p ls) ≡ closing e p (length ls) ∷ []
-closing-at e p ls rows q = ap (drop rows) (directory-is e p ls) ∙ drop-at (map (row e) (shared (perRecord e) (roundUp (length ls) (perRecord e)) ls)) (closing e p (length ls) ∷ []) rows (rows-length e (roundUp (length ls) (perRecord e)) ls ∙ sym q)
 
 -- ---- the loop of `first_different`: i records agree
 pub record Comparing (D : List (List ℕ)) (e : Edition) (p layers unlisted rows right i : ℕ) : Type 0 where

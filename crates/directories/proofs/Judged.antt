@@ -22,20 +22,21 @@ use Rattle.format.proofs.AcceptedSheet.{counted-are}
 use Rattle.format.proofs.Lists.{length-chunks}
 use Rattle.files.specs.declared.Stride.the-variants.{Plain}
 use Rattle.files.specs.Records.{recordsOf}
-use Rattle.files.proofs.Records.{front-records, chunks-spaced, getD-spaced, record-wide, length-records}
+use Rattle.files.proofs.Records.{front-records, record-wide}
 use Rattle.format_directory.specs.declared.Edition.{Edition}
 use Rattle.format_directory.specs.declared.Edition.the-variants.{One}
 use Rattle.format_directory.specs.declared.Jumped.{Jumped}
 use Rattle.format_directory.specs.declared.Jumped.the-variants as Jumped
 use Rattle.format_directory.specs.Answers.{jumpedAnswer}
-use Rattle.format_directory.specs.Directory.{Layer, layersOf, endLetters, endColumns, areWritten, perLayer, perRecord, directoryOf, usedOk, lastRecord, numberIn, pointerIn, layerCount, closingOk, recordsBefore, recordsFrom, differs, afterSheet, judgeFrom, afterClosing, judgeEdition, judgeDirectory, inCount, afterJudging, listedIn, directoryIn, jump, sheetIn, RightDirectory}
+use Rattle.format_directory.specs.Directory.{Layer, layersOf, endLetters, endColumns, areWritten, perLayer, perRecord, directoryOf, usedOk, lastRecord, numberIn, pointerIn, layerCount, closingOk, recordsBefore, recordsFrom, differs, afterSheet, judgeFrom, afterClosing, judgeEdition, judgeDirectory, inCount, afterJudging, listedIn, directoryIn, jump, sheetIn}
+use Rattle.format_directory.proofs.DirectoryRecords.{length-directory}
 use Rattle.format_directory.proofs.DirectoryLayers.{sheet-fit}
-use Rattle.format_directory.proofs.DirectoryJudged.{Accepted, accepted-of, few-layers, accepted-right, accepted-exactly, right-count}
+use Rattle.format_directory.proofs.DirectoryWords.{chunk-at}
+use Rattle.format_directory.proofs.DirectoryJudged.{RightDirectory, Accepted, accepted-of, few-layers, accepted-right, accepted-exactly, right-count}
 use Rattle.judge.specs.declared.ListedSheet.{ListedSheet}
 use Rattle.judge.specs.Listed.{firstUnlisted}
 use Rattle.judge.specs.Listed as judge
 use Rattle.judge.proofs.ListedLaws.{OpenedListed, listed-refusal, opened-listed}
-use Rattle.directories.proofs.Different.{length-directory}
 use Rattle.directories.specs.declared.Found.{Found}
 use Rattle.directories.specs.Steps.{refusedFound, foundAnswer, FoundFrom, FoundIn, differenceAt, Against, FirstDifferent}
 
@@ -66,10 +67,6 @@ used-says used buffer e =
     let b = and-true (ltb 0 used) (leb used (length buffer)) (a .0) in
     let z : used % 84 ≡ 0 = eqb-true (used % 84) 0 (a .1) in
     record { some = omega (arith, ltb-true 0 used (b .0)); inside = leb-true used (length buffer) (b .1); even = z }
-
--- ---- record k of a buffer
-chunk-at : (n : ℕ) (b : List ℕ) (k : ℕ) → k < n → getD (chunks n b) k [] ≡ take 84 (drop (84 * k) b)
-chunk-at n b k h = ap (λ (x : List (List ℕ)). getD x k []) (sym (chunks-spaced n b)) ∙ getD-spaced 84 n b k h
 
 -- the records behind the first k
 chunks-behind : (k n : ℕ) (b : List ℕ) → k ≤ n → chunks (n - k) (drop (84 * k) b) ≡ drop k (chunks n b)
@@ -210,7 +207,7 @@ module _ (e : Edition) (used : ℕ) (buffer : List ℕ) (t : Bool) (of : t ≡ u
     unfolding lastRecord
     last-is =
         ap₂ (λ (n m : ℕ). take n (drop m buffer)) (let x : used - (used - 84) ≡ 84 = omega (arith, u .some) in x) (let x : used - 84 ≡ 84 * pred (used / 84) = omega (arith, u .some, u .even) in x)
-        ∙ sym (chunk-at (used / 84) buffer (pred (used / 84)) (omega (arith, u .some)))
+        ∙ sym (chunk-at (used / 84) (pred (used / 84)) buffer (omega (arith, u .some)))
 
     pub find-wide : length (take (used - (used - 84)) (drop (used - 84) buffer)) ≡ 84
     find-wide = length-take-le (used - (used - 84)) (drop (used - 84) buffer) (rw (length-drop (used - 84) buffer) (omega (arith, u .inside, u .some))) ∙ (let x : used - (used - 84) ≡ 84 = omega (arith, u .some) in x)

@@ -1,7 +1,7 @@
 -- A record of a directory is the right one exactly when it has its letters, its numbers and its spaces. Assumes nothing.
 use mathlib.Core.Path.{_≡_, refl, ap, ap₂, sym, _∙_}
 use mathlib.Core.Bool.{Bool, true, false, _&&_, false≢true}
-use mathlib.Core.List.{List, [], _∷_, _++_, append-assoc}
+use mathlib.Core.List.{List, [], _∷_, _++_}
 use Prim.Native.Nat.{ℕ, zero, suc, _+_, _-_, _*_, _^_, _≤_, _<_}
 use native.Mathlib.Nat.{zero-add}
 use native.Mathlib.Omega.{arith}
@@ -20,6 +20,8 @@ use Rattle.format.proofs.ColumnFits.{fits-plus}
 use Rattle.columns.specs.InRecord.{isWrittenAt}
 use Rattle.format_directory.specs.Directory.{columnsOf, recordOf}
 use Rattle.format_directory.proofs.DirectoryRecords.{Two, Short, column-at, short-get, spaces-replicate, length-record, length-columns, same-self}
+use Rattle.format_directory.proofs.DirectoryColumns.{columns-from, spaces-from}
+use Rattle.format_directory.proofs.DirectoryChecks.{spaces-each}
 use Rattle.directory_columns.specs.Numbers.{numberIs}
 use Rattle.directories.specs.Steps.{framed, numbersAre}
 
@@ -30,8 +32,7 @@ both false true f g = absurd (false≢true (g refl))
 both false false f g = refl
 
 spaces-are : (l : List ℕ) → spaces l ≡ true → l ≡ replicate (length l) 32
-spaces-are [] e = refl
-spaces-are (b ∷ l) e = let p = and-true (eqb b 32) (spaces l) e in ap₂ (λ (x : ℕ) (y : List ℕ). x ∷ y) (eqb-true b 32 (p .0)) (spaces-are l (p .1))
+spaces-are l e = spaces-from l (spaces-each l e)
 
 -- ---- the numbers of a record
 number-bytes : (r : List ℕ) (k n : ℕ) → numberIs r k n ≡ true → take 7 (drop (2 + 7 * k) r) ≡ written 7 (pos n)
@@ -41,13 +42,13 @@ number-bytes r k n e =
     let b = and-true (widthOk 7 && fits 7 (pos n) && leb (2 + 7 * k + 7) (length r)) (same (take 7 (drop (2 + 7 * k) r)) (written 7 (pos n))) (a .1) in
     same-decides (take 7 (drop (2 + 7 * k) r)) (written 7 (pos n)) .yes (b .1)
 
+numbers-get : (r : List ℕ) (k : ℕ) (ns : List ℕ) → numbersAre r k ns ≡ true → (j : ℕ) → j < length ns → numberIs r (k + j) (getD ns j 0) ≡ true
+numbers-get r k [] e j h = absurd (omega arith)
+numbers-get r k (n ∷ ns) e zero h = ap (λ (m : ℕ). numberIs r m n) (let q : k + 0 ≡ k = omega arith in q) ∙ and-true (numberIs r k n) (numbersAre r (suc k) ns) e .0
+numbers-get r k (n ∷ ns) e (suc j) h = ap (λ (m : ℕ). numberIs r m (getD ns j 0)) (let q : k + suc j ≡ suc k + j = omega arith in q) ∙ numbers-get r (suc k) ns (and-true (numberIs r k n) (numbersAre r (suc k) ns) e .1) j (omega arith)
+
 columns-rest : (r : List ℕ) (k : ℕ) (ns : List ℕ) → numbersAre r k ns ≡ true → drop (2 + 7 * k) r ≡ columnsOf ns ++ drop (2 + 7 * (k + length ns)) r
-columns-rest r k [] e = ap (λ (m : ℕ). drop m r) (let q : 2 + 7 * k ≡ 2 + 7 * (k + 0) = omega arith in q)
-columns-rest r k (n ∷ ns) e =
-    let p = and-true (numberIs r k n) (numbersAre r (suc k) ns) e in
-    sym (take-append-drop 7 (drop (2 + 7 * k) r))
-    ∙ ap₂ (λ (x y : List ℕ). x ++ y) (number-bytes r k n (p .0)) (drop-drop 7 (2 + 7 * k) r ∙ ap (λ (m : ℕ). drop m r) (let q : 2 + 7 * k + 7 ≡ 2 + 7 * suc k = omega arith in q) ∙ columns-rest r (suc k) ns (p .1) ∙ ap (λ (m : ℕ). columnsOf ns ++ drop m r) (let q : 2 + 7 * (suc k + length ns) ≡ 2 + 7 * (k + suc (length ns)) = omega arith in q))
-    ∙ sym (append-assoc (written 7 (pos n)) (columnsOf ns) (drop (2 + 7 * (k + suc (length ns))) r))
+columns-rest r k ns e = columns-from r k ns (λ j h. number-bytes r (k + j) (getD ns j 0) (numbers-get r k ns e j h))
 
 pub numbers-each : (r : List ℕ) (k : ℕ) (ns : List ℕ) → ((j : ℕ) → j < length ns → numberIs r (k + j) (getD ns j 0) ≡ true) → numbersAre r k ns ≡ true
 numbers-each r k [] h = refl

@@ -39,7 +39,6 @@ use Rattle.format_directory.specs.Directory.{Layer, layerBody, layersFrom, lett
 use Rattle.format_directory.proofs.DirectoryRecords.{Two, two-letters, two-endLetters, length-columns, length-listedAll, wide-rows, length-closing}
 use Rattle.directories.specs.declared.writing.Row.{Row}
 use Rattle.directories.specs.Steps.{viewsIn, layersIn, isLayer, behindEntry, NextLayer, RowFrom, rowsPut, directoryPut}
-use Rattle.directories.proofs.Different.{length-directory}
 
 -- ---- data records are passed over
 skip : (due i : ℕ) (rs : List View) → layersFrom due i rs ≡ layersFrom 0 (i + due) (drop due rs)

@@ -12,7 +12,7 @@ use Rattle.format.specs.Basics.{Answer, given, refused, Outcome, Fault, none, f
 use Rattle.format.specs.Judge.{Counts, afterStageOne, judgeRecords, judgeSheet}
 use Rattle.format_directory.specs.declared.Edition.{Edition}
 use Rattle.format_directory.specs.declared.Edition.the-variants.{One}
-use Rattle.format_directory.specs.Directory.{Layer, layersOf, endLetters, listed, perLayer, perRecord, endColumns, row, closing, shared, directoryOf, usedOk, lastRecord, pointerIn, layerCount, areWritten, closingOk, differs, afterSheet, judgeFrom, afterClosing, judgeEdition, judgeDirectory, appendTo, appendDirectory, inCount, afterJudging, listedIn, sheetIn, directoryIn, jump, layerOf, countedHeader, RightDirectory}
+use Rattle.format_directory.specs.Directory.{Layer, layersOf, endLetters, listed, perLayer, perRecord, endColumns, row, closing, shared, directoryOf, usedOk, lastRecord, pointerIn, layerCount, areWritten, closingOk, differs, afterSheet, judgeFrom, afterClosing, judgeEdition, judgeDirectory, appendTo, appendDirectory, inCount, afterJudging, listedIn, sheetIn, directoryIn, jump, layerOf, countedHeader}
 use Rattle.format.specs.Text.{same}
 use Rattle.format.proofs.Basics.{and-true, true-and}
 use Rattle.format.proofs.Lists.{Wide, wide-append, chunks-flat, length-flat, length-chunks, flat-append}
@@ -20,7 +20,16 @@ use Rattle.format.proofs.JudgeStages.{Whole, stage-given}
 use Rattle.format.proofs.AcceptedSheet.{whole-records}
 use Rattle.format.proofs.JudgeRecords.{taken, sheet-own, sheet-by, wide-84, some-84, few-84}
 use Rattle.format_directory.proofs.DirectoryRecords.{wide-directory, pointer-closing, count-closing, ok-closing, differs-self, differs-none, directory-lists}
+use Rattle.format_directory.proofs.DirectoryRecords as DirectoryRecords
 use Rattle.format_directory.proofs.DirectoryLayers.{sheet-layers, sheet-fit}
+
+-- ---- a sheet with its directory: whole records, the pointer among them, before it an accepted sheet, from it on the right directory of that sheet's layers
+pub record RightDirectory (e : Edition) (used : ℕ) (buffer : List ℕ) (counts : Counts) : Type 0 where
+  pub whole : usedOk used buffer ≡ true
+  pub low : 1 ≤ pointerIn (lastRecord used buffer)
+  pub high : pointerIn (lastRecord used buffer) ≤ used / 84
+  pub sheet : judgeSheet (84 * pred (pointerIn (lastRecord used buffer))) buffer ≡ given counts
+  pub directory : directoryIn used buffer ≡ directoryOf e (pointerIn (lastRecord used buffer)) (layersOf (sheetIn used buffer))
 
 -- ---- the k records R of an accepted sheet
 pub record Accepted (R : List (List ℕ)) (k : ℕ) (c : Counts) : Type 0 where
@@ -68,12 +77,17 @@ module _ (e : Edition) (R : List (List ℕ)) (k : ℕ) (z : List ℕ) (c : Count
   unfolding m
   some-more = omega (arith, length-D)
 
-  records-are : chunks (84 * m / 84) B ≡ R ++ directoryOf e (suc k) (layersOf R)
+  pub records-are : chunks (84 * m / 84) B ≡ R ++ directoryOf e (suc k) (layersOf R)
   unfolding B
   records-are = ap (λ (j : ℕ). chunks j (flat (R ++ directoryOf e (suc k) (layersOf R)) ++ z)) is ∙ chunks-flat (R ++ directoryOf e (suc k) (layersOf R)) z all-wide
     where
       is : 84 * m / 84 ≡ length (R ++ directoryOf e (suc k) (layersOf R))
       is = omega (arith, all-count)
+
+  -- where nothing stands behind it, the buffer is the file
+  pub length-B : z ≡ [] → length B ≡ 84 * m
+  unfolding B
+  length-B q = length-append (flat (R ++ directoryOf e (suc k) (layersOf R))) z ∙ ap₂ (λ (x y : ℕ). x + y) (length-flat (R ++ directoryOf e (suc k) (layersOf R)) all-wide ∙ ap (λ (n : ℕ). 84 * n) all-count) (ap length q) ∙ (omega arith)
 
   pub last-is : lastRecord (84 * m) B ≡ closing e (suc k) (length (layersOf R))
   unfolding lastRecord
@@ -133,12 +147,8 @@ accepted-right e used b c w h = record { whole = w; low = leb-true _ _ (y .1); h
     y : (same (take 2 (lastRecord used b)) (endLetters e) && areWritten (endColumns e) (drop 2 (lastRecord used b)) ≡ true) × (leb 1 (pointerIn (lastRecord used b)) ≡ true)
     y = and-true _ _ (x .0)
 
-directory-split : (e : Edition) (p : ℕ) (ls : List Layer) → directoryOf e p ls ≡ map (row e) (shared (perRecord e) (roundUp (length ls) (perRecord e)) ls) ++ (closing e p (length ls) ∷ [])
-unfolding directoryOf
-directory-split e p ls = refl
-
 -- the last of some records, found behind the first q
-last-behind : (C X : List (List ℕ)) (y : List ℕ) (q M : ℕ) → length C ≡ M → q < M → drop q C ≡ X ++ (y ∷ []) → getD C (pred M) [] ≡ y
+pub last-behind : (C X : List (List ℕ)) (y : List ℕ) (q M : ℕ) → length C ≡ M → q < M → drop q C ≡ X ++ (y ∷ []) → getD C (pred M) [] ≡ y
 last-behind C X y q M n l e = ap (λ (j : ℕ). getD C j []) place ∙ sym (getD-drop q C (length X) []) ∙ ap (λ (Z : List (List ℕ)). getD Z (length X) []) e ∙ getD-at X y [] [] (length X) refl
   where
     place : pred M ≡ q + length X
@@ -167,7 +177,7 @@ module _ (e : Edition) (used : ℕ) (b : List ℕ) (c : Counts) (r : RightDirect
   layers-few = omega (arith, right-sheet .few, few-layers (sheetIn used b) (pred (pointerIn (lastRecord used b))) c right-sheet)
 
   pub right-last : lastRecord used b ≡ closing e (pointerIn (lastRecord used b)) (length (layersOf (sheetIn used b)))
-  right-last = go (pointerIn (lastRecord used b)) (r .low) (r .high) (sym (directory-is used b) ∙ r .directory ∙ directory-split e (pointerIn (lastRecord used b)) (layersOf (sheetIn used b)))
+  right-last = go (pointerIn (lastRecord used b)) (r .low) (r .high) (sym (directory-is used b) ∙ r .directory ∙ DirectoryRecords.directory-is e (pointerIn (lastRecord used b)) (layersOf (sheetIn used b)))
     where
       go : (p : ℕ) → 1 ≤ p → p ≤ used / 84 → drop (pred p) (chunks (used / 84) b) ≡ map (row e) (shared (perRecord e) (roundUp (length (layersOf (sheetIn used b))) (perRecord e)) (layersOf (sheetIn used b))) ++ (closing e p (length (layersOf (sheetIn used b))) ∷ []) → lastRecord used b ≡ closing e p (length (layersOf (sheetIn used b)))
       go p l u d = last-is-get used b ∙ last-behind (chunks (used / 84) b) (map (row e) (shared (perRecord e) (roundUp (length (layersOf (sheetIn used b))) (perRecord e)) (layersOf (sheetIn used b)))) (closing e p (length (layersOf (sheetIn used b)))) (pred p) (used / 84) (length-chunks (used / 84) b) (omega arith) d
@@ -248,7 +258,7 @@ module _ (e : Edition) (used : ℕ) (b : List ℕ) (u : ℕ) (h : (appendDirecto
   unfolding our-counts
   our-judged = o .judged
 
--- ---- THE CLAIMS of order 5
+-- ---- of the first edition
 -- "ours passes", with the sheet's own records and items
 pub ours-passes : (used : ℕ) (b : List ℕ) (u : ℕ) → (appendDirectory One used b) .answer ≡ given u → judgeDirectory u ((appendDirectory One used b) .bytes) ≡ judgeSheet used b
 unfolding judgeDirectory

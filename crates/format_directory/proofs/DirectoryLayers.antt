@@ -13,7 +13,8 @@ use Rattle.format.specs.Record.{View, view}
 use Rattle.format.specs.Sheet.{partLength, sheetFault}
 use Rattle.format.specs.Judge.{dueAfter, isHeaderAt, fileOf, Counts, afterPart, judge, judgeRecords}
 use Rattle.format.specs.Edit.{dueBehind}
-use Rattle.format_directory.specs.Directory.{Layer, layerBody, layersFrom, layersOf, headers, Rising, LayerHeader}
+use Rattle.format_directory.specs.Directory.{Layer, layerBody, layersFrom, layersOf}
+use Rattle.format_directory.specs.DirectoryChecks.{Rising, LayerHeader}
 use Rattle.format.proofs.SheetCounts.{theLaws}
 use Rattle.format_directory.proofs.DirectoryRecords.{AllFit}
 
@@ -66,8 +67,13 @@ module _ (R : List (List ℕ)) (c : Counts) (judged : judgeRecords R ≡ given c
   unfolding layersOf
   sheet-fit = layers-fit 0 (suc (partLength R)) (map view (drop (partLength R) R)) (omega (arith, body-few, few))
 
+-- ---- the numbers of some layers' headers
+abbrev pub headers : List Layer → List ℕ
+headers [] = []
+headers (l ∷ ls) = l .header ∷ headers ls
+
 -- ---- once and in order
-later : (a b : ℕ) (ns : List ℕ) → b ≤ a → Rising a ns → Rising b ns
+pub later : (a b : ℕ) (ns : List ℕ) → b ≤ a → Rising a ns → Rising b ns
 later a b [] l h = tt
 later a b (n ∷ ns) l h = (omega (arith, h .0), h .1)
 
@@ -94,11 +100,11 @@ record Found (n i : ℕ) (rs : List View) (m : ℕ) : Type 0 where
   level : isHeaderAt 1 header ≡ true
   numbered : m ≡ i + length before
 
-or-true : (a b : Bool) → a || b ≡ true → (a ≡ true) ⊎ (b ≡ true)
+pub or-true : (a b : Bool) → a || b ≡ true → (a ≡ true) ⊎ (b ≡ true)
 or-true true b e = inl refl
 or-true false b e = inr e
 
-true-or : (a b : Bool) → b ≡ true → a || b ≡ true
+pub true-or : (a b : Bool) → b ≡ true → a || b ≡ true
 true-or true b e = refl
 true-or false b e = e
 

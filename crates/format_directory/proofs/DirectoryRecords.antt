@@ -6,7 +6,7 @@ use Prim.Native.Nat.{ℕ, zero, suc, pred, _+_, _-_, _*_, _/_, _%_, _≤_, _<_}
 use native.Mathlib.Omega.{arith}
 use lib.Dec.{leb}
 use lib.IntN.{ℤ, pos}
-use lib.ListN.{length, length-append, length-drop, take, drop, getD, replicate, length-replicate, List·getD-append}
+use lib.ListN.{length, length-append, length-drop, length-map, take, drop, getD, replicate, length-replicate, List·getD-append}
 use lib.Seq.{drop-drop, take-at, drop-at, getD-drop, getD-take, getD-append-add}
 use borrow.Author.Tests.{le-leb}
 use Rattle.format.specs.declared.Column.the-variants.{Value}
@@ -286,3 +286,20 @@ module _ (e : Edition) (ls : List Layer) (p j a q i : ℕ) (f : AllFit ls) (h : 
 -- WHAT THE RIGHT DIRECTORY LISTS of layer n, from 1
 pub directory-lists : (e : Edition) (ls : List Layer) (p n i : ℕ) → AllFit ls → 1 ≤ n → n ≤ length ls → i < perLayer e → listedIn e (directoryOf e p ls) n i ≡ getD (listed e (getD ls (pred n) noLayer)) i 0
 directory-lists One ls p n i f l h k = list-at One ls p (pred n) (pred n / 11) (pred n % 11) i f (omega arith) k (omega arith) (omega arith) (omega arith)
+
+-- ---- the right directory: so many rows, and the closing record
+pub directory-is : (e : Edition) (p : ℕ) (ls : List Layer) → directoryOf e p ls ≡ map (row e) (shared (perRecord e) (roundUp (length ls) (perRecord e)) ls) ++ (closing e p (length ls) ∷ [])
+unfolding directoryOf
+directory-is e p ls = refl
+
+rows-length : (e : Edition) (n : ℕ) (ls : List Layer) → length (map (row e) (shared (perRecord e) n ls)) ≡ n
+rows-length e n ls = length-map (shared (perRecord e) n ls) (row e) ∙ length-shared (perRecord e) n ls
+
+pub length-directory : (e : Edition) (p : ℕ) (ls : List Layer) → length (directoryOf e p ls) ≡ roundUp (length ls) (perRecord e) + 1
+length-directory e p ls = ap length (directory-is e p ls) ∙ length-append (map (row e) (shared (perRecord e) (roundUp (length ls) (perRecord e)) ls)) (closing e p (length ls) ∷ []) ∙ ap (λ (n : ℕ). n + 1) (rows-length e (roundUp (length ls) (perRecord e)) ls)
+
+pub row-at : (e : Edition) (p : ℕ) (ls : List Layer) (i : ℕ) → i < roundUp (length ls) (perRecord e) → getD (directoryOf e p ls) i [] ≡ row e (take (perRecord e) (drop (perRecord e * i) ls))
+row-at e p ls i h = ap (λ (x : List (List ℕ)). getD x i []) (directory-is e p ls) ∙ getD-rows e (shared (perRecord e) (roundUp (length ls) (perRecord e)) ls) i (closing e p (length ls) ∷ []) (omega (arith, length-shared (perRecord e) (roundUp (length ls) (perRecord e)) ls)) ∙ ap (row e) (getD-shared (perRecord e) (roundUp (length ls) (perRecord e)) ls i h)
+
+pub closing-at : (e : Edition) (p : ℕ) (ls : List Layer) (rows : ℕ) → rows ≡ roundUp (length ls) (perRecord e) → drop rows (directoryOf e p ls) ≡ closing e p (length ls) ∷ []
+closing-at e p ls rows q = ap (drop rows) (directory-is e p ls) ∙ drop-at (map (row e) (shared (perRecord e) (roundUp (length ls) (perRecord e)) ls)) (closing e p (length ls) ∷ []) rows (rows-length e (roundUp (length ls) (perRecord e)) ls ∙ sym q)

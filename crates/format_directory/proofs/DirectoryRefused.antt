@@ -17,14 +17,14 @@ use Rattle.format.specs.Judge.{levelOk, openAfter, dueAfter, heldAfter, ownerAf
 use Rattle.format.specs.Edit.{dueBehind}
 use Rattle.format_directory.specs.declared.Edition.{Edition}
 use Rattle.format_directory.specs.declared.Edition.the-variants.{One}
-use Rattle.format_directory.specs.Directory.{Layer, perRecord, row, closing, shared, directoryOf, layersOf, lastRecord, pointerIn, sheetIn, directoryIn, RightDirectory}
+use Rattle.format_directory.specs.Directory.{Layer, perRecord, row, closing, shared, directoryOf, layersOf, lastRecord, pointerIn, sheetIn, directoryIn}
 use Rattle.format.proofs.Basics.{and-true}
 use Rattle.format.proofs.JudgeWalks.{Passes, orElse-none}
 use Rattle.format.proofs.JudgeAccepted.{Ok, accepted-ok}
 use Rattle.format.proofs.JudgeStages.{Whole}
 use Rattle.format.proofs.JudgeRecords.{sheet-own}
 use Rattle.format_directory.proofs.DirectoryLayers.{judged-part}
-use Rattle.format_directory.proofs.DirectoryJudged.{Accepted, right-sheet}
+use Rattle.format_directory.proofs.DirectoryJudged.{RightDirectory, Accepted, right-sheet}
 
 -- records behind a part that is in order do not change it
 module _ (M : Machine) where
@@ -119,7 +119,7 @@ module _ (R D : List (List ℕ)) (c : Counts) (j : judgeRecords R ≡ given c) (
   refused-four = ap₂ (λ (x y : Fault). afterPart x (verdict y ((fileOf (R ++ D)) .partLength + length ((fileOf (R ++ D)) .body)) (items (headersAndItems 0 ((fileOf (R ++ D)) .body))))) (still-part .0) four
 
 -- ---- a file that is accepted with its directory
-take-chunks : (n k : ℕ) (bs : List ℕ) → n ≤ k → take n (chunks k bs) ≡ chunks n bs
+pub take-chunks : (n k : ℕ) (bs : List ℕ) → n ≤ k → take n (chunks k bs) ≡ chunks n bs
 take-chunks zero k bs l = refl
 take-chunks (suc n) zero bs l = absurd (omega arith)
 take-chunks (suc n) (suc k) bs l = ap (λ (x : List (List ℕ)). take 84 bs ∷ x) (take-chunks n k (drop 84 bs) (omega arith))

@@ -2,3 +2,9 @@ pub mod DirectoryRecords
 pub mod DirectoryLayers
 pub mod DirectoryJudged
 pub mod DirectoryRefused
+pub mod DirectoryColumns
+pub mod DirectoryWords
+pub mod DirectoryChecks
+pub mod DirectoryAppended
+pub mod DirectoryJumps
+pub mod Claims

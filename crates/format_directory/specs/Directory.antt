@@ -1,8 +1,7 @@
 -- Order 5, a directory of layers at the end of a sheet: what is right, judging it, appending it, jumping by it. Assumes nothing.
-use mathlib.Core.Path.{_≡_}
 use mathlib.Core.Bool.{Bool, true, false, cond, _&&_}
 use mathlib.Core.List.{List, [], _∷_, _++_, map}
-use Prim.Native.Nat.{ℕ, zero, suc, pred, _+_, _-_, _*_, _/_, _%_, _≤_}
+use Prim.Native.Nat.{ℕ, zero, suc, pred, _+_, _-_, _*_, _/_, _%_}
 use lib.Dec.{leb, ltb, eqb}
 use lib.IntN.{pos}
 use lib.ListN.{length, take, drop, getD, replicate}
@@ -12,7 +11,6 @@ use Rattle.format.specs.Column.{columnOf, formed, integer, numberOf, written}
 use Rattle.format.specs.Layout.{column, spaces}
 use Rattle.format.specs.Record.{View}
 use Rattle.format.specs.Judge.{dueAfter, isHeaderAt, fileOf, Counts, verdict, afterStageOne, judgeSheet}
-use Rattle.format.specs.Edit.{dueBehind}
 use Rattle.format_directory.specs.declared.Edition.{Edition}
 use Rattle.format_directory.specs.declared.Edition.the-variants.{One}
 
@@ -213,32 +211,3 @@ layerOf records n = getD (layersOf records) (pred n) noLayer
 
 unfoldable pub countedHeader : (records : List (List ℕ)) → (n : ℕ) → Answer ℕ
 countedHeader records n = inCount (length (layersOf records)) n ((layerOf records n) .header)
-
--- ---- What is claimed of these definitions in proofs/Claims.antt
--- "exactly when": whole records, the pointer among them, before it an accepted sheet, from it on the right directory of that sheet's layers
-pub record RightDirectory (e : Edition) (used : ℕ) (buffer : List ℕ) (counts : Counts) : Type 0 where
-  pub whole : usedOk used buffer ≡ true
-  pub low : 1 ≤ pointerIn (lastRecord used buffer)
-  pub high : pointerIn (lastRecord used buffer) ≤ used / 84
-  pub sheet : judgeSheet (84 * pred (pointerIn (lastRecord used buffer))) buffer ≡ given counts
-  pub directory : directoryIn used buffer ≡ directoryOf e (pointerIn (lastRecord used buffer)) (layersOf (sheetIn used buffer))
-
--- "it lists every layer header once, in order, and nothing else": the numbers that it lists
-abbrev pub headers : List Layer → List ℕ
-headers [] = []
-headers (l ∷ ls) = l .header ∷ headers ls
-
--- once and in order: numbers from `least` on, each above the one before it
-abbrev pub Rising : (least : ℕ) → List ℕ → Type 0
-Rising least [] = Unit {0}
-Rising least (n ∷ ns) = (least ≤ n) × Rising (suc n) ns
-
--- a record of a sheet is a layer header: no data is due behind the records of the body that stand before it, and it is a header of level 1
-pub record LayerHeader (records : List (List ℕ)) (number : ℕ) : Type 0 where
-  pub before : List View
-  pub header : View
-  pub behind : List View
-  pub there : (fileOf records) .body ≡ before ++ header ∷ behind
-  pub noneDue : dueBehind 0 before ≡ 0
-  pub level : isHeaderAt 1 header ≡ true
-  pub numbered : number ≡ (fileOf records) .partLength + suc (length before)

@@ -1,4 +1,4 @@
--- Examples of order 5, computed: the sheet of Examples and one of twelve empty layers, each with its directory.
+-- Examples of order 5, computed: the sheet of Examples, and sheets of 0, 11, 12 and 22 empty layers, each with its directory.
 use mathlib.Core.Path.{_≡_, refl}
 use mathlib.Core.List.{List, [], _∷_, _++_}
 use Prim.Native.Nat.{ℕ}
@@ -28,30 +28,54 @@ z-6 = "Z       6                                                                
 abbrev pub ze-10 : String
 ze-10 = "ZE     10      1                                                                    "
 
--- a sheet of five records and twelve layers without items, in records 6 to 17
+-- a sheet of five records and so many layers without items, from record 6 on; its second record states how many records these are
 abbrev pub emptyLayer : String
 emptyLayer = "H 2100 0   0   0 1    0    0    0    0    0    0    0    0    0    002408         0 "
 
-abbrev pub part : List String
-part =
+abbrev pub sheet : (second : String) → (layers : ℕ) → List ℕ
+sheet second layers =
+    rows (
     "M 09LD1234Example sheet         500Town plan                      010               " ∷
-    "  -1234   5678   -934   5978        0     12  1   -934   5678  -1234   5978         " ∷
+    second ∷
     "                                                                                    " ∷
     "2408240700Plotter                       Approval 1                    100           " ∷
     "Survey office                            -56  50   0   0   0  50 -56   0            " ∷ []
+    ) ++
+    rows (replicate layers emptyLayer)
+
+abbrev pub none : List ℕ
+none = sheet "  -1234   5678   -934   5978        0      0  1   -934   5678  -1234   5978         " 0
+
+abbrev pub eleven : List ℕ
+eleven = sheet "  -1234   5678   -934   5978        0     11  1   -934   5678  -1234   5978         " 11
 
 abbrev pub twelve : List ℕ
-twelve = rows part ++ rows (replicate 12 emptyLayer)
+twelve = sheet "  -1234   5678   -934   5978        0     12  1   -934   5678  -1234   5978         " 12
 
--- its directory: "up to eleven" numbers in a record
-abbrev pub eleven : String
-eleven = "Z       6      7      8      9     10     11     12     13     14     15     16     "
+abbrev pub twice-eleven : List ℕ
+twice-eleven = sheet "  -1234   5678   -934   5978        0     22  1   -934   5678  -1234   5978         " 22
 
-abbrev pub twelfth : String
-twelfth = "Z      17                                                                           "
+-- their directories: "up to eleven" numbers in a record
+abbrev pub z-6-to-16 : String
+z-6-to-16 = "Z       6      7      8      9     10     11     12     13     14     15     16     "
+
+abbrev pub z-17-to-27 : String
+z-17-to-27 = "Z      17     18     19     20     21     22     23     24     25     26     27     "
+
+abbrev pub z-17 : String
+z-17 = "Z      17                                                                           "
+
+abbrev pub ze-6 : String
+ze-6 = "ZE      6      0                                                                    "
+
+abbrev pub ze-17 : String
+ze-17 = "ZE     17     11                                                                    "
 
 abbrev pub ze-18 : String
 ze-18 = "ZE     18     12                                                                    "
+
+abbrev pub ze-28 : String
+ze-28 = "ZE     28     22                                                                    "
 
 -- n bytes of something else
 abbrev pub lent : ℕ → List ℕ
@@ -66,31 +90,55 @@ pub data Example : Type 0 where
 
 abbrev pub table : List Example
 table =
-    -- "an append the new used length; bytes past that stay"
+    -- "an append the new used length; bytes past that stay"; "or of "ZE" itself for no layers"; 11 and 22 layers make one and two full records, and no empty one
     appends One 756 (example ++ lent 170) (given 924) (behind z-6 ze-10 ++ lent 2) ∷
-    appends One 1428 (twelve ++ lent 252) (given 1680) (twelve ++ rows (eleven ∷ twelfth ∷ ze-18 ∷ [])) ∷
+    appends One 420 (none ++ lent 84) (given 504) (none ++ bytes ze-6) ∷
+    appends One 1344 (eleven ++ lent 168) (given 1512) (eleven ++ rows (z-6-to-16 ∷ ze-17 ∷ [])) ∷
+    appends One 1428 (twelve ++ lent 252) (given 1680) (twelve ++ rows (z-6-to-16 ∷ z-17 ∷ ze-18 ∷ [])) ∷
+    appends One 2268 (twice-eleven ++ lent 252) (given 2520) (twice-eleven ++ rows (z-6-to-16 ∷ z-17-to-27 ∷ ze-28 ∷ [])) ∷
     -- a short buffer, and a sheet that is not accepted
     appends One 1428 (twelve ++ lent 251) (refused 15 0) (twelve ++ lent 251) ∷
     appends One 756 (wrong ++ lent 170) (refused 10 6) (wrong ++ lent 170) ∷
     -- "Accepted judging answers the sheet's records and items"; "Plain judging still refuses directory records with 4"
     judges 924 (behind z-6 ze-10) (accepted 9 1) ∷
-    judges 1680 (twelve ++ rows (eleven ∷ twelfth ∷ ze-18 ∷ [])) (accepted 17 0) ∷
+    judges 504 (none ++ bytes ze-6) (accepted 5 0) ∷
+    judges 1680 (twelve ++ rows (z-6-to-16 ∷ z-17 ∷ ze-18 ∷ [])) (accepted 17 0) ∷
     plainly 924 (behind z-6 ze-10) (refused 4 10) ∷
-    -- "19 with the last record if that is no well-formed "ZE"": no such letters; not in written form; a pointer behind it
+    -- "1 tests the used length against 0, the buffer and 84 only"
+    judges 0 (behind z-6 ze-10) (refused 1 0) ∷
+    judges 925 (behind z-6 ze-10 ++ lent 170) (refused 1 0) ∷
+    judges 1008 (behind z-6 ze-10) (refused 1 0) ∷
+    -- "19 with the last record if that is no well-formed "ZE"": no such letters; not in written form; a used rest; a pointer of 0, and one behind it
     judges 840 (behind z-6 ze-10) (refused 19 10) ∷
     judges 924 (behind z-6 "ZE0000010      1                                                                    ") (refused 19 11) ∷
+    judges 924 (behind z-6 "ZE     10     01                                                                    ") (refused 19 11) ∷
+    judges 924 (behind z-6 "ZE     10      1                                                                   .") (refused 19 11) ∷
+    judges 924 (behind z-6 "ZE      0      1                                                                    ") (refused 19 11) ∷
     judges 924 (behind z-6 "ZE     12      1                                                                    ") (refused 19 11) ∷
-    -- "then 1 to 10 on the sheet before the pointer": a pointer of 1 leaves none
+    -- "then 1 to 10 on the sheet before the pointer": a pointer of 1 leaves none; a directory on a directory, and a second "ZE", leave a sheet that is no sheet
     judges 924 (behind z-6 "ZE      1      1                                                                    ") (refused 1 0) ∷
-    -- "then 19, directory wrong, with the first record that differs": another number; another count; a record that is not full before the last
+    judges 924 (behind z-6 "ZE     11      1                                                                    ") (refused 4 10) ∷
+    judges 1092 (behind z-6 ze-10 ++ rows (z-6 ∷ "ZE     12      1                                                                    " ∷ [])) (refused 4 10) ∷
+    -- "then 19, directory wrong, with the first record that differs": another number; leading zeros; a gap; a number too many; a used rest; another count, a negative one
     judges 924 (behind "Z       7                                                                           " ze-10) (refused 19 10) ∷
+    judges 924 (behind "Z 0000006                                                                           " ze-10) (refused 19 10) ∷
+    judges 924 (behind "Z              6                                                                    " ze-10) (refused 19 10) ∷
+    judges 924 (behind "Z       6      7                                                                    " ze-10) (refused 19 10) ∷
+    judges 924 (behind "Z       6                                                                          ." ze-10) (refused 19 10) ∷
     judges 924 (behind z-6 "ZE     10      2                                                                    ") (refused 19 11) ∷
-    judges 1680 (twelve ++ rows (twelfth ∷ eleven ∷ ze-18 ∷ [])) (refused 19 18) ∷
-    -- jumping; "then 17 for a layer outside the count, layers counted from 1"
-    jumps 1680 (twelve ++ rows (eleven ∷ twelfth ∷ ze-18 ∷ [])) 11 (given 16) ∷
-    jumps 1680 (twelve ++ rows (eleven ∷ twelfth ∷ ze-18 ∷ [])) 12 (given 17) ∷
-    jumps 1680 (twelve ++ rows (eleven ∷ twelfth ∷ ze-18 ∷ [])) 13 (refused 17 0) ∷
-    jumps 924 (behind z-6 ze-10) 0 (refused 17 0) ∷ []
+    judges 924 (behind z-6 "ZE     10     -1                                                                    ") (refused 19 11) ∷
+    -- a record that is not full before the last; one too many; one too few
+    judges 1680 (twelve ++ rows (z-17 ∷ z-6-to-16 ∷ ze-18 ∷ [])) (refused 19 18) ∷
+    judges 1008 (behind z-6 ze-10 ++ bytes ze-10) (refused 19 12) ∷
+    judges 840 (example ++ bytes ze-10) (refused 19 10) ∷
+    judges 1596 (twelve ++ rows (z-6-to-16 ∷ ze-18 ∷ [])) (refused 19 19) ∷
+    -- jumping; "then 17 for a layer outside the count, layers counted from 1"; first the file's own
+    jumps 1680 (twelve ++ rows (z-6-to-16 ∷ z-17 ∷ ze-18 ∷ [])) 11 (given 16) ∷
+    jumps 1680 (twelve ++ rows (z-6-to-16 ∷ z-17 ∷ ze-18 ∷ [])) 12 (given 17) ∷
+    jumps 1680 (twelve ++ rows (z-6-to-16 ∷ z-17 ∷ ze-18 ∷ [])) 13 (refused 17 0) ∷
+    jumps 924 (behind z-6 ze-10) 0 (refused 17 0) ∷
+    jumps 504 (none ++ bytes ze-6) 1 (refused 17 0) ∷
+    jumps 840 (behind z-6 ze-10) 1 (refused 19 10) ∷ []
 
 abbrev pub Says : Example → Type 0
 Says (judges used buffer answer) = judgeDirectory used buffer ≡ answer
@@ -104,4 +152,4 @@ Every (e ∷ es) = Says e × Every es
 
 pub examples : Every table
 unfolding bytes rows begins strip isDigit allDigits valueOf isNumber negative positive signed columnOf digitsIn digits textOf written fractionOk column find integerAt numberAt allFormed allInside columnFault sheetA sheetB sheetC sheetD sheetE sheetF header element gridHeader netHeader data3D data2D dataNote dataAttribute dataGrid dataNet typeOf countName dataColumns directionOk dataFault elementRecords elementRule gridStates gridNeeds netNeeds headerView elementView gridView netView otherView view wholesOf fractionsOf partLength sheetFault statedElements statedRecords judge judgeRecords judgeSheet layersOf row closing directoryOf lastRecord numberIn isWritten closingOk judgeFrom judgeEdition judgeDirectory appendDirectory sheetIn directoryIn jump
-examples = (refl, (refl, (refl, (refl, (refl, (refl, (refl, (refl, (refl, (refl, (refl, (refl, (refl, (refl, (refl, (refl, (refl, (refl, tt))))))))))))))))))
+examples = (refl, (refl, (refl, (refl, (refl, (refl, (refl, (refl, (refl, (refl, (refl, (refl, (refl, (refl, (refl, (refl, (refl, (refl, (refl, (refl, (refl, (refl, (refl, (refl, (refl, (refl, (refl, (refl, (refl, (refl, (refl, (refl, (refl, (refl, (refl, (refl, (refl, (refl, (refl, (refl, tt))))))))))))))))))))))))))))))))))))))))

@@ -1,3 +1,4 @@
 pub mod Directory
+pub mod DirectoryChecks
 pub mod Answers
 pub mod DirectoryExamples

@@ -1,0 +1,65 @@
+-- THE CLAIMS about a directory of layers, each in a line; what their words mean stands in specs/DirectoryChecks.antt. All are of all bytes and used lengths, not of
+-- accepted files only. Assumes nothing.
+use mathlib.Core.Path.{_≡_}
+use mathlib.Core.Logic.{_↔_}
+use mathlib.Core.List.{List}
+use Prim.Native.Nat.{ℕ, suc, _+_, _*_, _/_, _≤_, _<_}
+use lib.ListN.{length}
+use Rattle.format.specs.Basics.{given, refused, chunks}
+use Rattle.format.specs.Judge.{Counts, judgeSheet}
+use Rattle.format_directory.specs.declared.Edition.the-variants.{One}
+use Rattle.format_directory.specs.declared.Jumped.{Jumped}
+use Rattle.format_directory.specs.Answers.{jumpedAnswer}
+use Rattle.format_directory.specs.Directory.{layersOf, judgeDirectory, appendDirectory, jump}
+use Rattle.format_directory.specs.DirectoryChecks.{ListsLayers, DirectoryRefusal, AppendRefusal, Appended, NthHeader}
+use Rattle.format_directory.proofs.DirectoryJudged as DirectoryJudged
+use Rattle.format_directory.proofs.DirectoryWords as DirectoryWords
+use Rattle.format_directory.proofs.DirectoryChecks as DirectoryChecks
+use Rattle.format_directory.proofs.DirectoryAppended as DirectoryAppended
+use Rattle.format_directory.proofs.DirectoryJumps as DirectoryJumps
+
+-- ---- "We accept a directory exactly when it lists every layer header once, in order, and nothing else"; "Accepted judging answers the sheet's records and items"
+pub accepted-exactly : (used : ℕ) (buffer : List ℕ) (counts : Counts) → judgeDirectory used buffer ≡ given counts ↔ ListsLayers used buffer counts
+accepted-exactly = DirectoryWords.lists-exactly
+
+-- ---- the order of checks: 1; then 19 with the last record, if that is no well-formed "ZE"; then the sheet's own before the pointer; then 19 with the first record that
+-- differs
+pub refused-exactly : (used : ℕ) (buffer : List ℕ) (number at : ℕ) → judgeDirectory used buffer ≡ refused number at ↔ DirectoryRefusal used buffer number at
+refused-exactly = DirectoryChecks.refused-exactly
+
+-- ---- "ours passes", with the sheet's own records and items
+pub ours-passes : (used : ℕ) (buffer : List ℕ) (new : ℕ) → (appendDirectory One used buffer) .answer ≡ given new → judgeDirectory new ((appendDirectory One used buffer) .bytes) ≡ judgeSheet used buffer
+ours-passes = DirectoryJudged.ours-passes
+
+-- "an append the new used length; bytes past that stay": the sheet, the directory, and every byte behind it
+pub append-leaves : (used : ℕ) (buffer : List ℕ) (new : ℕ) → (appendDirectory One used buffer) .answer ≡ given new → Appended used buffer new ((appendDirectory One used buffer) .bytes)
+append-leaves = DirectoryAppended.append-leaves
+
+-- an append is refused by the sheet's own number, then by 15, and by nothing else; then no byte has changed
+pub append-refused : (used : ℕ) (buffer : List ℕ) (number at : ℕ) → (appendDirectory One used buffer) .answer ≡ refused number at ↔ AppendRefusal used buffer (length (layersOf (chunks (used / 84) buffer))) number at
+append-refused = DirectoryAppended.append-refused
+
+pub append-unchanged : (used : ℕ) (buffer : List ℕ) (number at : ℕ) → (appendDirectory One used buffer) .answer ≡ refused number at → (appendDirectory One used buffer) .bytes ≡ buffer
+append-unchanged = DirectoryAppended.append-unchanged
+
+-- ---- "Jumping to layer n gives what counting from the front gives", and 17 exactly where there is no layer n
+pub jump-counts : (used : ℕ) (buffer : List ℕ) (counts : Counts) (n number : ℕ) → judgeDirectory used buffer ≡ given counts → jump used buffer n ≡ given number ↔ NthHeader (chunks (counts .records) buffer) n number
+jump-counts = DirectoryJumps.jump-counts
+
+pub jump-outside : (used : ℕ) (buffer : List ℕ) (counts : Counts) (n : ℕ) → judgeDirectory used buffer ≡ given counts → jump used buffer n ≡ refused 17 0 ↔ ((number : ℕ) → NthHeader (chunks (counts .records) buffer) n number → ⊥)
+jump-outside = DirectoryJumps.jump-outside
+
+-- where judging refuses, every jump refuses alike
+pub jump-refuses : (used : ℕ) (buffer : List ℕ) (number at n : ℕ) → judgeDirectory used buffer ≡ refused number at → jump used buffer n ≡ refused number at
+jump-refuses = DirectoryJumps.jump-refuses
+
+-- ---- "Plain judging still refuses directory records with 4, or 1 past 200,000 records": every file that is accepted with its directory, so all that was appended
+pub plain-refuses : (used : ℕ) (buffer : List ℕ) (counts : Counts) → judgeDirectory used buffer ≡ given counts → used ≤ 84 * 200000 → judgeSheet used buffer ≡ refused 4 (suc (counts .records))
+plain-refuses = DirectoryJumps.plain-refuses
+
+pub plain-refuses-long : (used : ℕ) (buffer : List ℕ) (counts : Counts) → judgeDirectory used buffer ≡ given counts → 84 * 200000 < used → judgeSheet used buffer ≡ refused 1 0
+plain-refuses-long = DirectoryJumps.plain-refuses-long
+
+-- ---- the answer of a jump and the paper's answers are one to one
+pub jumps-one-to-one : (x y : Jumped) → jumpedAnswer x ≡ jumpedAnswer y → x ≡ y
+jumps-one-to-one = DirectoryJumps.one-to-one
