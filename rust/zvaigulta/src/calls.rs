@@ -345,6 +345,87 @@ pub fn from_lines(buffer: &[u8], used: usize, target: &mut [u8]) -> Result<usize
     length(raw::from_lines(buffer, used, target))
 }
 
+/// Judges a sheet with a directory of layers behind it, the first `used` bytes of the buffer. Accepted where the records before the directory are
+/// an accepted sheet, and the directory lists each of its layer headers once, in order, and nothing else; answers what the sheet holds, without the
+/// records of the directory.
+///
+/// # Errors
+/// 1, by the buffer and multiples of 84 alone; then 19 with the last record, if that is no well-formed `ZE` record whose pointer lies from 1 to its
+/// own number; then 1 to 10 of the sheet before the pointer; then 19 with the first record that differs from the right directory.
+///
+/// ```
+/// use zvaigulta::{append_directory, judge_directory, judge_sheet, write_column, Reason, EXAMPLE};
+///
+/// let mut file = EXAMPLE.to_vec();
+/// file.resize(11 * 84, 0);
+/// assert_eq!(append_directory(&mut file, EXAMPLE.len())?, file.len());
+/// assert_eq!(judge_directory(&file, file.len())?.to_string(), "accepted 9 records 1 items");
+/// // Judged as a sheet alone, the records of the directory have no place in it.
+/// let refusal = judge_sheet(&file, file.len()).unwrap_err();
+/// assert_eq!((refusal.reason, refusal.record), (Reason::RecordType, Some(10)));
+/// // The header of the one layer is record 6, not 7.
+/// write_column(&mut file[9 * 84 + 2..9 * 84 + 9], 7)?;
+/// let refusal = judge_directory(&file, file.len()).unwrap_err();
+/// assert_eq!((refusal.reason, refusal.record), (Reason::Directory, Some(10)));
+/// // Without its closing record a directory is none.
+/// let refusal = judge_directory(&file, 10 * 84).unwrap_err();
+/// assert_eq!((refusal.reason, refusal.record), (Reason::Directory, Some(10)));
+/// # Ok::<(), zvaigulta::Refusal>(())
+/// ```
+pub fn judge_directory(buffer: &[u8], used: usize) -> Result<Counts, Refusal> {
+    counts(raw::judge_directory(buffer, used))
+}
+
+/// Appends a directory of its layers to a sheet, the first `used` bytes of the buffer; answers the new used length. The directory is a record for
+/// each eleven layers, or the rest of them, and one that closes it. Bytes past the new used length stay.
+///
+/// # Errors
+/// Those of judging the sheet, 1 to 10; then 15 where the buffer has no room for the directory behind the sheet.
+///
+/// ```
+/// use zvaigulta::{append_directory, Reason, EXAMPLE};
+///
+/// let mut file = EXAMPLE.to_vec();
+/// file.resize(11 * 84, 0);
+/// assert_eq!(append_directory(&mut file[..11 * 84 - 1], EXAMPLE.len()).unwrap_err().reason, Reason::Room);
+/// let used = append_directory(&mut file, EXAMPLE.len())?;
+/// assert_eq!(used, 11 * 84);
+/// // The header of layer 1 is record 6; the directory starts at record 10 and lists one layer.
+/// assert!(file[9 * 84..].starts_with(b"Z       6 "));
+/// assert!(file[10 * 84..].starts_with(b"ZE     10      1 "));
+/// // A sheet with its directory is no sheet to append one to.
+/// assert_eq!(append_directory(&mut file, used).unwrap_err().reason, Reason::RecordType);
+/// # Ok::<(), zvaigulta::Refusal>(())
+/// ```
+pub fn append_directory(buffer: &mut [u8], used: usize) -> Result<usize, Refusal> {
+    length(raw::append_directory(buffer, used))
+}
+
+/// The record number of the header of a layer, numbered from 1, in a sheet with a directory, the first `used` bytes of the buffer. Once the file is
+/// judged, one record of the directory is read for it.
+///
+/// # Errors
+/// Those of [`judge_directory`], 1 to 10 and 19; then 17 where the sheet has no such layer.
+///
+/// ```
+/// use zvaigulta::{append_directory, jump, Reason, EXAMPLE};
+///
+/// let mut file = EXAMPLE.to_vec();
+/// file.resize(11 * 84, 0);
+/// let used = append_directory(&mut file, EXAMPLE.len())?;
+/// assert_eq!(jump(&file, used, 1)?, 6);
+/// assert_eq!(jump(&file, used, 0).unwrap_err().reason, Reason::RecordNumber);
+/// assert_eq!(jump(&file, used, 2).unwrap_err().to_string(),
+///     "refused 17: the record number is outside the file or in the sheet part, or there is no such layer");
+/// // Without a directory there is nothing to jump by.
+/// assert_eq!(jump(EXAMPLE, EXAMPLE.len(), 1).unwrap_err().reason, Reason::Directory);
+/// # Ok::<(), zvaigulta::Refusal>(())
+/// ```
+pub fn jump(buffer: &[u8], used: usize, layer: usize) -> Result<usize, Refusal> {
+    let raw = raw::jump(buffer, used, layer);
+    answer(raw.refusal, raw.at, raw.header)
+}
+
 /// Puts the line that the program `dm` prints on an input, with its line end, at the start of a buffer; answers the line's length. Bytes
 /// behind it stay.
 ///

@@ -8,6 +8,10 @@
 //! [`from_lines`] makes the plain file of one, which every other call takes, and [`to_lines`] goes back. [`Form`] tells which of the two
 //! forms a file has.
 //!
+//! A sheet may have a directory of its layers behind its last record: [`append_directory`] writes it, [`judge_directory`] judges a sheet with it,
+//! and [`jump`] finds the header of a layer by it. Every other call takes the sheet without its directory, which [`Sheet::without_directory`] takes
+//! off.
+//!
 //! ```
 //! // The example of document 01: five sheet records, one layer, one line of seven points.
 //! let sheet = zvaigulta::EXAMPLE;
@@ -41,8 +45,8 @@ pub mod text;
 mod unit;
 
 pub use calls::{
-    from_lines, insert, join, judge_index, judge_index_lines, judge_sheet, judge_sheet_lines, normal_index, normal_sheet,
-    read_column, remove, report, split, to_lines, way_up, write_column, Corner, Counts, WayUp,
+    append_directory, from_lines, insert, join, judge_directory, judge_index, judge_index_lines, judge_sheet, judge_sheet_lines,
+    jump, normal_index, normal_sheet, read_column, remove, report, split, to_lines, way_up, write_column, Corner, Counts, WayUp,
 };
 pub use form::{Form, LINE_END};
 pub use kind::FileKind;

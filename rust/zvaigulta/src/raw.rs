@@ -41,6 +41,13 @@ pub struct Way {
     pub passed: usize,
 }
 
+#[repr(C)]
+pub struct Layer {
+    pub refusal: u64,
+    pub at: usize,
+    pub header: usize,
+}
+
 extern "C" {
     fn zv_read_column(column: *const u8, width: usize) -> Number;
     fn zv_write_column(column: *mut u8, width: usize, value: i64) -> Length;
@@ -57,6 +64,9 @@ extern "C" {
     fn zv_judge_index_lines(buffer: *const u8, length: usize, used: usize) -> Counts;
     fn zv_to_lines(buffer: *const u8, length: usize, used: usize, target: *mut u8, target_length: usize) -> Length;
     fn zv_from_lines(buffer: *const u8, length: usize, used: usize, target: *mut u8, target_length: usize) -> Length;
+    fn zv_judge_directory(buffer: *const u8, length: usize, used: usize) -> Counts;
+    fn zv_append_directory(buffer: *mut u8, length: usize, used: usize) -> Length;
+    fn zv_jump(buffer: *const u8, length: usize, used: usize, layer: usize) -> Layer;
     fn zv_report(input: *const u8, input_length: usize, out: *mut u8, out_length: usize) -> Length;
 }
 
@@ -133,6 +143,21 @@ pub fn to_lines(buffer: &[u8], used: usize, target: &mut [u8]) -> Length {
 pub fn from_lines(buffer: &[u8], used: usize, target: &mut [u8]) -> Length {
     // SAFETY: both slices are lent for the call, the target alone to be written; the borrow rules keep them apart.
     unsafe { zv_from_lines(buffer.as_ptr(), buffer.len(), used, target.as_mut_ptr(), target.len()) }
+}
+
+pub fn judge_directory(buffer: &[u8], used: usize) -> Counts {
+    // SAFETY: the slice lends `length` bytes to read for the call; `used` may be any number; no pointer is kept.
+    unsafe { zv_judge_directory(buffer.as_ptr(), buffer.len(), used) }
+}
+
+pub fn append_directory(buffer: &mut [u8], used: usize) -> Length {
+    // SAFETY: the slice lends `length` bytes to read and write for the call, and nobody else has them; no pointer is kept.
+    unsafe { zv_append_directory(buffer.as_mut_ptr(), buffer.len(), used) }
+}
+
+pub fn jump(buffer: &[u8], used: usize, layer: usize) -> Layer {
+    // SAFETY: the slice lends `length` bytes to read for the call; `used` and `layer` may be any numbers; no pointer is kept.
+    unsafe { zv_jump(buffer.as_ptr(), buffer.len(), used, layer) }
 }
 
 pub fn report(input: &[u8], out: &mut [u8]) -> Length {

@@ -2,7 +2,7 @@
 
 use std::fmt;
 
-/// Why a call refused: document 01's seventeen numbers, and 18 of order 1 of document 02.
+/// Why a call refused: document 01's seventeen numbers, and of document 02 18 (order 1) and 19 (order 5).
 ///
 /// ```
 /// use zvaigulta::Reason;
@@ -48,16 +48,19 @@ pub enum Reason {
     Room,
     /// 16: a number does not fit the width, a width or unit is not allowed, or a corner cannot be split.
     Number,
-    /// 17: the record number is outside the file, or in the sheet part.
+    /// 17: the record number is outside the file, or in the sheet part; or the sheet has no layer of the number to jump to.
     RecordNumber,
     /// 18: a record of a file with line ends does not end in carriage return and line feed.
     LineEnd,
-    /// A number above 18, from a later edition of the library.
+    /// 19: the directory of layers is missing, or differs from the right one. The record is the last one where that is no well-formed `ZE` with a
+    /// pointer from 1 to its own number, else the first that differs.
+    Directory,
+    /// A number above 19, from a later edition of the library.
     Other(u64),
 }
 
 /// The reasons in the order of their numbers, from 1.
-const REASONS: [Reason; 18] = [
+const REASONS: [Reason; 19] = [
     Reason::Length,
     Reason::FileType,
     Reason::MissingRecord,
@@ -76,10 +79,11 @@ const REASONS: [Reason; 18] = [
     Reason::Number,
     Reason::RecordNumber,
     Reason::LineEnd,
+    Reason::Directory,
 ];
 
 impl Reason {
-    /// The reason of a number; [`Reason::Other`] for one that is not among 1 to 18.
+    /// The reason of a number; [`Reason::Other`] for one that is not among 1 to 19.
     pub fn from_number(number: u64) -> Reason {
         let place = usize::try_from(number).ok().and_then(|n| n.checked_sub(1));
         place.and_then(|n| REASONS.get(n)).copied().unwrap_or(Reason::Other(number))
@@ -108,8 +112,9 @@ impl Reason {
             Reason::Limit => (14, "a header's total, its grid and net count or the file's records would pass their limit"),
             Reason::Room => (15, "the buffer is too short for the result"),
             Reason::Number => (16, "the number does not fit, the width or unit is not allowed, or the corner cannot be split"),
-            Reason::RecordNumber => (17, "the record number is outside the file or in the sheet part"),
+            Reason::RecordNumber => (17, "the record number is outside the file or in the sheet part, or there is no such layer"),
             Reason::LineEnd => (18, "a record does not end in carriage return and line feed"),
+            Reason::Directory => (19, "the directory of layers is missing, or differs here from the right one"),
             Reason::Other(number) => (number, "this edition of the wrapper does not know the number"),
         }
     }
@@ -171,7 +176,7 @@ mod tests {
             assert_eq!(reason.number(), number);
             assert_eq!(Reason::from_number(number), *reason);
         }
-        for number in [0, 19, 255, 256, u64::MAX] {
+        for number in [0, 20, 255, 256, u64::MAX] {
             assert_eq!(Reason::from_number(number), Reason::Other(number));
         }
     }

@@ -2,7 +2,12 @@
 
 use crate::layout::SHEET_B;
 use crate::outline::{Outline, Record, Sort, Stated, What};
-use crate::{insert, judge_sheet, normal_sheet, remove, way_up, Counts, Refusal, WayUp, RECORD_BYTES};
+use crate::{
+    append_directory, insert, judge_directory, judge_sheet, normal_sheet, remove, way_up, Counts, Refusal, WayUp, RECORD_BYTES,
+};
+
+/// So many layers are listed in one record of a directory.
+const LAYERS_TO_A_RECORD: usize = 11;
 
 /// A sheet with its bytes. Any bytes make one: [`Sheet::judge`] says whether they are accepted, and every other call judges first.
 ///
@@ -107,6 +112,52 @@ impl Sheet {
         let mut second = vec![b' '; self.bytes.len()];
         normal_sheet(&self.bytes, self.bytes.len(), &mut second)?;
         Ok(Sheet { bytes: second })
+    }
+
+    /// The sheet of a file with a directory of layers, which is taken off.
+    ///
+    /// # Errors
+    /// Those of [`judge_directory`], 1 to 10 and 19.
+    ///
+    /// ```
+    /// use zvaigulta::{Sheet, EXAMPLE};
+    ///
+    /// let file = Sheet::from(EXAMPLE.to_vec()).with_directory()?;
+    /// // Edits work on the sheet without its directory, which is appended anew.
+    /// let mut sheet = Sheet::without_directory(file)?;
+    /// assert_eq!(sheet.as_bytes(), EXAMPLE);
+    /// sheet.remove(7)?;
+    /// assert_eq!(sheet.with_directory()?.len(), 8 * 84);
+    /// # Ok::<(), zvaigulta::Refusal>(())
+    /// ```
+    pub fn without_directory(mut file: Vec<u8>) -> Result<Sheet, Refusal> {
+        let counts = judge_directory(&file, file.len())?;
+        file.truncate(counts.records * RECORD_BYTES);
+        Ok(Sheet { bytes: file })
+    }
+
+    /// The file of this sheet with the directory of its layers behind it.
+    ///
+    /// # Errors
+    /// Those of [`judge_sheet`], 1 to 10.
+    ///
+    /// ```
+    /// use zvaigulta::{judge_directory, jump, Sheet, EXAMPLE};
+    ///
+    /// let file = Sheet::from(EXAMPLE.to_vec()).with_directory()?;
+    /// assert_eq!(judge_directory(&file, file.len())?.records, 9);
+    /// assert_eq!(jump(&file, file.len(), 1)?, 6);
+    /// # Ok::<(), zvaigulta::Refusal>(())
+    /// ```
+    pub fn with_directory(&self) -> Result<Vec<u8>, Refusal> {
+        let used = self.bytes.len();
+        // A sheet has at most as many layers as records; one record more closes the directory.
+        let most = (used / RECORD_BYTES).div_ceil(LAYERS_TO_A_RECORD) + 1;
+        let mut file = self.bytes.clone();
+        file.resize(used + most * RECORD_BYTES, b' ');
+        let length = append_directory(&mut file, used)?;
+        file.truncate(length);
+        Ok(file)
     }
 
     /// Its records, each with what it is. Of a sheet that is refused the names are the best guess.
@@ -222,6 +273,7 @@ mod tests {
             let bytes: Vec<u8> = (0..length).map(|_| r.word() as u8).collect();
             let mut sheet = Sheet::from(bytes.clone());
             assert!(sheet.judge().is_err() && sheet.normal().is_err() && sheet.way_up(1).is_err());
+            assert!(sheet.with_directory().is_err() && Sheet::without_directory(bytes.clone()).is_err());
             assert!(sheet.insert(1, b"E2").is_err() && sheet.remove(usize::MAX).is_err());
             let _ = (sheet.items().count(), sheet.records().count());
             assert_eq!(sheet.into_bytes(), bytes);
