@@ -37,9 +37,9 @@
 extern "C" {
 #endif
 
-/* The version of this header as one number, 300 for 0.3.0; `zv_version` answers that of the library. */
+/* The version of this header as one number, 400 for 0.4.0; `zv_version` answers that of the library. */
 #define ZV_VERSION_MAJOR 0
-#define ZV_VERSION_MINOR 3
+#define ZV_VERSION_MINOR 4
 #define ZV_VERSION_PATCH 0
 #define ZV_VERSION (ZV_VERSION_MAJOR * 10000 + ZV_VERSION_MINOR * 100 + ZV_VERSION_PATCH)
 

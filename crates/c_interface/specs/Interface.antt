@@ -16,9 +16,9 @@ use Rattle.c_interface.specs.declared.ZvCounts.{ZvCounts}
 use Rattle.c_interface.specs.declared.ZvLength.{ZvLength}
 use Rattle.c_interface.specs.declared.ZvColumn.{ZvColumn}
 
--- 0.3.0: 10,000 times the major number, 100 times the minor one, and the patch
+-- 0.4.0: 10,000 times the major number, 100 times the minor one, and the patch
 unfoldable pub version : ℕ
-version = 0 * 10000 + 3 * 100 + 0
+version = 0 * 10000 + 4 * 100 + 0
 
 abbrev pub numberOf : Answer ℤ → ZvNumber
 numberOf (given z) = record { refusal = 0; at = 0; value = z }

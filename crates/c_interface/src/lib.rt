@@ -24,7 +24,7 @@ use format::Written;
 use format_words::Described;
 
 // The version: 10,000 times the major number, 100 times the minor one, and the patch.
-const VERSION: u64 = 300;
+const VERSION: u64 = 400;
 
 #[repr(C)]
 pub struct ZvNumber {
