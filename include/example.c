@@ -21,7 +21,14 @@ static const char SHEET[] =
 
 static const char INDEX[] = "I  9City survey office            000 0   0002008Regulation                    10   ";
 
-enum { USED = 9 * ZV_RECORD_BYTES, BLOCK = 3 * ZV_RECORD_BYTES, ROOM = USED + BLOCK, LINES = 9 * ZV_LINE_RECORD_BYTES };
+enum {
+    USED = 9 * ZV_RECORD_BYTES,
+    BLOCK = 3 * ZV_RECORD_BYTES,
+    ROOM = USED + BLOCK,
+    LINES = 9 * ZV_LINE_RECORD_BYTES,
+    /* The one layer is listed in one record, and one more closes the directory. */
+    LISTED = USED + 2 * ZV_RECORD_BYTES
+};
 
 static int wrong = 0;
 
@@ -145,6 +152,36 @@ static void ways_up(const uint8_t *buffer)
     check("zv_way_up in the sheet part", zv_way_up(buffer, ROOM, USED, 5).refusal == ZV_RECORD_NUMBER);
 }
 
+/* The sheet with a directory of its one layer: appended, judged and used; then with a number in it that is no layer header. */
+static void directories(const uint8_t *buffer)
+{
+    static uint8_t file[LISTED];
+    struct zv_length appended;
+    struct zv_counts counts;
+    struct zv_layer layer;
+    memcpy(file, buffer, USED);
+    check("zv_append_directory no room", zv_append_directory(file, LISTED - 1, USED).refusal == ZV_ROOM);
+    appended = zv_append_directory(file, LISTED, USED);
+    printf("zv_append_directory: %zu bytes, \"%.17s\"\n", appended.length, (const char *)file + LISTED - ZV_RECORD_BYTES);
+    check("zv_append_directory", appended.refusal == ZV_ACCEPTED && appended.length == LISTED && memcmp(file, SHEET, USED) == 0
+          && memcmp(file + USED, "Z       6 ", 10) == 0 && memcmp(file + LISTED - ZV_RECORD_BYTES, "ZE     10      1 ", 17) == 0);
+    counts = zv_judge_directory(file, LISTED, LISTED);
+    printf("zv_judge_directory: %zu records %zu items\n", counts.records, counts.items);
+    check("zv_judge_directory", counts.refusal == ZV_ACCEPTED && counts.records == 9 && counts.items == 1);
+    counts = zv_judge_directory(file, LISTED, USED);
+    check("zv_judge_directory of a sheet alone", counts.refusal == ZV_DIRECTORY && counts.at == 9 && counts.records == 0);
+    counts = zv_judge_sheet(file, LISTED, LISTED);
+    check("zv_judge_sheet with a directory", counts.refusal == ZV_RECORD_TYPE && counts.at == 10);
+    layer = zv_jump(file, LISTED, LISTED, 1);
+    printf("zv_jump to layer 1: record %zu\n", layer.header);
+    check("zv_jump", layer.refusal == ZV_ACCEPTED && layer.at == 0 && layer.header == 6);
+    check("zv_jump to no layer", zv_jump(file, LISTED, LISTED, 2).refusal == ZV_RECORD_NUMBER);
+    zv_write_column(file + USED + 2, 7, 7);
+    layer = zv_jump(file, LISTED, LISTED, 1);
+    printf("zv_jump by a wrong directory: refused %llu at record %zu\n", (unsigned long long)layer.refusal, layer.at);
+    check("zv_jump damaged", layer.refusal == ZV_DIRECTORY && layer.at == 10 && layer.header == 0);
+}
+
 static void report_line(const uint8_t *buffer)
 {
     uint8_t line[ZV_LINE_BYTES];
@@ -245,6 +282,7 @@ int main(int argc, char **argv)
     normal_forms(buffer);
     edits(buffer);
     ways_up(buffer);
+    directories(buffer);
     report_line(buffer);
     refusal_texts();
     layout_columns();

@@ -7,6 +7,9 @@
  * In the form with line ends, carriage return and line feed (13, 10) stand behind each record, 86 bytes in all. `zv_judge_sheet_lines`,
  * `zv_judge_index_lines` and `zv_from_lines` read it, `zv_to_lines` writes it; every other call reads and writes plain records alone.
  *
+ * Behind the last record of a sheet a directory of its layers may stand, in records of its own. `zv_append_directory` writes it,
+ * `zv_judge_directory` and `zv_jump` read a sheet with it; every other call takes the sheet without it, and `zv_judge_sheet` refuses its records.
+ *
  * Every call answers every content of its buffers and every number, and returns. A refused call changes no byte of any buffer. No call keeps
  * a pointer, takes memory from the heap or has state of its own, so calls on different buffers may run at the same time.
  *
@@ -59,7 +62,10 @@ extern "C" {
 enum zv_refusal {
     /* The call was accepted. */
     ZV_ACCEPTED = 0,
-    /* The used length is 0, above the buffer, no multiple of 84 (of 86 where line ends are read), or above 200,000 records. */
+    /*
+     * The used length is 0, above the buffer, no multiple of 84 (of 86 where line ends are read), or above 200,000 records. With a directory
+     * the file may be longer; the sheet before it has 0 records or above 200,000.
+     */
     ZV_LENGTH = 1,
     /* Record 1 does not start with the asked type (1). */
     ZV_FILE_TYPE = 2,
@@ -91,10 +97,15 @@ enum zv_refusal {
     ZV_ROOM = 15,
     /* A number does not fit the width, a width or unit is not allowed, or a corner cannot be split; there is no such refusal, layout or column. */
     ZV_NUMBER = 16,
-    /* The record number is outside the file, or in the sheet part. */
+    /* The record number is outside the file, or in the sheet part; for a jump, the sheet has no layer of this number. */
     ZV_RECORD_NUMBER = 17,
     /* A record of a file with line ends does not end in carriage return and line feed (the first such record). */
-    ZV_LINE_END = 18
+    ZV_LINE_END = 18,
+    /*
+     * The directory of layers is wrong: the last record is no well-formed ZE whose pointer lies from 1 to its own number (the last record); a record
+     * differs from the right directory of the sheet (the first such record).
+     */
+    ZV_DIRECTORY = 19
 };
 
 /* The nineteen record layouts, in the order of document 01. */
@@ -171,7 +182,7 @@ struct zv_counts {
 struct zv_length {
     uint64_t refusal;
     size_t at;
-    /* The written column's width, the length of the file or text that was written, or the new used length after an edit. */
+    /* The written column's width, the length of the file or text that was written, or the new used length after an edit or an append. */
     size_t length;
 };
 
@@ -183,6 +194,14 @@ struct zv_way {
     size_t header;
     /* How many headers the way passes, the layer's included: the record's level less one. */
     size_t passed;
+};
+
+/* A layer that was jumped to. */
+struct zv_layer {
+    uint64_t refusal;
+    size_t at;
+    /* The record number of its header. */
+    size_t header;
 };
 
 /* A column of a layout. */
@@ -227,6 +246,8 @@ ZV_ASSERT_FIELD(length, length, 16);
 ZV_ASSERT_SIZE(way, 32);
 ZV_ASSERT_FIELD(way, header, 16);
 ZV_ASSERT_FIELD(way, passed, 24);
+ZV_ASSERT_SIZE(layer, 24);
+ZV_ASSERT_FIELD(layer, header, 16);
 ZV_ASSERT_SIZE(column, 56);
 ZV_ASSERT_FIELD(column, start, 16);
 ZV_ASSERT_FIELD(column, width, 24);
@@ -314,6 +335,27 @@ struct zv_length zv_remove(uint8_t *buffer, size_t length, size_t used, size_t p
 struct zv_way zv_way_up(const uint8_t *buffer, size_t length, size_t used, size_t number);
 
 /*
+ * Judges the first `used` bytes of a buffer as a sheet with a directory of its layers. Accepted exactly where the directory lists every layer
+ * header of an accepted sheet once, in order, and nothing else; answers the sheet's records and items, without the records of the directory.
+ * Refusals: 1 for the length against 0, the buffer and 84; 19 with the last record, if that is no well-formed ZE whose pointer lies from 1 to its
+ * own number; 1 to 10, as `zv_judge_sheet` answers for the records before the pointer; then 19 with the first record that differs from the
+ * right directory.
+ */
+struct zv_counts zv_judge_directory(const uint8_t *buffer, size_t length, size_t used);
+
+/*
+ * Appends the directory of its layers to a sheet: a record for each eleven layers, one for what is left of them, and one that closes it. Answers the
+ * new used length; bytes of the buffer past it stay. Judges the sheet first (1 to 10); refusal 15 where the buffer has no room behind the sheet.
+ */
+struct zv_length zv_append_directory(uint8_t *buffer, size_t length, size_t used);
+
+/*
+ * The header of layer `layer`, numbered from 1, of a sheet with a directory: what counting the layers from the front gives. Judges first, as
+ * `zv_judge_directory` (1 to 10 and 19), then 17; then one record of the directory is read.
+ */
+struct zv_layer zv_jump(const uint8_t *buffer, size_t length, size_t used, size_t layer);
+
+/*
  * Puts the line that the program dm prints on an input, with its line end, at the start of a buffer, and answers the line's length. Bytes behind it
  * stay. Refusal 15 where the buffer is too short, ZV_LINE_BYTES are always enough.
  */
@@ -321,7 +363,7 @@ struct zv_length zv_report(const uint8_t *input, size_t input_length, uint8_t *o
 
 /*
  * Puts the words of a refusal at the start of a buffer, and answers their length: ASCII, no end mark. Bytes behind them stay. Refusals: 15 where the
- * buffer is too short, ZV_TEXT_BYTES are always enough; 16 for a number that is no refusal: 0, which is no refusal but an answer, and any above 18.
+ * buffer is too short, ZV_TEXT_BYTES are always enough; 16 for a number that is no refusal: 0, which is no refusal but an answer, and any above 19.
  */
 struct zv_length zv_refusal_text(uint64_t number, uint8_t *out, size_t out_length);
 
