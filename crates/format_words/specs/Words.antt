@@ -20,7 +20,7 @@ unfoldable pub entry : {A : Type 0} → ℕ → List A → Answer A
 entry zero l = refused 16 0
 entry (suc n) l = fromZero n l
 
--- the words of the refusals, from 1 to 18
+-- the words of the refusals, from 1 to 19
 unfoldable pub refusals : List String
 refusals =
     "the length is 0, above the buffer, no multiple of 84 (lines: 86) or above 200,000 records" ∷
@@ -39,8 +39,9 @@ refusals =
     "a header's total, its grid and net count or the file's records would pass their limit" ∷
     "the buffer is too short for the result" ∷
     "the number does not fit, the width or unit is not allowed, or the corner cannot be split" ∷
-    "the record number is outside the file or in the sheet part" ∷
-    "a record does not end in carriage return and line feed" ∷ []
+    "the record number is outside the file or in the sheet part, or there is no such layer" ∷
+    "a record does not end in carriage return and line feed" ∷
+    "the directory of layers is missing, or differs here from the right one" ∷ []
 
 -- a text at the start of a lent buffer, without an end mark; the bytes behind it stay. "a buffer is too short for the result" is 15
 abbrev pub textTo : Answer String → (out : List ℕ) → Outcome ℕ

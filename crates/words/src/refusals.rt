@@ -56,7 +56,12 @@ pub const NUMBER: [u8; 88] =
     *b"the number does not fit, the width or unit is not allowed, or the corner cannot be split";
 
 // 17.
-pub const RECORD_NUMBER: [u8; 58] = *b"the record number is outside the file or in the sheet part";
+pub const RECORD_NUMBER: [u8; 85] =
+    *b"the record number is outside the file or in the sheet part, or there is no such layer";
 
 // 18.
 pub const LINE_END: [u8; 54] = *b"a record does not end in carriage return and line feed";
+
+// 19.
+pub const DIRECTORY: [u8; 70] =
+    *b"the directory of layers is missing, or differs here from the right one";

@@ -115,6 +115,12 @@ slice-aggregate-put-text-line-18 c = search needs
 put-text-line-requires-18 : tie.Need-put-text-line-requires-18
 put-text-line-requires-18 c κs = search needs
 
+slice-aggregate-put-text-line-19 : tie.Need-slice-aggregate-put-text-line-19
+slice-aggregate-put-text-line-19 c = search needs
+
+put-text-line-requires-19 : tie.Need-put-text-line-requires-19
+put-text-line-requires-19 c κs = search needs
+
 same-length : tie.Need-same-length
 same-length c = search needs
 
@@ -241,9 +247,16 @@ returns-18 : tie.Need-returns-18
 unfolding entry refusals bytes
 returns-18 c = said _ 18 _ _ _ (search needs) refl (c .before .before .put-text-line18 .ensures)
 
+same-length-19 : tie.Need-same-length-19
+same-length-19 c = search needs
+
 returns-19 : tie.Need-returns-19
+unfolding entry refusals bytes
+returns-19 c = said _ 19 _ _ _ (search needs) refl (c .before .before .put-text-line19 .ensures)
+
+returns-20 : tie.Need-returns-20
 unfolding refusals
-returns-19 c = not-said _ _ (outside 18 _ refusals (c .match .rest) refl)
+returns-20 c = not-said _ _ (outside 19 _ refusals (c .match .rest) refl)
 
 pub refusal-text-spec : {M : Type 1} → statement M
 refusal-text-spec =
@@ -285,6 +298,8 @@ refusal-text-spec =
     put-text-line-requires-17
     slice-aggregate-put-text-line-18
     put-text-line-requires-18
+    slice-aggregate-put-text-line-19
+    put-text-line-requires-19
     same-length
     returns
     same-length-2
@@ -321,4 +336,6 @@ refusal-text-spec =
     returns-17
     same-length-18
     returns-18
-    returns-19)
+    same-length-19
+    returns-19
+    returns-20)
