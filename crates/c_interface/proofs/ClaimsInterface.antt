@@ -16,20 +16,23 @@ use Rattle.format.specs.Run.{Buffer, call}
 use Rattle.format.specs.Normal.{normalSheet, normalIndex}
 use Rattle.format.specs.Program.{reportTo}
 use Rattle.format_lines.specs.LineEnds.{judgeSheetLines, judgeIndexLines, toLines, fromLines}
+use Rattle.format_directory.specs.declared.Edition.the-variants.{One}
+use Rattle.format_directory.specs.Directory.{judgeDirectory, appendDirectory, jump}
 use Rattle.c_interface.specs.declared.ZvWay.{ZvWay}
 use Rattle.c_interface.specs.declared.ZvNumber.{ZvNumber}
 use Rattle.c_interface.specs.declared.ZvCorner.{ZvCorner}
 use Rattle.c_interface.specs.declared.ZvCounts.{ZvCounts}
 use Rattle.c_interface.specs.declared.ZvLength.{ZvLength}
+use Rattle.c_interface.specs.declared.ZvLayer.{ZvLayer}
 use Rattle.c_interface.specs.declared.ZvColumn.{ZvColumn}
 use Rattle.format.specs.Layout.{Col}
 use Rattle.format_words.specs.declared.Described.{Described}
 use Rattle.format_words.specs.declared.Described.the-variants as Described
 use Rattle.format_words.specs.Words.{refusalTo, layoutColumn, describedOf, nameTo}
-use Rattle.c_interface.specs.Interface.{numberOf, cornerOf, countsOf, lengthOf, wayOf, columnOf, Numbered, answers, refuses, WayNumbered, hasNone, hasHeader, refusesWay}
+use Rattle.c_interface.specs.Interface.{numberOf, cornerOf, countsOf, lengthOf, wayOf, layerOf, columnOf, Numbered, answers, refuses, WayNumbered, hasNone, hasHeader, refusesWay}
 use lib.ListN.{length}
 use Rattle.c_interface.proofs.Rooms.{line-has-room, refusal-has-room, name-has-room}
-use Rattle.c_interface.proofs.Numbered.{column-read, column-written, joined, parted, judged-sheet, judged-index, judged-sheet-lines, judged-index-lines, lines-written, plain-written, way-numbered, sheet-written, index-written, line-written, refusal-written, column-found, name-written, edited}
+use Rattle.c_interface.proofs.Numbered.{column-read, column-written, joined, parted, judged-sheet, judged-index, judged-sheet-lines, judged-index-lines, lines-written, plain-written, way-numbered, sheet-written, index-written, line-written, refusal-written, column-found, name-written, edited, judged-directory, directory-written, jumped, jumped-to}
 
 -- ---- what the calls answer
 pub read-numbered : (column : List ℕ) → Numbered (readAlone column)
@@ -73,6 +76,18 @@ normal-index-numbered = index-written
 
 pub edit-numbered : (edit : Edit) (b : Buffer) → Numbered ((call edit b) .reply)
 edit-numbered = edited
+
+pub directory-numbered : (used : ℕ) (buffer : List ℕ) → Numbered (judgeDirectory used buffer)
+directory-numbered = judged-directory
+
+pub append-numbered : (used : ℕ) (buffer : List ℕ) → Numbered ((appendDirectory One used buffer) .answer)
+append-numbered = directory-written
+
+pub jump-numbered : (used : ℕ) (buffer : List ℕ) (layer : ℕ) → Numbered (jump used buffer layer)
+jump-numbered = jumped
+
+pub jump-header : (used : ℕ) (buffer : List ℕ) (layer header : ℕ) → jump used buffer layer ≡ given header → 1 ≤ header
+jump-header = jumped-to
 
 pub report-numbered : (input out : List ℕ) → Numbered ((reportTo input out) .answer)
 report-numbered = line-written
@@ -137,6 +152,12 @@ way-tells hasHeader (refusesWay {n}) e = let z : 0 ≡ suc n = ap (λ (r : ZvWay
 way-tells (refusesWay {n}) hasNone e = let z : suc n ≡ 0 = ap (λ (r : ZvWay). r .refusal) e in absurd (omega arith)
 way-tells (refusesWay {n}) hasHeader e = let z : suc n ≡ 0 = ap (λ (r : ZvWay). r .refusal) e in absurd (omega arith)
 way-tells refusesWay refusesWay e = ap₂ refused (ap (λ (r : ZvWay). r .refusal) e) (ap (λ (r : ZvWay). r .at) e)
+
+pub layer-tells : {a b : Answer ℕ} → Numbered a → Numbered b → layerOf a ≡ layerOf b → a ≡ b
+layer-tells answers answers e = ap given (ap (λ (r : ZvLayer). r .header) e)
+layer-tells answers (refuses {n}) e = let z : 0 ≡ suc n = ap (λ (r : ZvLayer). r .refusal) e in absurd (omega arith)
+layer-tells (refuses {n}) answers e = let z : suc n ≡ 0 = ap (λ (r : ZvLayer). r .refusal) e in absurd (omega arith)
+layer-tells refuses refuses e = ap₂ refused (ap (λ (r : ZvLayer). r .refusal) e) (ap (λ (r : ZvLayer). r .at) e)
 
 same-column : {s w l s′ w′ l′ : ℕ} {v g v′ g′ : ℤ} → s ≡ s′ → w ≡ w′ → l ≡ l′ → v ≡ v′ → g ≡ g′ → Described.Column s w l v g ≡ Described.Column s′ w′ l′ v′ g′
 same-column e f h i j = rw (e, f, h, i, j)

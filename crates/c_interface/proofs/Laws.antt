@@ -26,15 +26,19 @@ use Rattle.format.specs.declared.Edited.the-variants as Edited
 use Rattle.format.specs.Answers.{stepFor}
 use Rattle.format.specs.declared.WayUp.{WayUp}
 use Rattle.format.specs.declared.WayUp.the-variants as WayUp
+use Rattle.format_directory.specs.Answers.{jumpedAnswer}
+use Rattle.format_directory.specs.declared.Jumped.{Jumped}
+use Rattle.format_directory.specs.declared.Jumped.the-variants as Jumped
 use Rattle.c_interface.specs.declared.ZvWay.{ZvWay}
 use Rattle.c_interface.specs.declared.ZvNumber.{ZvNumber}
 use Rattle.c_interface.specs.declared.ZvCorner.{ZvCorner}
 use Rattle.c_interface.specs.declared.ZvCounts.{ZvCounts}
 use Rattle.c_interface.specs.declared.ZvLength.{ZvLength}
+use Rattle.c_interface.specs.declared.ZvLayer.{ZvLayer}
 use Rattle.c_interface.specs.declared.ZvColumn.{ZvColumn}
 use Rattle.format_words.specs.declared.Described.{Described}
 use Rattle.format_words.specs.declared.Described.the-variants as Described
-use Rattle.c_interface.specs.Interface.{numberOf, cornerOf, countsOf, lengthOf, wayOf, columnOf, Wrote, wroteOf, editedOf}
+use Rattle.c_interface.specs.Interface.{numberOf, cornerOf, countsOf, lengthOf, wayOf, layerOf, columnOf, Wrote, wroteOf, editedOf}
 
 pub is-number : {a : Number} {v z : ℤ} → a ≡ Number.Is v → z ≡ v → _≡_ {A = ZvNumber} (record { refusal = 0; at = 0; value = z }) (numberOf (numberAnswer a))
 unfolding numberAnswer
@@ -80,6 +84,14 @@ pub no-way : {a : WayUp} {n r : ℕ} → a ≡ WayUp.Refused n r → _≡_ {A = 
 unfolding wayUpAnswer
 no-way e = rw e
 
+pub is-header : {a : Jumped} {n : ℕ} → a ≡ Jumped.Header n → _≡_ {A = ZvLayer} (record { refusal = 0; at = 0; header = n }) (layerOf (jumpedAnswer a))
+unfolding jumpedAnswer
+is-header e = rw e
+
+pub no-header : {a : Jumped} {n r : ℕ} → a ≡ Jumped.Refused n r → _≡_ {A = ZvLayer} (record { refusal = n; at = r; header = 0 }) (layerOf (jumpedAnswer a))
+unfolding jumpedAnswer
+no-header e = rw e
+
 pub is-column : {d : Described} {s w l : ℕ} {v g y z : ℤ} → d ≡ Described.Column s w l v g → y ≡ v → z ≡ g → _≡_ {A = ZvColumn} (record { refusal = 0; at = 0; start = s; width = w; content = l; least = y; greatest = z }) (columnOf d)
 is-column e f g = rw (e, f, g)
 
@@ -98,6 +110,9 @@ judged e f = e ∙ ap countsOf f
 
 pub ways : {r : ZvWay} {a b : Answer Way} → r ≡ wayOf a → a ≡ b → r ≡ wayOf b
 ways e f = e ∙ ap wayOf f
+
+pub layers : {r : ZvLayer} {a b : Answer ℕ} → r ≡ layerOf a → a ≡ b → r ≡ layerOf b
+layers e f = e ∙ ap layerOf f
 
 pub columns : {r : ZvColumn} {d e : Described} → r ≡ columnOf d → d ≡ e → r ≡ columnOf e
 columns e f = e ∙ ap columnOf f

@@ -1,13 +1,13 @@
--- Every refusal of every call has a number of at least 1, and so has every header that the way up answers. Assumes nothing.
-use mathlib.Core.Path.{_≡_, refl}
+-- Every refusal of every call has a number of at least 1, and so has every header that the way up or a jump answers. Assumes nothing.
+use mathlib.Core.Path.{_≡_, refl, sym, ap, _∙_}
 use mathlib.Core.Bool.{Bool, true, false, cond, _&&_}
 use mathlib.Core.List.{List, [], _∷_, _++_, map}
-use Prim.Native.Nat.{ℕ, zero, suc, _+_, _-_, _/_, _<_}
+use Prim.Native.Nat.{ℕ, zero, suc, pred, _+_, _-_, _*_, _/_, _<_, _≤_}
 use Prim.Native.String.{String}
 use native.Mathlib.Omega.{arith}
 use borrow.Author.Tests.{eqb-false}
 use lib.Dec.{leb, ltb, eqb}
-use lib.ListN.{length, drop}
+use lib.ListN.{length, take, drop}
 use lib.IntN.{ℤ}
 use Rattle.format.specs.Basics.{Answer, given, refused, Outcome, Fault, none, fault, orElse, toFault, unless, chunks, flat, lengthOk}
 use Rattle.format.specs.Column.{readAlone, writeAlone, columnAnswer, columnOf, widthOk, fits, written}
@@ -18,7 +18,7 @@ use Rattle.format.proofs.Corners.{wholeOf, fractionOf}
 use Rattle.format.proofs.ChecksJudging.{sheet-numbered}
 use Rattle.format.proofs.ChecksIndex.{index-numbered}
 use Rattle.format.specs.Record.{view}
-use Rattle.format.specs.Judge.{File, fileOf, Counts, judgeSheet, judgeIndex}
+use Rattle.format.specs.Judge.{File, fileOf, Counts, afterStageOne, judgeSheet, judgeIndex}
 use Rattle.format.specs.Above.{Way, noHeader, toHeader, aboveAt, headersMet, up}
 use Rattle.format.specs.Above as Above
 use Rattle.format.specs.Edit.{RecordList, blockOf, insertFault, inserted, remove11, removed}
@@ -27,9 +27,13 @@ use Rattle.format.specs.Run.{Buffer, listOf, call}
 use Rattle.format.specs.Run as Run
 use Rattle.format.specs.Normal.{normalTo, normalSheetRecords, normalIndexRecords, normalSheet, normalIndex}
 use Rattle.format.specs.Program.{printed, lineTo, reportTo}
-use Rattle.format.specs.Text.{bytes}
+use Rattle.format.specs.Text.{bytes, same}
 use Rattle.format.specs.Layout.{Col, layouts}
 use Rattle.format_lines.specs.LineEnds.{lines, endOk, endFault, plainFault, lineFault, plainTwin, lineTwin, otherwise, judgeSheetLines, judgeIndexLines, writeTo, targetFault, toLines, fromLines}
+use Rattle.format_directory.specs.declared.Edition.the-variants.{One}
+use Rattle.format_directory.specs.Directory.{layersOf, directoryOf, usedOk, lastRecord, pointerIn, layerCount, closingOk, recordsBefore, recordsFrom, differs, afterSheet, judgeFrom, afterClosing, judgeEdition, judgeDirectory, appendTo, appendDirectory, listedIn, directoryIn, jump}
+use Rattle.format_directory.specs.Directory as Directory
+use Rattle.format_directory.proofs.Claims.{jump-counts, jump-refuses}
 use Rattle.format_words.specs.Words.{fromZero, entry, refusals, textTo, refusalTo, columnIn, layoutColumn, nameOf, nameTo}
 use Rattle.c_interface.specs.Interface.{Numbered, answers, refuses, WayNumbered, hasNone, hasHeader, refusesWay}
 
@@ -105,6 +109,62 @@ lines-written used buffer target = file-written (lineTwin used buffer) target (f
 pub plain-written : (used : ℕ) (buffer target : List ℕ) → Numbered ((fromLines used buffer target) .answer)
 unfolding fromLines
 plain-written used buffer target = file-written (plainTwin used buffer) target (lines-numbered used buffer)
+
+-- ---- a directory of layers
+differs-numbered : (number : ℕ) (xs ys : List (List ℕ)) → FaultNumbered (differs number xs ys)
+differs-numbered number [] [] = no-fault
+differs-numbered number [] (y ∷ ys) = some-fault
+differs-numbered number (x ∷ xs) [] = some-fault
+differs-numbered number (x ∷ xs) (y ∷ ys) = fault-or (fault-to (unless (same x y) 19) number) (differs-numbered (suc number) xs ys)
+
+sheet-first : {a : Answer Counts} {f : Fault} → Numbered a → FaultNumbered f → Numbered (afterSheet a f)
+sheet-first answers no-fault = answers
+sheet-first answers some-fault = refuses
+sheet-first refuses q = refuses
+
+judged-from : (pointer used : ℕ) (buffer : List ℕ) → Numbered (judgeFrom One pointer used buffer)
+unfolding judgeFrom
+judged-from pointer used buffer = sheet-first (judged-sheet (84 * pred pointer) buffer) (differs-numbered pointer (recordsFrom pointer used buffer) (directoryOf One pointer (layersOf (recordsBefore pointer buffer))))
+
+closing-first : (t : Bool) (number : ℕ) {a : Answer Counts} → Numbered a → Numbered (afterClosing t number a)
+closing-first true number q = q
+closing-first false number q = refuses
+
+length-first : (t : Bool) {a : Answer Counts} → Numbered a → Numbered (afterStageOne t a)
+length-first true q = q
+length-first false q = refuses
+
+pub judged-directory : (used : ℕ) (buffer : List ℕ) → Numbered (judgeDirectory used buffer)
+unfolding judgeDirectory judgeEdition
+judged-directory used buffer = length-first (usedOk used buffer) (closing-first (closingOk One (used / 84) (lastRecord used buffer)) (used / 84) (judged-from (pointerIn (lastRecord used buffer)) used buffer))
+
+appended : {a : Answer Counts} (used : ℕ) (directory : List (List ℕ)) (buffer : List ℕ) → Numbered a → Numbered ((appendTo a used directory buffer) .answer)
+appended used directory buffer answers = written-or 14 (leb (used + 84 * length directory) (length buffer)) (used + 84 * length directory) (take used buffer ++ (flat directory ++ drop (used + 84 * length directory) buffer)) buffer
+appended used directory buffer refuses = refuses
+
+pub directory-written : (used : ℕ) (buffer : List ℕ) → Numbered ((appendDirectory One used buffer) .answer)
+unfolding appendDirectory
+directory-written used buffer = appended used (directoryOf One (suc (used / 84)) (layersOf (chunks (used / 84) buffer))) buffer (judged-sheet used buffer)
+
+jump-judged : {a : Answer Counts} {w : Answer ℕ} → Numbered a → Numbered w → Numbered (Directory.afterJudging a w)
+jump-judged answers q = q
+jump-judged refuses q = refuses
+
+pub jumped : (used : ℕ) (buffer : List ℕ) (n : ℕ) → Numbered (jump used buffer n)
+unfolding jump
+jumped used buffer n = jump-judged (judged-directory used buffer) (given-or 16 (leb 1 n && leb n (layerCount (lastRecord used buffer))) (listedIn One (directoryIn used buffer) n 0))
+
+-- a refusal counts as one that has a header
+abbrev headerIn : Answer ℕ → ℕ
+headerIn (given h) = h
+headerIn (refused n r) = 1
+
+pub jumped-to : (used : ℕ) (buffer : List ℕ) (n h : ℕ) → jump used buffer n ≡ given h → 1 ≤ h
+jumped-to used buffer n h e = go (judgeDirectory used buffer) refl
+  where
+    go : (a : Answer Counts) → judgeDirectory used buffer ≡ a → 1 ≤ h
+    go (given counts) f = omega (arith, (jump-counts used buffer counts n h f) .0 e .header .numbered)
+    go (refused k r) f = let d : 1 ≡ h = ap headerIn (sym (jump-refuses used buffer k r n f) ∙ e) in omega arith
 
 -- ---- columns and corners
 column-said : (c : Column) → Numbered (columnAnswer c)

@@ -14,6 +14,7 @@ use Rattle.c_interface.specs.declared.ZvNumber.{ZvNumber}
 use Rattle.c_interface.specs.declared.ZvCorner.{ZvCorner}
 use Rattle.c_interface.specs.declared.ZvCounts.{ZvCounts}
 use Rattle.c_interface.specs.declared.ZvLength.{ZvLength}
+use Rattle.c_interface.specs.declared.ZvLayer.{ZvLayer}
 use Rattle.c_interface.specs.declared.ZvColumn.{ZvColumn}
 
 -- 0.4.0: 10,000 times the major number, 100 times the minor one, and the patch
@@ -41,6 +42,10 @@ abbrev pub wayOf : Answer Way → ZvWay
 wayOf (given noHeader) = record { refusal = 0; at = 0; header = 0; passed = 0 }
 wayOf (given (toHeader number passed)) = record { refusal = 0; at = 0; header = number; passed = passed }
 wayOf (refused number at) = record { refusal = number; at = at; header = 0; passed = 0 }
+
+abbrev pub layerOf : Answer ℕ → ZvLayer
+layerOf (given n) = record { refusal = 0; at = 0; header = n }
+layerOf (refused number at) = record { refusal = number; at = at; header = 0 }
 
 abbrev pub columnOf : Described → ZvColumn
 columnOf (Described.Column start width letter least greatest) =

@@ -13,14 +13,18 @@ ghost use Rattle.format.specs.Normal.{normalSheet, normalIndex};
 ghost use Rattle.format.specs.Answers.{numberAnswer, writtenAnswer, partsAnswer, judgedAnswer, wayUpAnswer, editedAnswer};
 ghost use Rattle.format.specs.Program.{reportTo};
 ghost use Rattle.format_lines.specs.LineEnds.{judgeSheetLines, judgeIndexLines, toLines, fromLines};
+ghost use Rattle.format_directory.specs.declared.Edition.the-variants.{One};
+ghost use Rattle.format_directory.specs.Directory.{judgeDirectory, appendDirectory, jump};
+ghost use Rattle.format_directory.specs.Answers.{jumpedAnswer};
 ghost use Rattle.format_words.specs.Words.{refusalTo, layoutColumn, describedOf, nameTo};
-ghost use Rattle.c_interface.specs.Interface.{version, numberOf, cornerOf, countsOf, lengthOf, wayOf, columnOf, wroteOf, editedOf};
+ghost use Rattle.c_interface.specs.Interface.{version, numberOf, cornerOf, countsOf, lengthOf, wayOf, layerOf, columnOf, wroteOf, editedOf};
 use format::Edited;
 use format::Judged;
 use format::Number;
 use format::Parts;
 use format::WayUp;
 use format::Written;
+use format_directory::Jumped;
 use format_words::Described;
 
 // The version: 10,000 times the major number, 100 times the minor one, and the patch.
@@ -63,6 +67,13 @@ pub struct ZvWay {
     pub at: usize,
     pub header: usize,
     pub passed: usize,
+}
+
+#[repr(C)]
+pub struct ZvLayer {
+    pub refusal: u64,
+    pub at: usize,
+    pub header: usize,
 }
 
 // `content` is the letter for what may stand in the column.
@@ -315,6 +326,46 @@ pub extern "C" fn zv_remove(buffer: &mut [u8], used: usize, place: usize) -> ZvL
         ≡ editedOf (call (remove place) (record { bytes = now (buffer .entry); used = used })) ⌝ }
 {
     edited(edit::remove(buffer, used, place))
+}
+
+// A sheet with a directory of its layers judged; and one appended to a sheet: the answer's length is the new used length.
+#[no_mangle]
+pub extern "C" fn zv_judge_directory(buffer: &[u8], used: usize) -> ZvCounts
+    ensures { λ r. ⌜ r ≡ countsOf (judgeDirectory used (now (buffer .entry))) ⌝ }
+{
+    counts(directories::judge_directory(buffer, used))
+}
+
+#[no_mangle]
+pub extern "C" fn zv_append_directory(buffer: &mut [u8], used: usize) -> ZvLength
+    ensures { λ r. ⌜ record { result = r; bytes = now (buffer .exit) } ≡ wroteOf (appendDirectory One used (now (buffer .entry))) ⌝ }
+{
+    edited(directories::append_directory(buffer, used))
+}
+
+fn layer_struct(answer: Jumped) -> ZvLayer
+    ensures { λ r. ⌜ r ≡ layerOf (jumpedAnswer answer) ⌝ }
+{
+    match answer {
+        Jumped::Header(found) => ZvLayer {
+            refusal: 0,
+            at: 0,
+            header: found,
+        },
+        Jumped::Refused(refusal, at) => ZvLayer {
+            refusal: refusal as u64,
+            at,
+            header: 0,
+        },
+    }
+}
+
+// The header of a layer, counted from 1, by the directory of the sheet.
+#[no_mangle]
+pub extern "C" fn zv_jump(buffer: &[u8], used: usize, layer: usize) -> ZvLayer
+    ensures { λ r. ⌜ r ≡ layerOf (jump used (now (buffer .entry)) layer) ⌝ }
+{
+    layer_struct(directories::jump(buffer, used, layer))
 }
 
 // The line that the program prints on an input, put at the start of a buffer: the answer's length is the line's, its end included. 65 bytes always hold it.
