@@ -20,7 +20,7 @@ fn the_example_takes_a_sheet_through_every_call() {
     assert_eq!(status, Some(0), "{printed}");
     assert!(printed.ends_with("all as expected\n"), "{printed}");
     let calls = c::calls();
-    assert!(calls.len() >= 20, "the header declares its calls a line each");
+    assert!(calls.len() >= 23, "the header declares its calls a line each");
     for call in calls {
         assert!(printed.contains(&format!("{}: as expected\n", call.name)), "{}: {printed}", call.name);
     }
@@ -28,7 +28,10 @@ fn the_example_takes_a_sheet_through_every_call() {
 
 #[test]
 fn the_example_judges_files() {
-    let answers = examples("example_files", &[&["crates/dm/stdin"], &["crates.txt"], &["no such file"]]);
+    let files = c::Folder::new("example_inputs");
+    let cut = files.path("cut");
+    std::fs::write(&cut, &zvaigulta::EXAMPLE[..100]).expect("a file");
+    let answers = examples("example_files", &[&["crates/dm/stdin"], &[&cut], &["no such file"]]);
     let words = "the length is 0, above the buffer, no multiple of 84 (lines: 86) or above 200,000 records";
     assert_eq!(answers[0], (Some(0), "accepted 9 records 1 items\n".to_string()));
     assert_eq!(answers[1], (Some(1), format!("refused 1: {words}\n")));
@@ -58,7 +61,9 @@ fn the_header_stops_a_compiler_that_lays_the_structs_out_in_another_way() {
     for language in [["-x", "c", "-std=c99"], ["-x", "c", "-std=c11"], ["-x", "c++", "-std=c++98"], ["-x", "c++", "-std=c++11"]] {
         // Words of 64 bits with pointers and lengths of 32.
         let said = said_for("-mx32", &language);
-        for name in ["zv_offset_of_number_at", "zv_size_of_counts", "zv_size_of_column", "zv_offset_of_column_start"] {
+        for name in
+            ["zv_offset_of_number_at", "zv_size_of_counts", "zv_size_of_layer", "zv_size_of_column", "zv_offset_of_column_start"]
+        {
             assert!(said.contains(name), "{language:?}: {said}");
         }
         assert!(said_for("-m32", &language).contains("zvaigulta is a library for x86-64 Linux"), "{language:?}");

@@ -6,7 +6,7 @@ mod c;
 use zvaigulta::layout::{Allowed, Column, Content, ALL};
 use zvaigulta::Reason;
 
-const REFUSALS: u64 = 18;
+const REFUSALS: u64 = 19;
 
 /// The line that words.c prints of a refusal.
 fn refusal_line(number: u64) -> String {

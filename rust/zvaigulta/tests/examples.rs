@@ -33,6 +33,12 @@ fn editing_a_sheet() {
 }
 
 #[test]
+fn a_directory_of_layers() {
+    let lines = ["accepted 9 records 1 items; 11 records with its directory", "layer 1: the header is record 6, class 2100"];
+    assert_eq!(printed("layers", &[]), lines.join("\n") + "\n");
+}
+
+#[test]
 fn reading_corners() {
     let lines =
         ["lower left X: -1234056 mm", "lower left Y: 5678050 mm", "upper right X: -934000 mm", "upper right Y: 5978000 mm"];

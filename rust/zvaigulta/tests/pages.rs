@@ -46,11 +46,11 @@ fn every_column_of_every_layout() {
 #[test]
 fn every_refusal_with_its_words() {
     let (refusals, readme) = (page("docs/REFUSALS.md"), page("README.md"));
-    for number in 1..=18 {
+    for number in 1..=19 {
         let reason = Reason::from_number(number);
         assert!(refusals.contains(&format!("## {number}. ")) && refusals.contains(&reason.to_string()), "{number}: {reason}");
     }
-    assert!(!refusals.contains("## 19. ") || Reason::from_number(19) != Reason::Other(19));
+    assert!(!refusals.contains("## 20. ") || Reason::from_number(20) != Reason::Other(20));
     assert!(readme.contains("docs/REFUSALS.md") && readme.contains("docs/FORMAT.md"));
 }
 
