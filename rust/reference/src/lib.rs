@@ -8,6 +8,7 @@
 pub mod calls;
 pub mod column;
 pub mod corner;
+pub mod directory;
 pub mod edit;
 pub mod judge;
 pub mod layout;

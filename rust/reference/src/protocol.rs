@@ -1,7 +1,7 @@
 //! The batch protocol answered by the reference, one command to a line; and beside its commands
 //! `formed START COUNT BYTES`, whether so many seven-byte columns from a start are well formed: `yes` or `no`.
 
-use crate::{column, corner, edit, judge, lines, normal, program, way_up, Refusal};
+use crate::{column, corner, directory, edit, judge, lines, normal, program, way_up, Refusal};
 
 type Words<'a> = std::str::SplitWhitespace<'a>;
 
@@ -88,6 +88,25 @@ fn leaf(command: &str, w: &mut Words) -> Result<String, String> {
     }
 }
 
+/// The commands of order 5, on sheets with a directory.
+fn order_5(command: &str, w: &mut Words) -> Result<String, String> {
+    match command {
+        "directory" => {
+            let (used, buffer) = (used(w)?, bytes(w)?);
+            Ok(said(directory::sheet(&buffer, used).map(|c| format!("{} {}", c.records, c.items))))
+        }
+        "append" => {
+            let (used, mut buffer) = (used(w)?, bytes(w)?);
+            Ok(said(directory::append(&mut buffer, used).map(|n| format!("{n} {}", hex(&buffer)))))
+        }
+        "jump" => {
+            let (used, buffer, layer) = (used(w)?, bytes(w)?, number(w)?);
+            Ok(said(directory::jump(&buffer, used, layer).map(|header| header.to_string())))
+        }
+        other => leaf(other, w),
+    }
+}
+
 /// The commands of order 1, on files with line ends.
 fn order_1(command: &str, w: &mut Words) -> Result<String, String> {
     match command {
@@ -101,7 +120,7 @@ fn order_1(command: &str, w: &mut Words) -> Result<String, String> {
             let write = if command == "to86" { lines::to_lines } else { lines::from_lines };
             Ok(said(write(&buffer, used, &mut target).map(|n| format!("{n} {}", hex(&target)))))
         }
-        other => leaf(other, w),
+        other => order_5(other, w),
     }
 }
 
