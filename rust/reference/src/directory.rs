@@ -16,7 +16,7 @@ struct Edition {
 const FIRST: Edition = Edition { list: "Z ", end: "ZE", layers: 11 };
 
 /// A record: its letters, I7 columns in written form, and the rest spaces.
-fn record(letters: &str, numbers: &[i64]) -> Vec<u8> {
+pub fn record(letters: &str, numbers: &[i64]) -> Vec<u8> {
     let mut bytes = letters.as_bytes().to_vec();
     numbers.iter().for_each(|n| bytes.extend(column::write(7, *n).expect("a number of seven columns")));
     bytes.resize(RECORD, b' ');
@@ -24,7 +24,7 @@ fn record(letters: &str, numbers: &[i64]) -> Vec<u8> {
 }
 
 /// The record numbers of the layer headers, counted from the front.
-fn layers(walked: &Walked) -> Vec<usize> {
+pub fn layers(walked: &Walked) -> Vec<usize> {
     let is_layer = |f: &&judge::Found| f.sort == Sort::Header && f.level == 1;
     walked.found.iter().filter(is_layer).map(|f| f.place + 1).collect()
 }

@@ -9,6 +9,7 @@ pub mod calls;
 pub mod column;
 pub mod corner;
 pub mod directory;
+pub mod directory_calls;
 pub mod edit;
 pub mod judge;
 pub mod layout;

@@ -366,11 +366,23 @@ pub fn sheet_of_points(records: usize) -> Vec<u8> {
     sheet_of(&mut Random(3), body, items)
 }
 
+/// An accepted sheet of just so many records, all behind the sheet part empty layers.
+pub fn sheet_of_layers(records: usize) -> Vec<u8> {
+    let part = sheet_of(&mut Random(3), Vec::new(), 0).len() / RECORD;
+    sheet_of(&mut Random(3), vec![layer(&[]); records - part], 0)
+}
+
 /// A random accepted sheet; `size` bounds its branching.
 pub fn sheet(r: &mut Random, size: usize) -> Vec<u8> {
+    let layers = r.below(4);
+    sheet_with_layers(r, layers, size)
+}
+
+/// A random accepted sheet of so many layers.
+pub fn sheet_with_layers(r: &mut Random, layers: usize, size: usize) -> Vec<u8> {
     let mut out = Vec::new();
     let mut items = 0;
-    for _ in 0..r.below(4) {
+    for _ in 0..layers {
         items += if r.once_in(5) {
             let depth = 1 + r.below(8);
             chain(r, depth, &mut out)

@@ -222,6 +222,25 @@ fn jumping_gives_what_counting_from_the_front_gives() {
     assert_eq!(refused(jump(sheet.as_bytes(), sheet.len(), 0)), Some((19, 11)));
 }
 
+/// 199,995 layers behind a sheet part of five records: 18,182 records list them, and the file has more than 200,000.
+#[test]
+fn two_hundred_thousand_records_of_layers() {
+    let sheet = layers(199_995);
+    let used = 200_000 * RECORD;
+    let mut file = [sheet.as_bytes(), &[b' '; 18_183 * RECORD]].concat();
+    assert_eq!(append(&mut file, used), Ok(218_183 * RECORD));
+    assert!(file.ends_with(record("ZE 200001 199995").as_bytes()));
+    let last_row = record("Z  199997 199998 199999 200000");
+    assert_eq!(&file[218_181 * RECORD..218_182 * RECORD], last_row.as_bytes());
+    assert_eq!(judged(std::str::from_utf8(&file).expect("text")), Ok((200_000, 0)));
+    assert_eq!(jump(&file, file.len(), 199_995), Ok(200_000));
+    assert_eq!(refused(judge::sheet(&file, file.len())), Some((1, 0)));
+    // one layer more: the sheet before the pointer is too long
+    let longer = layers(199_996) + &record("Z  200001") + &record("ZE 200002 199996");
+    assert_eq!(judged(&longer), Err((1, 0)));
+    assert_eq!(refused(append(&mut longer.into_bytes(), 200_001 * RECORD)), Some((1, 0)));
+}
+
 #[test]
 fn the_commands_of_the_batch_protocol() {
     let directory = appended(&example());

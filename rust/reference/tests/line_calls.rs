@@ -1,25 +1,12 @@
 //! The drawn calls of order 1 meet every case that its sentences tell apart, each with its answer.
 
+mod support;
+
 use reference::line_calls::{from_lines, judging, to_lines, Lent, Writing};
 use reference::lines::{self, END, LINE};
 use reference::random::Random;
 use reference::{judge, Refusal, RECORD};
-use std::collections::BTreeMap;
-
-/// How often each case came.
-#[derive(Default)]
-struct Seen(BTreeMap<String, usize>);
-
-impl Seen {
-    fn see(&mut self, name: impl Into<String>, is: bool) {
-        *self.0.entry(name.into()).or_default() += usize::from(is);
-    }
-
-    /// Every case that was asked for came.
-    fn all(&self, times: usize) {
-        assert!(self.0.values().all(|n| *n >= times), "{:?}", self.0);
-    }
-}
+use support::Seen;
 
 /// The records, from 1, that do not end in a line end, with what they end in.
 fn broken(lent: &Lent) -> Vec<(usize, [u8; 2])> {

@@ -1,8 +1,8 @@
 //! Makes commands of the batch protocol from a seed: `generate leaves SEED COUNT` on columns and corners, `generate lines SEED COUNT` on files with
-//! line ends.
+//! line ends, `generate directories SEED COUNT` on sheets with a directory.
 
-use reference::line_calls;
 use reference::vectors::leaves;
+use reference::{directory_calls, line_calls};
 use std::io::{self, Write};
 
 fn main() -> io::Result<()> {
@@ -15,8 +15,11 @@ fn main() -> io::Result<()> {
         ["lines", seed, count] => {
             io::stdout().write_all(&line_calls::commands(seed.parse().expect("a seed"), count.parse().expect("a count")))
         }
+        ["directories", seed, count] => {
+            io::stdout().write_all(&directory_calls::commands(seed.parse().expect("a seed"), count.parse().expect("a count")))
+        }
         _ => {
-            eprintln!("usage: generate leaves|lines SEED COUNT");
+            eprintln!("usage: generate leaves|lines|directories SEED COUNT");
             std::process::exit(2);
         }
     }
