@@ -1,7 +1,7 @@
 //! The stored vectors are what the reference makes from their seeds and answers, to the byte. docs/ARCHITECTURE.md, "The reference", has the
 //! commands that make them anew.
 
-use reference::vectors::{edits, files, leaves, lines};
+use reference::vectors::{directories, edits, files, leaves, lines};
 
 fn stored(name: &str) -> Vec<u8> {
     let path = concat!(env!("CARGO_MANIFEST_DIR"), "/../../crates/").to_string() + name;
@@ -50,4 +50,10 @@ fn edit_vectors() {
 fn line_vectors() {
     same("line_vectors/stdin", &lines::make(9));
     same("line_vectors/stdout", &lines::answer(&stored("line_vectors/stdin")));
+}
+
+#[test]
+fn directory_vectors() {
+    same("directory_vectors/stdin", &directories::make(12));
+    same("directory_vectors/stdout", &directories::answer(&stored("directory_vectors/stdin")));
 }
