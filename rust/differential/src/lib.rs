@@ -4,12 +4,15 @@
 //! can be repeated by `dmtool batch` and by the reference's `oracle`. The tests run some tens of thousands of cases, `differential CASES` millions.
 
 mod bytes;
+mod directories;
 mod edits;
 mod files;
 mod lines;
 mod numbers;
 
-pub use bytes::{every_byte_of_a_sheet, every_byte_of_an_index, every_byte_of_lines, every_line_end};
+pub use bytes::{
+    every_byte_of_a_directory, every_byte_of_a_sheet, every_byte_of_an_index, every_byte_of_lines, every_line_end, every_pointer,
+};
 
 use reference::random::Random;
 use reference::Refusal;
@@ -54,7 +57,7 @@ pub struct Area {
 }
 
 /// All areas: every public call is in one.
-pub const AREAS: [Area; 14] = [
+pub const AREAS: [Area; 17] = [
     Area { name: "reading columns", run: numbers::reading, answers: &[0, 5, 16] },
     Area { name: "writing columns", run: numbers::writing, answers: &[0, 16] },
     Area { name: "joining corners", run: numbers::joining, answers: &[0, 9, 16] },
@@ -68,5 +71,8 @@ pub const AREAS: [Area; 14] = [
     Area { name: "indexes with line ends", run: lines::indexes, answers: &[0, 1, 2, 3, 5, 6, 10, 18] },
     Area { name: "writing line ends", run: lines::to_lines, answers: &[0, 1, 15] },
     Area { name: "taking line ends off", run: lines::from_lines, answers: &[0, 1, 15, 18] },
+    Area { name: "judging with directory", run: directories::judging, answers: &[0, 1, 2, 3, 4, 5, 6, 7, 8, 9, 10, 19] },
+    Area { name: "appending a directory", run: directories::appending, answers: &[0, 1, 2, 3, 4, 5, 6, 7, 8, 9, 10, 15] },
+    Area { name: "jumping by a directory", run: directories::jumping, answers: &[0, 1, 2, 3, 4, 5, 6, 7, 8, 9, 10, 17, 19] },
     Area { name: "lists of edits", run: edits::lists, answers: &[0, 1, 10, 11, 12, 13, 14, 15] },
 ];

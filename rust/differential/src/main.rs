@@ -1,8 +1,11 @@
-//! `differential [CASES [SEED [WORDS]]]`: every area with so many cases (a million if not said), from a seed, and every byte of small files and
-//! every line end; with words, only what has them in its name, as `differential 1000000 7 "line end"`. Ends with status 1 and the case at the first
-//! difference.
+//! `differential [CASES [SEED [WORDS]]]`: every area with so many cases (a million if not said), from a seed, and every byte of small files, every
+//! line end and every pointer of a directory; with words, only what has them in its name, as `differential 1000000 7 "line end"`. Ends with status 1
+//! and the case at the first difference.
 
-use differential::{every_byte_of_a_sheet, every_byte_of_an_index, every_byte_of_lines, every_line_end, Answers, AREAS};
+use differential::{
+    every_byte_of_a_directory, every_byte_of_a_sheet, every_byte_of_an_index, every_byte_of_lines, every_line_end, every_pointer,
+    Answers, AREAS,
+};
 use reference::random::Random;
 use std::process::exit;
 use std::time::Instant;
@@ -10,11 +13,13 @@ use std::time::Instant;
 /// Tries every byte of a file that a seed gives.
 type Run = fn(u64) -> Result<Answers, String>;
 
-const EVERY_BYTE: [(&str, Run); 4] = [
+const EVERY_BYTE: [(&str, Run); 6] = [
     ("every byte of a sheet", every_byte_of_a_sheet),
     ("every byte of an index", every_byte_of_an_index),
     ("every byte with line ends", every_byte_of_lines),
     ("every line end", every_line_end),
+    ("every byte of a directory", every_byte_of_a_directory),
+    ("every pointer of a directory", every_pointer),
 ];
 
 fn report(name: &str, start: Instant, found: Result<Answers, String>) {
@@ -22,7 +27,7 @@ fn report(name: &str, start: Instant, found: Result<Answers, String>) {
         Ok(answers) => {
             let cases: usize = answers.0.values().sum();
             println!(
-                "{name:<26} {cases:>10} cases, no difference, {:>6.1} s; answers {:?}",
+                "{name:<28} {cases:>10} cases, no difference, {:>6.1} s; answers {:?}",
                 start.elapsed().as_secs_f64(),
                 answers.0
             );

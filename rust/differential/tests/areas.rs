@@ -1,6 +1,9 @@
 //! Tens of thousands of cases in each area; and what random files do not reach: the technician's grid and the limits of 200,000 records.
 
-use differential::{every_byte_of_a_sheet, every_byte_of_an_index, every_byte_of_lines, every_line_end, Answers, AREAS};
+use differential::{
+    every_byte_of_a_directory, every_byte_of_a_sheet, every_byte_of_an_index, every_byte_of_lines, every_line_end, every_pointer,
+    Answers, AREAS,
+};
 use reference::random::Random;
 use reference::{sheets, RECORD};
 use zvaigulta::{insert, judge_index, judge_sheet, remove, Refusal};
@@ -39,6 +42,9 @@ areas! {
     indexes_with_line_ends: "indexes with line ends", 30_000;
     writing_line_ends: "writing line ends", 30_000;
     taking_line_ends_off: "taking line ends off", 30_000;
+    judging_with_directory: "judging with directory", 20_000;
+    appending_a_directory: "appending a directory", 10_000;
+    jumping_by_a_directory: "jumping by a directory", 20_000;
     lists_of_edits: "lists of edits", 30_000;
 }
 
@@ -57,6 +63,17 @@ fn no_difference_in_every_byte_of_files_with_line_ends() {
     assert!(answers.have(&[0, 2, 4, 5, 6, 18]), "{:?}", answers.0);
     let answers = every_line_end(4).unwrap();
     assert_eq!(answers.0.into_iter().collect::<Vec<_>>(), [(0, 6), (18, 6 * 65_535)]);
+}
+
+/// A byte of the directory's three records is one of 256: right is one of them.
+#[test]
+fn no_difference_in_every_byte_of_a_directory() {
+    let answers = every_byte_of_a_directory(4).unwrap();
+    let bytes = 3 * RECORD;
+    assert_eq!(answers.0.values().sum::<usize>(), 256 * bytes);
+    assert_eq!(answers.0.get(&0), Some(&bytes), "{:?}", answers.0);
+    let answers = every_pointer(4).unwrap();
+    assert!(answers.have(&[0, 1, 3, 4, 10, 19]), "{:?}", answers.0);
 }
 
 fn refused<T>(answer: Result<T, Refusal>) -> Option<(u64, usize)> {
