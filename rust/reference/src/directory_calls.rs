@@ -268,6 +268,10 @@ fn some_file(r: &mut Random, mut l: Listed) -> Vec<u8> {
         34 => return disguised(r),
         _ => {}
     }
+    // with two faults it shows which one is answered
+    if r.once_in(5) {
+        wrong_end(r, &mut l);
+    }
     l.file()
 }
 

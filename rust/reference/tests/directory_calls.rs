@@ -54,25 +54,45 @@ fn lengths(seen: &mut Seen, lent: &Lent, number: u8) {
     seen.see("1: no multiple of 84", !whole && used <= length && number == 1);
 }
 
+/// What the file would answer with a well-formed last record of the same numbers, where they can be read.
+fn mended(records: &[&[u8]]) -> (u8, usize) {
+    let last = records[records.len() - 1];
+    let number = |bytes: &[u8]| if let Column::Value(n) = parse(bytes) { n } else { 0 };
+    let end = directory::record("ZE", &[number(&last[2..9]), number(&last[9..16])]);
+    let file = [&records[..records.len() - 1].concat(), &end[..]].concat();
+    answered(&directory::sheet(&file, file.len()))
+}
+
+/// One thing alone is wrong with the last record; often with another fault before it, which is not answered.
+fn alone(seen: &mut Seen, name: &str, is: bool, before: (u8, usize), own: usize) {
+    seen.see(format!("19, {name}"), is);
+    seen.see(format!("19, {name}: not what the sheet would answer"), is && (1..=10).contains(&before.0));
+    seen.see(format!("19, {name}: not what a row would answer"), is && before.0 == 19 && before.1 < own);
+}
+
 /// What is wrong with the last record, where one thing alone is; answers its pointer, where nothing is.
 fn last_record(seen: &mut Seen, records: &[&[u8]], answer: (u8, usize)) -> Option<usize> {
     let (own, last) = (records.len(), records[records.len() - 1]);
     let (letters, rest) = (last.starts_with(b"ZE"), blank(&last[16..]));
     let (pointer, count) = (column(&last[2..9]), column(&last[9..16]));
     let inside = pointer.is_ok_and(|n| (1..=own as i64).contains(&n));
+    let whole = letters && rest && inside && count.is_ok();
     let refused = answer == (19, own);
-    seen.see("19, the last record: letters", !letters && rest && inside && count.is_ok() && refused);
-    seen.see("19, the last record: a used rest", letters && !rest && inside && count.is_ok() && refused);
+    let before = if refused && !whole { mended(records) } else { (0, 0) };
+    alone(seen, "letters of the last record", !letters && rest && inside && count.is_ok() && refused, before, own);
+    alone(seen, "a used rest of the last record", letters && !rest && inside && count.is_ok() && refused, before, own);
+    let zeros = letters && rest && pointer == Err("with zeros in front") && count.is_ok() && refused;
+    alone(seen, "a pointer with zeros in front", zeros, before, own);
     for form in NOT_WRITTEN {
         seen.see(format!("19, the pointer: {form}"), letters && rest && pointer == Err(form) && count.is_ok() && refused);
-        seen.see(format!("19, the count: {form}"), letters && rest && inside && count == Err(form) && refused);
+        let count = letters && rest && inside && count == Err(form) && refused;
+        alone(seen, &format!("a count {form}"), count, before, own);
     }
-    let alone = letters && rest && count.is_ok() && refused;
-    seen.see("19, the pointer: 0", alone && pointer == Ok(0));
-    seen.see("19, the pointer: negative", alone && pointer.is_ok_and(|n| n < 0));
-    seen.see("19, the pointer: one past itself", alone && pointer == Ok(own as i64 + 1));
-    seen.see("19, the pointer: far past itself", alone && pointer.is_ok_and(|n| n > own as i64 + 1));
-    let whole = letters && rest && inside && count.is_ok();
+    let outside = letters && rest && count.is_ok() && refused;
+    seen.see("19, the pointer: 0", outside && pointer == Ok(0));
+    seen.see("19, the pointer: negative", outside && pointer.is_ok_and(|n| n < 0));
+    seen.see("19, the pointer: one past itself", outside && pointer == Ok(own as i64 + 1));
+    seen.see("19, the pointer: far past itself", outside && pointer.is_ok_and(|n| n > own as i64 + 1));
     whole.then(|| pointer.expect("a pointer") as usize)
 }
 
@@ -92,6 +112,9 @@ fn pointers(seen: &mut Seen, records: &[&[u8]], pointer: usize, answer: (u8, usi
     seen.see("3: the data of an attribute are a directory", starts(b"Z ") && answer.0 == 3 && answer.1 > 1);
     seen.see("10: the pointer is at a header", starts(b"H ") && answer == (10, 2));
     seen.see("10: the pointer is at an item", starts(b"E") && answer == (10, 2));
+    let negative = column(&records[records.len() - 1][9..16]).is_ok_and(|n| n < 0);
+    seen.see("1 to 10 of the sheet, the count negative", negative && (1..=10).contains(&answer.0));
+    seen.see("19 of a row, the count negative", negative && answer.0 == 19 && answer.1 < records.len());
     (2..=10).for_each(|n| seen.see(format!("{n} of the sheet, the directory behind it"), starts(b"Z") && answer.0 == n));
 }
 
@@ -248,6 +271,8 @@ fn appending_meets_every_case() {
         (2..=10).for_each(|n| seen.see(format!("refused with {n}"), answer.0 == n));
         let directory = answer.0 == 4 && records(&lent).is_some_and(|all| all[answer.1 - 1].starts_with(b"Z"));
         seen.see("4: the sheet has a directory", directory);
+        let short = lent.buffer.len() < lent.used.saturating_add(RECORD);
+        seen.see("2 to 10, not 15", (2..=10).contains(&answer.0) && short);
         if let Some(counts) = accepted(&lent.buffer, lent.used).ok().map(|(_, counts)| counts) {
             rooms(&mut seen, &lent, appended);
             held(&mut seen, &lent, counts);

@@ -54,6 +54,6 @@ fn line_vectors() {
 
 #[test]
 fn directory_vectors() {
-    same("directory_vectors/stdin", &directories::make(12));
+    same("directory_vectors/stdin", &directories::make(16));
     same("directory_vectors/stdout", &directories::answer(&stored("directory_vectors/stdin")));
 }

@@ -156,6 +156,18 @@ fn ends() -> Vec<Case> {
     texts.chain([&last_byte.as_str()]).map(|text| whole(with(&empty_layers(1), &["Z       6", text]))).collect()
 }
 
+/// Two faults in a file of eight records, in the sheet, in the record that lists its layer or in the last one: which is answered.
+fn two_faults() -> Vec<Case> {
+    let (right, row) = (empty_layers(1), "Z       7");
+    let mut wrong = right.clone();
+    wrong[..2].copy_from_slice(b"m ");
+    let ends =
+        ["ZE      7     01", "ZE    007      1", "ZE      7      1x", "ZE      7     -1", "Ze      7      1", "ZE      9      1"];
+    let files = ends.iter().flat_map(|end| [with(&right, &[row, end]), with(&wrong, &["Z       6", end])]);
+    let both = with(&wrong, &[row, "ZE      7      1"]);
+    files.map(whole).chain([whole(both.clone()), jump(both, 0), jump(with(&right, &[row, "ZE      7      1"]), 0)]).collect()
+}
+
 /// Every pointer into the example: the sheet part, the layer, the item, the directory and the last record itself.
 fn pointers() -> Vec<Case> {
     let end = |pointer: usize| format!("ZE{pointer:>7}      1");
@@ -258,7 +270,10 @@ fn alikes() -> Vec<Case> {
 
 /// Cases whose bytes are stated here, beside the example of document 01.
 fn fixed() -> Vec<Case> {
-    [documented(), counts(), ends(), pointers(), rows(), two_rows(), lengths(), rooms(), alikes()].into_iter().flatten().collect()
+    [documented(), counts(), ends(), two_faults(), pointers(), rows(), two_rows(), lengths(), rooms(), alikes()]
+        .into_iter()
+        .flatten()
+        .collect()
 }
 
 fn drawn(r: &mut Random, call: Call) -> Case {
