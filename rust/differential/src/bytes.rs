@@ -81,10 +81,10 @@ pub fn every_byte_of_a_directory(seed: u64) -> Result<Answers, String> {
     let sheet = sheets::sheet_of(&mut r, vec![sheets::layer(&[]); 12], 0);
     let mut file = with_directory(&sheet);
     let mut answers = Answers::default();
-    for at in (sheet.len()..file.len()).flat_map(|at| (0..=255).map(move |byte| (at, byte))) {
-        let before = std::mem::replace(&mut file[at.0], at.1);
+    for (at, byte) in (sheet.len()..file.len()).flat_map(|at| (0..=255).map(move |byte| (at, byte))) {
+        let before = std::mem::replace(&mut file[at], byte);
         directories::judge(&file, file.len(), &mut answers)?;
-        file[at.0] = before;
+        file[at] = before;
     }
     Ok(answers)
 }

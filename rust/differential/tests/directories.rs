@@ -13,7 +13,7 @@ fn refused<T>(answer: Result<T, Refusal>) -> Option<(u64, usize)> {
     answer.err().map(|refusal| (refusal.number(), refusal.record.unwrap_or(0)))
 }
 
-/// The sheet with the reference's directory behind it, and where its records start.
+/// The sheet with the reference's directory behind it.
 fn with_directory(sheet: &[u8]) -> Vec<u8> {
     let mut file = sheet.to_vec();
     file.resize(2 * sheet.len() + RECORD, b' ');

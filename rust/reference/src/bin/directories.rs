@@ -1,4 +1,5 @@
-//! `directories make SEED` writes cases for the program `directory_vectors`, `directories answer` reads such cases and writes what the program has to print.
+//! `directories make SEED` writes cases for the program `directory_vectors`, `directories answer` reads such cases and writes what the program has to
+//! print.
 
 use reference::vectors::directories;
 use std::io::{self, Read, Write};

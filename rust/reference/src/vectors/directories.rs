@@ -1,7 +1,7 @@
 //! Calls on sheets with a directory, for the program `directory_vectors`.
 //!
-//! A case is a line of 39 bytes: `directory`, `append` or `jump` in ten bytes, the used length and the layer in ten digits each, the buffer's length in
-//! six, a space behind either of the first two, and a line end; then the buffer's bytes.
+//! A case is a line of 39 bytes: `directory`, `append` or `jump` in ten bytes, the used length and the layer in ten digits each with a space behind
+//! them, the buffer's length in six digits, and a line end; then the buffer's bytes.
 //!
 //! A judgement answers `ok RECORDS ITEMS` or `no NUMBER RECORD`; an append `ok USED` or `no NUMBER RECORD`, and behind it the digest of the whole
 //! buffer; a jump `ok RECORD` or `no NUMBER RECORD`.
