@@ -1,7 +1,7 @@
 //! The two forms of a file: records end to end, or with a line end behind each.
 
 use crate::line_ends::{crlf, reads_as_plain};
-use crate::{from_lines, to_lines, Refusal, LINE_RECORD_BYTES, RECORD_BYTES};
+use crate::{from_lines, to_lines, Refusal, LINE_RECORD_BYTES, MOST_RECORDS, RECORD_BYTES};
 use std::borrow::Cow;
 use std::fmt;
 
@@ -32,8 +32,8 @@ pub enum Form {
 impl Form {
     /// The form in which bytes, a file or a block, are to be read: with line ends where at least as many of their records end so as do not,
     /// counted anew behind a line of another length, or where one at least does, not the last alone behind whole plain records, and the length is a
-    /// multiple of 86 and not of 84; else plain. What is accepted as a plain file, a plain sheet that is refused for its counts alone (10), and a
-    /// sound plain block are always plain.
+    /// multiple of 86 and not of 84; else plain. What is accepted as a plain file, a plain sheet that is refused for its counts alone (10), both with a
+    /// directory of layers or without, and a sound plain block are always plain.
     ///
     /// So a file with line ends is known for one while some of them are broken or bytes of it are lost, and judging then says where.
     ///
@@ -63,33 +63,26 @@ impl Form {
         }
     }
 
-    /// The plain twin of a file in this form, by [`from_lines`].
+    /// The plain twin of a file in this form, by [`from_lines`]. A file of more than 200,000 records, as a sheet with a directory of layers may have,
+    /// is taken in parts.
     ///
     /// # Errors
-    /// None for a plain file, which is its own twin; else 1 and 18.
+    /// None for a plain file, which is its own twin; else 1, but for the number of records, and 18.
     pub fn plain(self, file: &[u8]) -> Result<Cow<'_, [u8]>, Refusal> {
         match self {
             Form::Plain => Ok(Cow::Borrowed(file)),
-            Form::Lines => {
-                let mut plain = vec![b' '; file.len() / LINE_RECORD_BYTES * RECORD_BYTES];
-                from_lines(file, file.len(), &mut plain)?;
-                Ok(Cow::Owned(plain))
-            }
+            Form::Lines => in_parts(file, LINE_RECORD_BYTES, RECORD_BYTES, from_lines).map(Cow::Owned),
         }
     }
 
-    /// The file in this form whose plain twin is given, by [`to_lines`].
+    /// The file in this form whose plain twin is given, by [`to_lines`], in parts as [`Form::plain`].
     ///
     /// # Errors
-    /// None where it stays plain; else 1.
+    /// None where it stays plain; else 1, but for the number of records.
     pub fn file(self, plain: &[u8]) -> Result<Cow<'_, [u8]>, Refusal> {
         match self {
             Form::Plain => Ok(Cow::Borrowed(plain)),
-            Form::Lines => {
-                let mut file = vec![b' '; plain.len() / RECORD_BYTES * LINE_RECORD_BYTES];
-                to_lines(plain, plain.len(), &mut file)?;
-                Ok(Cow::Owned(file))
-            }
+            Form::Lines => in_parts(plain, RECORD_BYTES, LINE_RECORD_BYTES, to_lines).map(Cow::Owned),
         }
     }
 
@@ -114,6 +107,24 @@ impl fmt::Display for Form {
             Form::Lines => "line ends",
         })
     }
+}
+
+/// [`from_lines`] or [`to_lines`].
+type Writer = fn(&[u8], usize, &mut [u8]) -> Result<usize, Refusal>;
+
+/// What a writer makes of records, which takes at most 200,000 of them at a time: of so many bytes each, of so many in the result.
+fn in_parts(records: &[u8], each: usize, written: usize, write: Writer) -> Result<Vec<u8>, Refusal> {
+    let mut result = vec![b' '; records.len() / each * written];
+    if records.is_empty() || !records.len().is_multiple_of(each) {
+        // Refused by its length before anything else is looked at.
+        write(records, records.len(), &mut result)?;
+    }
+    let parts = records.chunks(MOST_RECORDS * each).zip(result.chunks_mut(MOST_RECORDS * written));
+    for (n, (part, into)) in parts.enumerate() {
+        let in_file = |refusal: Refusal| Refusal { record: refusal.record.map(|record| record + n * MOST_RECORDS), ..refusal };
+        write(part, part.len(), into).map_err(in_file)?;
+    }
+    Ok(result)
 }
 
 /// Whether at least as many records end in a line end as do not.

@@ -1,4 +1,4 @@
-//! The nineteen record layouts of document 01: each column's name, place, width and what may stand in it.
+//! The nineteen record layouts of document 01, and the two of a directory: each column's name, place, width and what may stand in it.
 //!
 //! The library judges; this module says where its columns lie, for programs that show or explain a record.
 //!
@@ -13,9 +13,11 @@
 
 mod body;
 mod build;
+mod directory;
 mod parts;
 
 pub use body::*;
+pub use directory::*;
 pub use parts::*;
 
 use std::fmt;
@@ -66,7 +68,7 @@ impl fmt::Display for Allowed {
 pub enum Content {
     /// Text (A), not judged.
     Text,
-    /// Blank (X), not judged.
+    /// Blank (X), not judged but in a directory.
     Blank,
     /// An integer (I).
     Integer(Allowed),
@@ -77,7 +79,7 @@ pub enum Content {
 /// A column of a layout.
 #[derive(Clone, Copy, Debug, PartialEq, Eq)]
 pub struct Column {
-    /// Its name; no layout has a name twice, but for the blanks, which have none.
+    /// Its name; no layout has a name twice, but for the blanks that are not judged, which have none.
     pub name: &'static str,
     /// The byte of the record at which it starts, from 0.
     pub start: usize,

@@ -32,6 +32,7 @@
 #![deny(unsafe_code)]
 
 mod calls;
+mod directory;
 pub mod explain;
 mod form;
 mod kind;
@@ -39,6 +40,7 @@ pub mod layout;
 mod line_ends;
 pub mod outline;
 mod raw;
+mod reading;
 mod refusal;
 mod sheet;
 pub mod text;
@@ -48,9 +50,11 @@ pub use calls::{
     append_directory, from_lines, insert, join, judge_directory, judge_index, judge_index_lines, judge_sheet, judge_sheet_lines,
     jump, normal_index, normal_sheet, read_column, remove, report, split, to_lines, way_up, write_column, Corner, Counts, WayUp,
 };
+pub use directory::{LAYERS_TO_A_RECORD, MOST_DIRECTORY_RECORDS};
 pub use form::{Form, LINE_END};
 pub use kind::FileKind;
 pub use line_ends::Mended;
+pub use reading::Reading;
 pub use refusal::{Reason, Refusal};
 pub use sheet::{Item, Sheet};
 pub use unit::Unit;

@@ -1,6 +1,7 @@
 //! The lines of a file whose records have line ends, right or not.
 
-use crate::{explain, FileKind, Reason, LINE_END, LINE_RECORD_BYTES, MOST_RECORDS, RECORD_BYTES};
+use crate::{directory, explain, judge_directory, Counts, FileKind, Form, Reading, Reason, Refusal};
+use crate::{LINE_END, LINE_RECORD_BYTES, MOST_DIRECTORY_RECORDS, MOST_RECORDS, RECORD_BYTES};
 
 /// How many bytes of records may lack their ends one behind the other and still be told by where the next line end stands: twenty records.
 const FARTHEST: usize = 20 * LINE_RECORD_BYTES;
@@ -156,8 +157,8 @@ impl Mended {
     /// Of a file whose line ends are of another kind (line feed or carriage return alone, the two the wrong way round, two carriage returns and a
     /// line feed), written over, missing or double, perhaps with NUL bytes or an end-of-file mark behind the last: its records. A line end inside
     /// a record is taken out where the file is accepted then, one behind plain records where they are accepted. None where a record has another
-    /// length than 84, where most records have no line end at all, where there are more than 200,000, where all ends are right, and where the
-    /// file is accepted as a plain one, or a plain sheet refused for its counts alone (10).
+    /// length than 84, where most records have no line end at all, where there are more than 200,000 without a directory of layers, where all ends
+    /// are right, and where the file is accepted as a plain one, or a plain sheet refused for its counts alone (10).
     ///
     /// ```
     /// use zvaigulta::{Mended, EXAMPLE};
@@ -182,8 +183,7 @@ impl Mended {
         for line in Lines::of(text) {
             divided |= mended.step(&line)?;
         }
-        let records = mended.plain.len() / RECORD_BYTES;
-        let whole = mended.plain.len().is_multiple_of(RECORD_BYTES) && (1..=MOST_RECORDS).contains(&records) && mended.places > 0;
+        let whole = mended.plain.len().is_multiple_of(RECORD_BYTES) && is_allowed(&mended.plain) && mended.places > 0;
         (whole && (!divided || is_accepted(&mended.plain))).then_some(mended)
     }
 
@@ -202,6 +202,15 @@ impl Mended {
     }
 }
 
+/// Whether a file may have so many plain records as these are.
+pub fn is_allowed(plain: &[u8]) -> bool {
+    let most = match directory::is_behind(Form::Plain, plain) {
+        false => MOST_RECORDS,
+        true => MOST_RECORDS + MOST_DIRECTORY_RECORDS,
+    };
+    (1..=most).contains(&(plain.len() / RECORD_BYTES))
+}
+
 /// The plain records of a file that has one line end behind the last of them, perhaps a fill behind that, and is accepted without. With one record
 /// alone, that is a file with line ends. Where a carriage return or line feed stands in the records as well, bytes may be lost before it.
 pub fn before_last_end(bytes: &[u8]) -> Option<&[u8]> {
@@ -212,17 +221,24 @@ pub fn before_last_end(bytes: &[u8]) -> Option<&[u8]> {
     (whole && !reads_as_plain(bytes) && is_accepted(plain)).then_some(plain)
 }
 
-/// Whether bytes are accepted as a plain file, or are a sound plain block.
+/// Whether bytes are accepted as a plain file, with a directory of layers or without, or are a sound plain block.
 fn is_accepted(bytes: &[u8]) -> bool {
-    FileKind::of(bytes).judge(bytes, bytes.len()).is_ok() || explain::is_block(bytes)
+    Reading::in_form(Form::Plain, bytes).judge(bytes).is_ok() || explain::is_block(bytes)
 }
 
 /// The same, or a plain sheet in which nothing but counts is wrong: all its records are read in order before these are compared. Not so an index,
 /// whose names of sheets may be any bytes.
 pub fn reads_as_plain(bytes: &[u8]) -> bool {
+    reads_as_sheet(bytes) || read(FileKind::Sheet, judge_directory(bytes, bytes.len()))
+}
+
+/// The same without a directory of layers.
+pub fn reads_as_sheet(bytes: &[u8]) -> bool {
     let kind = FileKind::of(bytes);
-    match kind.judge(bytes, bytes.len()) {
-        Ok(_) => true,
-        Err(refusal) => refusal.reason == Reason::Count && kind == FileKind::Sheet || explain::is_block(bytes),
-    }
+    read(kind, kind.judge(bytes, bytes.len())) || explain::is_block(bytes)
+}
+
+/// Whether all records of a file were read in order, by its judgement.
+fn read(kind: FileKind, judged: Result<Counts, Refusal>) -> bool {
+    judged.map_or_else(|refusal| refusal.reason == Reason::Count && kind == FileKind::Sheet, |_| true)
 }

@@ -2,13 +2,15 @@
 //! is; behind a refusal it is the best guess.
 
 mod items;
+mod layers;
 
 pub use items::{natural, Sort, Stated, COUNTS};
+pub use layers::{layers, Layer};
 
 use crate::layout::*;
-use crate::{FileKind, RECORD_BYTES};
+use crate::{directory, FileKind, RECORD_BYTES};
 
-use What::{Data, Entry, Part, Unknown};
+use What::{Data, Directory, Entry, Part, Unknown};
 
 /// What a record is.
 #[derive(Clone, Copy, Debug, PartialEq, Eq)]
@@ -23,6 +25,8 @@ pub enum What {
         /// The item's record number.
         item: usize,
     },
+    /// A record of the directory of layers behind a sheet.
+    Directory,
     /// None of these, where a header or an item is due, or more than an index states.
     Unknown,
 }
@@ -134,12 +138,29 @@ pub struct Outline<'a> {
     part: Vec<&'static Layout>,
     records: std::iter::Enumerate<std::slice::Chunks<'a, u8>>,
     due: Option<Due>,
+    /// How many records stand before the directory of layers; all of them where there is none.
+    before: usize,
 }
 
 impl<'a> Outline<'a> {
-    /// Of a whole file.
+    /// Of a whole file without a directory of layers.
     pub fn of(bytes: &'a [u8]) -> Outline<'a> {
-        Outline { kind: FileKind::of(bytes), part: part(bytes), records: bytes.chunks(RECORD_BYTES).enumerate(), due: None }
+        let records = bytes.chunks(RECORD_BYTES).enumerate();
+        Outline { kind: FileKind::of(bytes), part: part(bytes), records, due: None, before: usize::MAX }
+    }
+
+    /// Of a sheet with a directory of layers behind it.
+    ///
+    /// ```
+    /// use zvaigulta::{outline::Outline, Sheet, EXAMPLE};
+    ///
+    /// let file = Sheet::from(EXAMPLE.to_vec()).with_directory()?;
+    /// let names: Vec<String> = Outline::with_directory(&file).skip(8).map(|record| record.name()).collect();
+    /// assert_eq!(names, ["2D data of record 7", "directory", "directory end"]);
+    /// # Ok::<(), zvaigulta::Refusal>(())
+    /// ```
+    pub fn with_directory(bytes: &'a [u8]) -> Outline<'a> {
+        Outline { before: directory::records_before(bytes, directory::sheet(bytes)), ..Outline::of(bytes) }
     }
 
     /// The next data record of the item whose data is due.
@@ -159,6 +180,30 @@ impl<'a> Outline<'a> {
     }
 }
 
+/// The layout of a record that stands in a directory, the last of the file or not: by its letters, else by its columns; none where it has neither.
+pub(crate) fn directory_layout(bytes: &[u8], last: bool) -> Option<&'static Layout> {
+    match bytes {
+        _ if directory::is_end(bytes) => Some(&DIRECTORY_END),
+        _ if directory::is_row(bytes) => Some(&DIRECTORY),
+        _ if last && reads_as(&DIRECTORY_END, bytes) => Some(&DIRECTORY_END),
+        _ if reads_as(&DIRECTORY, bytes) => Some(&DIRECTORY),
+        _ => None,
+    }
+}
+
+/// Whether the columns of a record are those of a directory's layout.
+fn reads_as(layout: &Layout, bytes: &[u8]) -> bool {
+    layout.fits(bytes) && layout.column("rest").is_some_and(|rest| rest.is_spaces(bytes))
+}
+
+/// A record that stands in a directory.
+fn in_directory(record: Record, last: bool) -> Record {
+    match directory_layout(record.bytes, last) {
+        Some(layout) => Record { what: Directory, layout: Some(layout), judged: layout.columns.len(), ..record },
+        None => record,
+    }
+}
+
 impl<'a> Iterator for Outline<'a> {
     type Item = Record<'a>;
 
@@ -168,6 +213,9 @@ impl<'a> Iterator for Outline<'a> {
         let unknown = Record { number, bytes, what: Unknown, layout: None, judged: 0, level: None };
         if bytes.len() < RECORD_BYTES {
             return Some(unknown);
+        }
+        if place >= self.before {
+            return Some(in_directory(unknown, self.records.len() == 0));
         }
         if let Some(layout) = self.part.get(place) {
             return Some(Record { what: Part, layout: Some(layout), judged: layout.columns.len(), ..unknown });

@@ -3,11 +3,9 @@
 use crate::layout::SHEET_B;
 use crate::outline::{Outline, Record, Sort, Stated, What};
 use crate::{
-    append_directory, insert, judge_directory, judge_sheet, normal_sheet, remove, way_up, Counts, Refusal, WayUp, RECORD_BYTES,
+    append_directory, insert, judge_directory, judge_sheet, normal_sheet, remove, way_up, Counts, Refusal, WayUp,
+    LAYERS_TO_A_RECORD, RECORD_BYTES,
 };
-
-/// So many layers are listed in one record of a directory.
-const LAYERS_TO_A_RECORD: usize = 11;
 
 /// A sheet with its bytes. Any bytes make one: [`Sheet::judge`] says whether they are accepted, and every other call judges first.
 ///

@@ -13,6 +13,11 @@ pub const fn x(width: usize) -> Column {
     Column { name: "", start: 0, width, content: Content::Blank }
 }
 
+/// Spaces that are judged, and so have a name.
+pub const fn named_blank(name: &'static str, width: usize) -> Column {
+    Column { name, start: 0, width, content: Content::Blank }
+}
+
 const fn integer(name: &'static str, width: usize, allowed: Allowed) -> Column {
     Column { name, start: 0, width, content: Content::Integer(allowed) }
 }
