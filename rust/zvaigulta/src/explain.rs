@@ -20,6 +20,7 @@ mod block;
 mod body;
 mod counts;
 mod data;
+mod directory;
 mod due;
 mod edits;
 mod first;
@@ -41,7 +42,8 @@ pub use edits::{insertion, removal, way_up};
 use crate::layout::{INDEX_A, SHEET_A, SHEET_B, SHEET_D};
 use crate::outline::{Outline, Record, Sort};
 use crate::text::with_article;
-use crate::{Form, Reason, Refusal};
+use crate::{Form, Reading, Reason, Refusal};
+use std::collections::HashSet;
 
 /// A column at fault, and why. Where columns of two records do not go together, each of them is one.
 #[derive(Clone, Debug, PartialEq, Eq)]
@@ -73,6 +75,14 @@ pub struct Explanation {
     pub notes: Vec<String>,
 }
 
+impl Explanation {
+    /// More columns at fault, those that are known already left out.
+    fn add_faults(&mut self, more: Vec<Fault>) {
+        let known: HashSet<(usize, &str)> = self.faults.iter().map(|fault| (fault.record, fault.column)).collect();
+        self.faults.extend(more.into_iter().filter(|fault| !known.contains(&(fault.record, fault.column))));
+    }
+}
+
 /// Explains a refusal of a plain file by the judge. It reads the file a few times at most.
 pub fn explain(bytes: &[u8], refusal: Refusal) -> Explanation {
     explain_in(Form::Plain, bytes, refusal)
@@ -98,6 +108,31 @@ pub fn explain_in(form: Form, bytes: &[u8], refusal: Refusal) -> Explanation {
     }
 }
 
+/// Explains a refusal of a file as it was read: also of one with a directory of layers behind its sheet (19).
+///
+/// ```
+/// use zvaigulta::{explain::explain_as, write_column, Reading, Sheet, EXAMPLE};
+///
+/// let mut file = Sheet::from(EXAMPLE.to_vec()).with_directory()?;
+/// // The directory lists record 7 as the header of its one layer.
+/// write_column(&mut file[9 * 84 + 2..9 * 84 + 9], 7)?;
+/// let reading = Reading::of(&file);
+/// let explained = explain_as(reading, &file, reading.judge(&file).unwrap_err());
+/// let fault = &explained.faults[0];
+/// assert_eq!((fault.record, fault.column), (10, "header 1"));
+/// assert_eq!(fault.words, "is 7, must be 6: the header of layer 1, class 2100; record 7 is a line E2, level 2");
+/// # Ok::<(), zvaigulta::Refusal>(())
+/// ```
+pub fn explain_as(reading: Reading, bytes: &[u8], refusal: Refusal) -> Explanation {
+    let Reading { form, directory } = reading;
+    let whole = !bytes.is_empty() && bytes.len().is_multiple_of(form.record_bytes());
+    match refusal.reason {
+        _ if !directory || !whole => explain_in(form, bytes, refusal),
+        Reason::LineEnd => lines::explain(bytes, refusal),
+        _ => directory::explain(&form.records(bytes), form, refusal),
+    }
+}
+
 /// Explains a refusal of the records of a file in a form.
 fn of_records(bytes: &[u8], form: Form, refusal: Refusal) -> Explanation {
     let mut told = Explanation::default();
@@ -107,9 +142,10 @@ fn of_records(bytes: &[u8], form: Form, refusal: Refusal) -> Explanation {
         return told;
     };
     at_record(bytes, &named, refusal.reason, form, &mut told);
-    // Another form of file is the one reason; what else is seen follows from it.
-    if let Some(form) = form::of(bytes, Some(named.number)) {
-        one_reason(&mut told, named.number, vec![form]);
+    // Another form of file, or a directory, is the one reason; what else is seen follows from it.
+    let directory = || directory::noticed(bytes, Some(named.number)).filter(|_| refusal.reason == Reason::RecordType);
+    if let Some(reason) = form::of(bytes, Some(named.number)).or_else(directory) {
+        one_reason(&mut told, named.number, vec![reason]);
     }
     told
 }
@@ -138,6 +174,24 @@ pub fn line_in(form: Form, bytes: &[u8], refusal: Refusal) -> String {
             |block| format!("refused {} at record {}: {block}", refusal.number(), refusal.record.unwrap_or(1)),
         ),
         _ => refusal.to_string(),
+    }
+}
+
+/// The same of a file as it was read: with a directory of layers, 1 may also be the sheet's before it.
+///
+/// ```
+/// use zvaigulta::{explain, judge_directory, Form, Reading, EXAMPLE};
+///
+/// let reading = Reading { form: Form::Plain, directory: true };
+/// let refusal = judge_directory(EXAMPLE, 100).unwrap_err();
+/// assert_eq!(explain::line_as(reading, &EXAMPLE[..100], refusal), "refused 1: the length, 100 bytes, is not a multiple of 84");
+/// ```
+pub fn line_as(reading: Reading, bytes: &[u8], refusal: Refusal) -> String {
+    match refusal.reason {
+        Reason::Length if reading.directory => {
+            format!("refused {}: {}", refusal.number(), directory::length(reading.form, bytes))
+        }
+        _ => line_in(reading.form, bytes, refusal),
     }
 }
 
@@ -288,7 +342,7 @@ mod tests {
             let mut file = damaged(&mut r, n);
             for _ in 0..r.below(200) {
                 let at = r.below(file.len() + 1);
-                let byte = if r.once_in(2) { *r.pick(b" -09HEGTMI1\r\n\0") } else { r.below(256) as u8 };
+                let byte = if r.once_in(2) { *r.pick(b" -09HEGTMIZ1\r\n\0") } else { r.below(256) as u8 };
                 if let Some(old) = file.get_mut(at) {
                     *old = byte;
                 }
@@ -298,8 +352,12 @@ mod tests {
             let block = damaged(&mut r, n + 1);
             let at = r.below(block.len() / RECORD_BYTES + 1) * RECORD_BYTES;
             let place = *r.pick(&[0, 1, 7, file.len() / RECORD_BYTES, usize::MAX]);
-            explain(&file, refusal);
-            line(&file, refusal);
+            for reading in
+                [Form::Plain, Form::Lines].into_iter().flat_map(|form| [false, true].map(|directory| Reading { form, directory }))
+            {
+                explain_as(reading, &file, refusal);
+                line_as(reading, &file, refusal);
+            }
             insertion(&file, place, &block[at..], refusal);
             removal(&file, place, refusal);
             way_up(&file, place, refusal);

@@ -4,14 +4,11 @@ mod town;
 
 use reference::random::Random;
 use reference::sheets;
+use town::damage::{is_explained, Damage};
 use town::{ended, index, sheet, shifted, twice, with, without};
-use zvaigulta::explain::{explain, explain_in, line_in, Explanation};
+use zvaigulta::explain::{explain, explain_in, Explanation};
 use zvaigulta::layout::{HEADER, SHEET_B};
 use zvaigulta::{write_column, FileKind, Form, Mended, Reason, LINE_RECORD_BYTES, RECORD_BYTES};
-
-/// A damage: its name, the damaged file, the refusal with its record (0 for none), words of the explanation (behind `not: ` words
-/// that must not stand there), columns marked.
-type Damage = (&'static str, fn() -> Vec<u8>, (u64, usize), &'static [&'static str], &'static [(usize, &'static str)]);
 
 /// Records of the body that are lost.
 const LOST: &[Damage] = &[
@@ -1703,32 +1700,11 @@ fn ebcdic() -> Vec<u8> {
     sheet().into_iter().map(code).collect()
 }
 
-/// A damage is refused in a form as the table says; its explanation has the words and marks the columns, and names no record 0.
-fn is_explained(form: Form, (name, file, (number, record), words, marked): &Damage) {
-    let file = file();
-    let refusal = FileKind::of(&file).judge_in(form, &file, file.len()).expect_err(name);
-    assert_eq!((refusal.number(), refusal.record.unwrap_or(0)), (*number, *record), "{name}");
-    let explained = explain_in(form, &file, refusal);
-    let line = line_in(form, &file, refusal).replace("refused", "");
-    let faults = explained.faults.iter().map(|fault| &fault.words);
-    let said: Vec<&str> = faults.chain(&explained.notes).chain([&line]).map(String::as_str).collect();
-    for part in *words {
-        let (part, due) = part.strip_prefix("not: ").map_or((*part, true), |part| (part, false));
-        assert_eq!(said.iter().any(|said| said.contains(part)), due, "{name}: {part}: {explained:#?}");
-    }
-    let twice = |note: &String| explained.notes.iter().filter(|other| *other == note).count() > 1;
-    assert!(!explained.notes.iter().any(twice), "{name}: {explained:#?}");
-    let is = |(record, column): (usize, &str)| explained.faults.iter().any(|f| (f.record, f.column) == (record, column));
-    assert!(marked.iter().all(|at| is(*at)), "{name}: {explained:#?}");
-    assert!(*number == 1 || marked.iter().any(|(at, _)| at == record), "{name}: a column of the refused record is asked for");
-    assert!(!words.is_empty() && said.iter().all(|said| !said.contains("record 0")), "{name}: {explained:#?}");
-}
-
 #[test]
 fn every_damage_is_explained() {
     let all = [LOST, REPEATED, PARTS, COLUMNS, FORMS, SHIFTS, INDEXES].concat();
     assert!(all.len() >= 130, "{} damages", all.len());
-    all.iter().for_each(|damage| is_explained(Form::Plain, damage));
+    all.iter().for_each(|damage| is_explained(Form::Plain.into(), damage));
 }
 
 /// Damaged files with line ends are read as such. Those that can be mended are accepted then, or refused as the words say.
@@ -1738,7 +1714,7 @@ fn every_damage_of_line_ends_is_explained() {
     for damage in LINES {
         let (name, file, _, words, _) = damage;
         assert_eq!(Form::of(&file()), Form::Lines, "{name}");
-        is_explained(Form::Lines, damage);
+        is_explained(Form::Lines.into(), damage);
         let mended = Mended::of(&file()).filter(|_| words.contains(&MEND));
         assert!(mended.is_none_or(|mended| mended.plain == sheet() || mended.plain == index()), "{name}");
     }

@@ -6,7 +6,7 @@ use crate::layout::{Layout, SHEET_A, SHEET_B};
 use crate::line_ends::{before_last_end, without_fill};
 use crate::outline::{part, Record, Sort};
 use crate::text::{number_of, quoted};
-use crate::{FileKind, Form, Refusal, MOST_RECORDS, RECORD_BYTES};
+use crate::{Counts, FileKind, Form, Reading, Refusal, MOST_RECORDS, RECORD_BYTES};
 use std::ops::Range;
 
 /// The form that is recognised, and what to do about it. `refused` is the refused record, if the refusal names one.
@@ -147,7 +147,12 @@ pub fn judged(bytes: &[u8]) -> String {
             Err(words) => format!("it would be refused as a block: {words}"),
         };
     }
-    match FileKind::of(bytes).judge(bytes, bytes.len()) {
+    answered(Reading::in_form(Form::Plain, bytes).judge(bytes))
+}
+
+/// An answer of the judge in words.
+pub fn answered(judged: Result<Counts, Refusal>) -> String {
+    match judged {
         Ok(_) => "the file is accepted".to_string(),
         Err(Refusal { reason, record: Some(record), .. }) => format!("it is refused {} at record {record}", reason.number()),
         Err(refusal) => format!("it is refused {}", refusal.number()),

@@ -1,7 +1,7 @@
 //! 1: why a length is refused, and the first record that breaks.
 
 use super::counts::Records;
-use super::{at_record, first, form, shift, Explanation};
+use super::{at_record, directory, first, form, shift, Explanation};
 use crate::outline::Outline;
 use crate::text::{number_of, quoted};
 use crate::{FileKind, Form, Reason, Refusal, MOST_RECORDS, RECORD_BYTES};
@@ -13,8 +13,13 @@ pub fn reason(length: usize, form: Form) -> String {
         0 => "the file is empty".to_string(),
         n if n > MOST_RECORDS * stride => format!("the file has more than 200,000 records of {stride} bytes"),
         n if n % stride == 0 => "the length that was given is above the buffer".to_string(),
-        n => format!("the length, {}, is not a multiple of {stride}", number_of(n as u64, "byte")),
+        n => ragged(n, form),
     }
+}
+
+/// That a length is not one of whole records.
+pub fn ragged(length: usize, form: Form) -> String {
+    format!("the length, {}, is not a multiple of {}", number_of(length as u64, "byte"), form.record_bytes())
 }
 
 /// What to do about a length that is refused for another reason than the last of these.
@@ -31,7 +36,8 @@ pub fn other(length: usize, form: Form) -> Option<String> {
 
 /// What is behind it, and the columns of the first record that breaks.
 pub fn explain(bytes: &[u8], told: &mut Explanation) {
-    match form::of(bytes, None).or_else(|| other(bytes.len(), Form::Plain)) {
+    let directory = || directory::noticed(bytes, None).filter(|_| bytes.len() > MOST_RECORDS * RECORD_BYTES);
+    match form::of(bytes, None).or_else(directory).or_else(|| other(bytes.len(), Form::Plain)) {
         Some(words) => told.notes.push(words),
         None => odd(bytes, told),
     }

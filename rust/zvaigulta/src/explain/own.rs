@@ -12,7 +12,7 @@ pub fn malformed(named: &Record) -> Vec<Fault> {
 }
 
 /// Why a column is no integer.
-fn form(column: &[u8]) -> String {
+pub fn form(column: &[u8]) -> String {
     let spaces = column.iter().take_while(|byte| **byte == b' ').count();
     let text = column.get(spaces..).unwrap_or(&[]);
     let digits = text.strip_prefix(b"-").unwrap_or(text);

@@ -1,6 +1,8 @@
 //! A small sheet and a small index that are accepted, for tests that damage or edit them.
 #![allow(dead_code)]
 
+pub mod damage;
+
 use zvaigulta::RECORD_BYTES;
 
 /// A sheet: two layers, the first with a group; every kind of data, a grid and a net.
@@ -84,4 +86,16 @@ pub fn shifted(mut file: Vec<u8>, record: usize, start: usize, out: usize, new: 
 /// A file with something behind each of its records.
 pub fn ended(file: &[u8], end: &[u8]) -> Vec<u8> {
     file.chunks(RECORD_BYTES).flat_map(|record| [record, end].concat()).collect()
+}
+
+/// A sheet with the directory of its layers.
+pub fn filed(sheet: &[u8]) -> Vec<u8> {
+    zvaigulta::Sheet::from(sheet.to_vec()).with_directory().expect("an accepted sheet")
+}
+
+/// A sheet of so many layers, all empty.
+pub fn layered(layers: usize) -> Vec<u8> {
+    let header = "H 2100 0   0   0 1    0    0    0    0    0    0    0    0    0    002408         0 ";
+    let part = SHEET[..6].concat() + &header.repeat(layers);
+    with(part.into_bytes(), 2, 31, &format!("     0{layers:7}"))
 }

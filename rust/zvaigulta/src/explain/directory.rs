@@ -1,0 +1,217 @@
+//! 19, and the other refusals of a sheet with a directory of layers: which number is wrong, and what it should be. Also what is said of a directory
+//! behind a sheet that was read without one.
+
+mod columns;
+mod notes;
+
+use super::body::Body;
+use super::{fault, length, of_records, Explanation, Fault};
+use crate::directory::{is_end, is_row, last_record, records_before, sheet};
+use crate::layout::{DIRECTORY, DIRECTORY_END};
+use crate::outline::{directory_layout, layers, record, Layer, Outline, Record};
+use crate::text::{quoted, with_article};
+use crate::{judge_sheet, Form, Reason, Refusal, LAYERS_TO_A_RECORD, RECORD_BYTES};
+use std::cmp::Ordering;
+use std::ops::RangeInclusive;
+
+/// The most columns that are listed.
+const MOST_LISTED: usize = 60;
+
+/// Explains a refusal of the records of a sheet with a directory, in a form of the file.
+pub fn explain(bytes: &[u8], form: Form, refusal: Refusal) -> Explanation {
+    let directory = Directory::of(bytes);
+    match (refusal.reason, refusal.record) {
+        (Reason::Directory, Some(refused)) => directory.wrong(form, refused, Vec::new()),
+        (_, Some(refused)) => directory.sheet_refused(form, refusal, refused),
+        (_, None) => directory.wrong(form, directory.records, Vec::new()),
+    }
+}
+
+/// Why the length of a file with a directory, or of the sheet before it, is refused.
+pub fn length(form: Form, bytes: &[u8]) -> String {
+    let pointer = last_record(form, bytes).and_then(|end| DIRECTORY_END.value("pointer", end));
+    match bytes.len() {
+        0 => "the file is empty".to_string(),
+        n if !n.is_multiple_of(form.record_bytes()) => length::ragged(n, form),
+        _ if pointer == Some(1) => "no sheet stands before the directory, whose pointer is 1".to_string(),
+        _ => "the sheet before the directory has more than 200,000 records".to_string(),
+    }
+}
+
+/// What is said of a directory in a sheet that was read without one: at the refused record, or behind 200,000 records.
+pub fn noticed(bytes: &[u8], refused: Option<usize>) -> Option<String> {
+    let is_its = |number| is_row(record(bytes, number)) || is_end(record(bytes, number));
+    if refused.is_some_and(|refused| !is_its(refused)) {
+        return None;
+    }
+    let directory = Directory::of(bytes);
+    let first = refused.unwrap_or(directory.before + 1);
+    is_its(first).then(|| directory.unread(first))
+}
+
+/// A directory as it stands in a file, and the sheet before it.
+struct Directory<'a> {
+    bytes: &'a [u8],
+    /// The records of the file, and those before the directory.
+    records: usize,
+    before: usize,
+    /// What the sheet holds, where it is accepted by its own counts.
+    sheet: Option<Accepted<'a>>,
+}
+
+/// An accepted sheet: its layers, and all its headers and items.
+struct Accepted<'a> {
+    layers: Vec<Layer<'a>>,
+    body: Body<'a>,
+}
+
+impl<'a> Directory<'a> {
+    fn of(bytes: &'a [u8]) -> Directory<'a> {
+        let (sheet, records) = (sheet(bytes), bytes.len() / RECORD_BYTES);
+        let accepted = sheet.map(|sheet| Accepted { layers: layers(sheet), body: Body::of(sheet) });
+        Directory { bytes, records, before: records_before(bytes, sheet), sheet: accepted }
+    }
+
+    /// The last record.
+    fn end(&self) -> &'a [u8] {
+        record(self.bytes, self.records)
+    }
+
+    /// A number that the last record states.
+    fn stated(&self, name: &str) -> Option<i64> {
+        DIRECTORY_END.value(name, self.end()).filter(|_| directory_layout(self.end(), true) == Some(&DIRECTORY_END))
+    }
+
+    /// The records of the sheet for which the directory was made, by its pointer.
+    fn made_for(&self) -> Option<usize> {
+        self.stated("pointer").and_then(|pointer| usize::try_from(pointer).ok()?.checked_sub(1))
+    }
+
+    /// The numbers of its records.
+    fn numbers(&self) -> RangeInclusive<usize> {
+        self.before + 1..=self.records
+    }
+
+    /// The numbers that it lists, in order.
+    fn listed(&self) -> Vec<i64> {
+        let layout = |number: &usize| directory_layout(record(self.bytes, *number), *number == self.records);
+        let rows = self.numbers().filter(|number| layout(number) == Some(&DIRECTORY)).map(|number| record(self.bytes, number));
+        rows.flat_map(|row| DIRECTORY.columns.iter().skip(1).filter_map(|column| column.value(row))).collect()
+    }
+
+    /// The record numbers of the sheet's layer headers.
+    fn headers(&self) -> Vec<i64> {
+        self.sheet.iter().flat_map(|sheet| &sheet.layers).map(|layer| layer.header.number as i64).collect()
+    }
+
+    /// What there is to say of the whole; the refused record's columns at fault, `own` among them, then those of other records.
+    fn wrong(&self, form: Form, refused: usize, own: Vec<Fault>) -> Explanation {
+        let mut told = Explanation { notes: self.notes(), faults: own };
+        let (first, others): (Vec<Fault>, Vec<Fault>) = self.faults().into_iter().partition(|fault| fault.record == refused);
+        told.add_faults(first);
+        told.add_faults(others);
+        self.add_sheet(form, &mut told);
+        let more = told.faults.len().saturating_sub(MOST_LISTED);
+        if more > 0 {
+            told.notes.push(format!("{MOST_LISTED} columns are listed here, and {more} more differ"));
+        }
+        told.faults.truncate(MOST_LISTED);
+        told
+    }
+
+    /// What the sheet before a directory is refused for by itself.
+    fn add_sheet(&self, form: Form, told: &mut Explanation) {
+        let sheet = self.bytes.get(..self.before * RECORD_BYTES).filter(|sheet| self.sheet.is_none() && !sheet.is_empty());
+        let Some((sheet, Err(refusal))) = sheet.map(|sheet| (sheet, judge_sheet(sheet, sheet.len()))) else { return };
+        let at = refusal.record.map_or(String::new(), |record| format!(" at record {record}"));
+        told.notes.push(format!("judged alone, the sheet before the directory is refused {}{at}", refusal.number()));
+        let inner = of_records(sheet, form, refusal);
+        told.notes.extend(inner.notes);
+        told.add_faults(inner.faults);
+    }
+
+    /// The columns that are not as they should be.
+    fn faults(&self) -> Vec<Fault> {
+        if self.numbers().is_empty() {
+            return self.none();
+        }
+        self.numbers().flat_map(|number| self.faults_of(number)).collect()
+    }
+
+    /// The last record of a file that has no directory.
+    fn none(&self) -> Vec<Fault> {
+        let last = Outline::of(self.bytes).last().filter(|last| last.bytes.len() == RECORD_BYTES);
+        let first_column = |last: Record| {
+            let name = last.layout.and_then(|layout| layout.columns.first()).map_or("type", |column| column.name);
+            let starts = letters(last.bytes);
+            fault(last.number, name, format!("the record starts {starts}, the last of a directory \"ZE\""))
+        };
+        last.map(first_column).into_iter().collect()
+    }
+
+    /// The same of one record. Where the sheet is not known, only of the last, by itself.
+    fn faults_of(&self, number: usize) -> Vec<Fault> {
+        let (bytes, last) = (record(self.bytes, number), number == self.records);
+        let Some(sheet) = &self.sheet else {
+            return if last { columns::end_alone(number, bytes, self.before) } else { Vec::new() };
+        };
+        let nth = number - self.before - 1;
+        let (own, first) = (sheet.layers.chunks(LAYERS_TO_A_RECORD).nth(nth).unwrap_or(&[]), nth * LAYERS_TO_A_RECORD + 1);
+        let due = columns::Counts { pointer: self.before + 1, layers: sheet.layers.len() };
+        match number.cmp(&due.end()) {
+            Ordering::Less if last && !is_row(bytes) => columns::row_missing(number, bytes, own, first, &due),
+            Ordering::Less => columns::row(number, bytes, last, columns::Listed { own, first, what: &|n| self.what(n) }),
+            Ordering::Equal if last || is_end(bytes) => columns::end(number, bytes, &due),
+            _ => vec![columns::too_many(number, bytes, &due)],
+        }
+    }
+
+    /// What a record of the sheet is, in words.
+    fn what(&self, number: i64) -> String {
+        let (number, body) = match (usize::try_from(number).ok().filter(|number| *number > 0), &self.sheet) {
+            (Some(number), Some(sheet)) if number <= self.before => (number, &sheet.body),
+            _ => return format!("there is no record {number} in the sheet, which ends at record {}", self.before),
+        };
+        match (body.at(number), body.owner(number)) {
+            (Some(entry), _) => format!("record {number} is {}", with_article(&entry.title())),
+            (None, Some(item)) => format!("record {number} is data of the {} at record {}", item.name(), item.number),
+            (None, None) => format!("record {number} is in the sheet part"),
+        }
+    }
+
+    /// 2 to 10 of the sheet before the pointer. Where the pointer does not say where the sheet ends, that is looked at first.
+    fn sheet_refused(&self, form: Form, refusal: Refusal, refused: usize) -> Explanation {
+        let end = self.made_for().map_or(self.bytes.len(), |records| records.saturating_mul(RECORD_BYTES));
+        let told = of_records(self.bytes.get(..end).unwrap_or(self.bytes), form, refusal);
+        if self.made_for() == Some(self.before) {
+            return told;
+        }
+        let own = match refused > self.before {
+            true => {
+                let words = format!("is {}, of the directory", letters(record(self.bytes, refused)));
+                vec![fault(
+                    refused,
+                    "type",
+                    format!("{words}; by the pointer of record {} it would be the sheet's", self.records),
+                )]
+            }
+            false => {
+                told.faults.into_iter().filter(|fault| fault.record == refused).map(|fault| self.up_to_pointer(fault)).collect()
+            }
+        };
+        self.wrong(form, refused, own)
+    }
+
+    /// A fault that is one only where the sheet ends before the pointer, and it does not.
+    fn up_to_pointer(&self, fault: Fault) -> Fault {
+        match self.made_for().filter(|_| self.sheet.is_some()) {
+            Some(made) => Fault { words: format!("{}: judged up to record {made} alone, by the pointer", fault.words), ..fault },
+            None => fault,
+        }
+    }
+}
+
+/// The first two bytes of a record.
+fn letters(record: &[u8]) -> String {
+    quoted(record.get(..2).unwrap_or(record))
+}

@@ -1,0 +1,185 @@
+//! What there is to say of a directory as a whole: what it was made for, what it lists, and what mends it.
+
+use super::{letters, Directory};
+use crate::directory::{is_end, is_row};
+use crate::explain::form;
+use crate::outline::{directory_layout, record, Outline};
+use crate::text::number_of;
+use crate::{judge_directory, FileKind, RECORD_BYTES};
+
+/// What takes a directory off and puts the right one there.
+const MEND: &str =
+    "take the directory off by 'dmtool directory FILE --remove' and append the right one by 'dmtool directory FILE --append'";
+
+/// What appends one.
+const APPEND: &str = "append one by 'dmtool directory FILE --append'";
+
+impl Directory<'_> {
+    /// What to look at first stands first.
+    pub fn notes(&self) -> Vec<String> {
+        if let Some(none) = self.no_directory() {
+            return vec![none];
+        }
+        let seen = match self.behind_another() {
+            Some(behind) => vec![Some(behind)],
+            None => vec![self.unended(), self.several_ends(), self.other_records(), self.made_for_others(), self.lists()],
+        };
+        seen.into_iter().flatten().chain(self.next()).collect()
+    }
+
+    /// That there is no directory, or that its records are read as the sheet's.
+    fn no_directory(&self) -> Option<String> {
+        if FileKind::of(self.bytes) == FileKind::Index {
+            return Some("this is an index: it has no layers, and so no directory".to_string());
+        }
+        let last = Outline::of(self.bytes).last()?;
+        let (number, name, other) = (last.number, last.name(), directory_layout(self.end(), true).is_none());
+        match (self.sheet.is_some() && self.before == self.records, is_end(self.end())) {
+            (true, true) => Some(format!(
+                "without a directory the file is accepted, and record {number} is {name}: if that is right, read the file with \
+                 --no-directory; if it ends a directory, records of the sheet are lost before it"
+            )),
+            (true, false) => Some(format!("the sheet has no directory, its last record is {name}: {APPEND}")),
+            (false, _) if other && self.sheet.is_none() => Some("no directory stands behind the sheet".to_string()),
+            _ => None,
+        }
+    }
+
+    /// That the last record is not there.
+    fn unended(&self) -> Option<String> {
+        let words = format!("the directory has no end: the record \"ZE\" behind record {} is lost", self.records);
+        is_row(self.end()).then_some(words)
+    }
+
+    /// The records that start `ZE`.
+    fn ends(&self) -> Vec<usize> {
+        self.numbers().filter(|number| is_end(record(self.bytes, *number))).collect()
+    }
+
+    fn several_ends(&self) -> Option<String> {
+        let ends = self.ends();
+        let (first, last) = (ends.first()?, ends.last().filter(|_| ends.len() > 1)?);
+        Some(format!("records {first} and {last} both start \"ZE\": a directory stands behind a directory"))
+    }
+
+    /// The same where the first of them is right.
+    fn behind_another(&self) -> Option<String> {
+        let first = self.bytes.get(..self.ends().first()? * RECORD_BYTES)?;
+        let several = self.several_ends().filter(|_| judge_directory(first, first.len()).is_ok())?;
+        Some(format!("{several}, and the first of them is right"))
+    }
+
+    /// For how many records it was made, where others stand before it.
+    fn made_for_others(&self) -> Option<String> {
+        let made = self.made_for().filter(|made| *made != self.before && *made > 0)?;
+        let (more, fewer) = (self.before.saturating_sub(made), made.saturating_sub(self.before));
+        let differ = match fewer {
+            0 if self.is_grown() => {
+                format!("{more} more; each layer is listed at its place before that: a program may have put them in and left the directory as it was")
+            }
+            0 => format!("{more} more"),
+            _ => format!("{fewer} fewer"),
+        };
+        let records = number_of(made as u64, "record");
+        Some(format!(
+            "by its pointer the directory was made for a sheet of {records}, and {} stand before it: {differ}",
+            self.before
+        ))
+    }
+
+    /// Whether it lists the layers of the sheet as they stood before records were put in.
+    fn is_grown(&self) -> bool {
+        let (listed, headers) = (self.listed(), self.headers());
+        let more = self.made_for().map_or(0, |made| self.before as i64 - made as i64);
+        let moved: Vec<i64> = headers.iter().zip(&listed).map(|(header, listed)| header - listed).chain([more]).collect();
+        more > 0 && listed.len() == headers.len() && moved.is_sorted() && moved.first().is_some_and(|first| *first >= 0)
+    }
+
+    /// How many layers it lists and states, where the sheet has another number of them.
+    fn lists(&self) -> Option<String> {
+        let (listed, layers) = (self.listed().len(), self.sheet.as_ref()?.layers.len());
+        let states = self.stated("layers").filter(|states| *states != listed as i64);
+        if listed == layers && states.is_none() {
+            return None;
+        }
+        let stated = states.map_or(String::new(), |states| format!(" and states {states}"));
+        let has = number_of(layers as u64, "layer");
+        Some(format!("the directory lists {}{stated}, the sheet has {has}", number_of(listed as u64, "layer")))
+    }
+
+    /// The first record behind the sheet that is none of a directory by its letters.
+    fn other(&self) -> Option<usize> {
+        let is_its = |number: usize| is_row(record(self.bytes, number)) || is_end(record(self.bytes, number));
+        self.numbers().find(|number| !is_its(*number))
+    }
+
+    fn other_records(&self) -> Option<String> {
+        let other = self.other().filter(|_| self.sheet.is_some())?;
+        let bytes = record(self.bytes, other);
+        let starts = format!("record {other} behind the sheet starts {}", letters(bytes));
+        Some(match directory_layout(bytes, other == self.records) {
+            Some(layout) => format!("{starts}, and its columns read as {}: only the letters seem wrong", layout.name),
+            None => format!("{starts}, as no record of a directory does: see in the original where it belongs"),
+        })
+    }
+
+    /// Whether it lists what the sheet does not have: the sheet may have lost it.
+    fn is_doubtful(&self) -> bool {
+        let (listed, headers) = (self.listed(), self.headers());
+        let fewer = self.made_for().is_some_and(|made| made > self.before);
+        let states = self.stated("layers").is_some_and(|states| states > headers.len() as i64);
+        let others = listed.iter().any(|number| headers.binary_search(number).is_err());
+        let known = self.is_grown() || self.behind_another().is_some();
+        !known && (fewer || states || others || listed.len() > headers.len())
+    }
+
+    /// What to do next. A directory that is wrong may be the only sign that the sheet lost something.
+    fn next(&self) -> Option<String> {
+        if self.sheet.is_none() || self.other().is_some() {
+            return None;
+        }
+        Some(match self.is_doubtful() {
+            true => format!(
+                "the sheet before it is accepted, but may have lost a layer or other records since the directory was made: \
+                 compare it with the original first; if it is whole, {MEND}"
+            ),
+            false => format!("the sheet before it is accepted: {MEND}"),
+        })
+    }
+
+    /// What is said where the file was read without a directory, and one seems to start at a record.
+    pub fn unread(&self, first: usize) -> String {
+        match (first..=self.records).find(|number| is_end(record(self.bytes, *number))) {
+            Some(_) if is_end(self.end()) => {
+                let judged = form::answered(judge_directory(self.bytes, self.records * RECORD_BYTES));
+                let are = records(first, self.records, ["is", "are"]);
+                format!("{are} a directory of layers, and the file was read without one; read with it, {judged}")
+            }
+            Some(end) => self.behind(end),
+            None => {
+                let rows = (first..=self.records).take_while(|number| is_row(record(self.bytes, *number))).count();
+                let start = records(first, first + rows.max(1) - 1, ["starts", "start"]);
+                let next = self.next().map_or(String::new(), |next| format!("; {next}"));
+                format!("{start} as a directory of layers does, and no record \"ZE\" ends it{next}")
+            }
+        }
+    }
+
+    /// What stands behind a directory that ends at a record.
+    fn behind(&self, end: usize) -> String {
+        let (file, rest) = self.bytes.split_at(end * RECORD_BYTES);
+        let what = match rest.iter().all(|byte| matches!(byte, b' ' | 0 | 0x1a | b'\r' | b'\n')) {
+            true => format!("nothing but {}", form::named(rest)),
+            false => number_of(rest.len().div_ceil(RECORD_BYTES) as u64, "record"),
+        };
+        format!("behind the directory of layers, which ends at record {end}: {what}; {}", form::without(file))
+    }
+}
+
+/// Some records, and what they do: `record 5 is`, `records 5 to 7 are`.
+fn records(from: usize, to: usize, [one, several]: [&str; 2]) -> String {
+    match from == to {
+        true => format!("record {from} {one}"),
+        false => format!("records {from} to {to} {several}"),
+    }
+}
