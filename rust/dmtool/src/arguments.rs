@@ -2,7 +2,7 @@
 
 use crate::failure::Failure;
 use std::ffi::{OsStr, OsString};
-use zvaigulta::Form;
+use zvaigulta::{Form, Reading};
 
 /// Which options a subcommand takes, beside `--help`.
 #[derive(Clone, Copy, Debug, Default)]
@@ -11,8 +11,23 @@ pub struct Taken {
     pub output: bool,
     /// `--lines` and `--plain`.
     pub form: bool,
+    /// `--directory` and `--no-directory`.
+    pub directory: bool,
     /// `--to lines|plain` and `--mend`.
     pub convert: bool,
+    /// `--append`, `--remove` and `--check`.
+    pub action: bool,
+}
+
+/// What is done to a directory.
+#[derive(Clone, Copy, Debug, PartialEq, Eq)]
+pub enum Action {
+    /// `--append`.
+    Append,
+    /// `--remove`.
+    Remove,
+    /// `--check`.
+    Check,
 }
 
 /// The words that are no options, and the options.
@@ -28,6 +43,10 @@ pub struct Arguments {
     pub no_lock: bool,
     /// `--lines` or `--plain`: the form in which a file is read, whatever it seems to be.
     pub form: Option<Form>,
+    /// `--directory` or `--no-directory`: whether a file is read with a directory behind its sheet, whatever it seems to be.
+    pub directory: Option<bool>,
+    /// What is done to a directory.
+    pub action: Option<Action>,
     /// `--to lines|plain`.
     pub to: Option<Form>,
     /// `--mend`: line ends of another kind are put right.
@@ -51,7 +70,12 @@ impl Arguments {
                 "-o" | "--output" if taken.output => found.set_output(rest.next())?,
                 "--lines" if taken.form => found.set_form(Form::Lines)?,
                 "--plain" if taken.form => found.set_form(Form::Plain)?,
+                "--directory" if taken.directory => found.set_directory(true)?,
+                "--no-directory" if taken.directory => found.set_directory(false)?,
                 "--to" if taken.convert => found.set_to(rest.next())?,
+                "--append" if taken.action => found.set_action(Action::Append)?,
+                "--remove" if taken.action => found.set_action(Action::Remove)?,
+                "--check" if taken.action => found.set_action(Action::Check)?,
                 option if option.starts_with('-') && option.len() > 1 => {
                     return Err(Failure::Usage(format!(
                         "there is no option '{option}' here (put -- before a file of that name)"
@@ -60,7 +84,7 @@ impl Arguments {
                 _ => found.words.push(word.clone()),
             }
         }
-        found.checked()
+        found.checked(taken)
     }
 
     fn set_output(&mut self, other: Option<&OsString>) -> Result<(), Failure> {
@@ -79,6 +103,20 @@ impl Arguments {
         }
     }
 
+    fn set_directory(&mut self, directory: bool) -> Result<(), Failure> {
+        match self.directory.replace(directory).filter(|before| *before != directory) {
+            Some(_) => Err(Failure::Usage("--directory and --no-directory do not go together; give one of them".to_string())),
+            None => Ok(()),
+        }
+    }
+
+    fn set_action(&mut self, action: Action) -> Result<(), Failure> {
+        match self.action.replace(action).filter(|before| *before != action) {
+            Some(_) => Err(Failure::Usage("--append, --remove and --check do not go together; give one of them".to_string())),
+            None => Ok(()),
+        }
+    }
+
     fn set_to(&mut self, word: Option<&OsString>) -> Result<(), Failure> {
         let form = match word.map(|word| word.to_string_lossy()).as_deref() {
             Some("lines") => Form::Lines,
@@ -91,12 +129,25 @@ impl Arguments {
         }
     }
 
-    /// The form in which a file of these bytes is read: as asked for, else as recognised.
-    pub fn form_of(&self, bytes: &[u8]) -> Form {
-        self.form.unwrap_or_else(|| Form::of(bytes))
+    /// How a file of these bytes is read: as asked for, else as recognised.
+    pub fn reading_of(&self, bytes: &[u8]) -> Reading {
+        let form = self.form.unwrap_or_else(|| Form::of(bytes));
+        match self.directory.or((self.action == Some(Action::Check)).then_some(true)) {
+            Some(directory) => Reading { form, directory },
+            None => Reading::in_form(form, bytes),
+        }
     }
 
-    fn checked(self) -> Result<Arguments, Failure> {
+    /// Whether an option says where a result goes, or how.
+    fn writes(&self) -> bool {
+        self.output.is_some() || self.force || self.no_lock
+    }
+
+    fn checked(self, taken: Taken) -> Result<Arguments, Failure> {
+        let only_reads = taken.action && !matches!(self.action, Some(Action::Append | Action::Remove));
+        if only_reads && self.writes() && !self.help {
+            return Err(Failure::Usage("-o, --force and --no-lock go with --append or --remove".to_string()));
+        }
         if self.force && self.output.is_none() && !self.help {
             return Err(Failure::Usage("--force goes with -o OTHER: it lets the result replace another file".to_string()));
         }
@@ -115,8 +166,13 @@ impl Arguments {
 
 /// A record number from the command line.
 pub fn record_number(word: &OsStr, name: &str) -> Result<usize, Failure> {
+    number(word, name, "a record number")
+}
+
+/// A number from the command line; `what` it is.
+pub fn number(word: &OsStr, name: &str, what: &str) -> Result<usize, Failure> {
     let text = word.to_string_lossy();
     let digits = !text.is_empty() && text.bytes().all(|b| b.is_ascii_digit());
     let number = if digits { text.parse().ok() } else { None };
-    number.ok_or_else(|| Failure::Usage(format!("{name} must be a record number, counted from 1, and is '{text}'")))
+    number.ok_or_else(|| Failure::Usage(format!("{name} must be {what}, counted from 1, and is '{text}'")))
 }

@@ -40,6 +40,9 @@ fn answer(line: &str) -> Result<String, String> {
         "insert" => insert,
         "remove" => remove,
         "up" => up,
+        "directory" => directory,
+        "append" => append,
+        "jump" => jump,
         "main" => program,
         _ => return Err("there is no such command".to_string()),
     };
@@ -130,6 +133,21 @@ fn remove(words: &mut Words) -> Answer {
 fn up(words: &mut Words) -> Answer {
     let (used, record, buffer) = (words.size("USED")?, words.size("RECORD")?, words.bytes("BUF")?);
     Ok(said(zvaigulta::way_up(&buffer, used, record).map(|way| format!("{} {}", way.header.unwrap_or(0), way.passed))))
+}
+
+fn directory(words: &mut Words) -> Answer {
+    let (used, buffer) = (words.size("USED")?, words.bytes("BUF")?);
+    Ok(said(zvaigulta::judge_directory(&buffer, used).map(|c| format!("{} {}", c.records, c.items))))
+}
+
+fn append(words: &mut Words) -> Answer {
+    let (used, mut buffer) = (words.size("USED")?, words.bytes("BUF")?);
+    Ok(said(zvaigulta::append_directory(&mut buffer, used).map(|n| format!("{n} {}", hex(&buffer)))))
+}
+
+fn jump(words: &mut Words) -> Answer {
+    let (used, buffer, layer) = (words.size("USED")?, words.bytes("BUF")?, words.size("N")?);
+    Ok(said(zvaigulta::jump(&buffer, used, layer).map(|header| header.to_string())))
 }
 
 /// What the proved program prints on its standard input, without the line end.

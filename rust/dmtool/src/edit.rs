@@ -1,7 +1,8 @@
 //! `insert FILE PLACE BLOCKFILE` and `remove FILE PLACE`.
 
 use crate::arguments::{record_number, Arguments};
-use crate::explain::{self, Asked};
+use crate::asked::{file_of, Asked};
+use crate::explain;
 use crate::failure::{Done, Failure, FINE};
 use crate::replace::Job;
 use crate::{files, system};
@@ -9,7 +10,7 @@ use std::borrow::Cow;
 use std::ffi::OsStr;
 use std::io::Write;
 use zvaigulta::text::number_of;
-use zvaigulta::{Counts, Form, Reason, Sheet, RECORD_BYTES};
+use zvaigulta::{Counts, Form, Reading, Reason, Sheet, RECORD_BYTES};
 
 /// A place for an insertion: a record number, or none for `end`.
 fn place(word: &OsStr) -> Result<Option<usize>, Failure> {
@@ -49,19 +50,19 @@ pub fn insert(arguments: &Arguments, out: &mut impl Write) -> Done {
     // A block with a wrong line end goes in as it is: no item, and so refused after all that the sheet itself is refused for.
     let block = form.plain(&read).unwrap_or(Cow::Borrowed(&read));
     let job = Job::open(arguments, path, to)?;
-    let asked = Asked { path, form: arguments.form_of(&job.bytes), bytes: &job.bytes };
-    let plain = asked.plain()?;
+    let asked = Asked::of(arguments, path, &job.bytes);
+    let plain = asked.sheet()?;
     let place = at.unwrap_or(plain.len() / RECORD_BYTES + 1);
     let mut sheet = copied(&plain, block.len());
     let counts = sheet.insert(place, &block).map_err(|r| match form.plain(&read) {
         Err(wrong) if r.reason == Reason::Block => {
-            explain::block(&asked, &Asked { path: block_path, form, bytes: &read }, wrong, r)
+            explain::block(&asked, &Asked { path: block_path, reading: form.into(), bytes: &read }, wrong, r)
         }
         _ => explain::insertion(&asked, &plain, place, &block, r),
     })?;
-    let result = Edited { form: asked.form, sheet, counts };
-    let done = format!("inserted {} at record {place}", records(block.len()));
-    finish(job, to, &result, &done, out)
+    let result = Edited { reading: asked.reading, sheet, counts };
+    let done = format!("inserted {} at record {place}", records_of(block.len()));
+    finish(job, to, result, &done, out)
 }
 
 /// Removes the item at the place.
@@ -69,39 +70,40 @@ pub fn remove(arguments: &Arguments, out: &mut impl Write) -> Done {
     let [path, at] = arguments.exactly("remove FILE PLACE [-o OTHER [--force]] [--no-lock] [--lines | --plain]")?;
     let (to, place) = (target(arguments, path)?, record_number(at, "PLACE")?);
     let job = Job::open(arguments, path, to)?;
-    let asked = Asked { path, form: arguments.form_of(&job.bytes), bytes: &job.bytes };
-    let plain = asked.plain()?;
+    let asked = Asked::of(arguments, path, &job.bytes);
+    let plain = asked.sheet()?;
     let mut sheet = copied(&plain, 0);
     let counts = sheet.remove(place).map_err(|r| explain::removal(&asked, &plain, place, r))?;
     let removed = plain.len() - sheet.as_bytes().len();
-    let result = Edited { form: asked.form, sheet, counts };
-    finish(job, to, &result, &format!("removed {} at record {place}", records(removed)), out)
+    let result = Edited { reading: asked.reading, sheet, counts };
+    finish(job, to, result, &format!("removed {} at record {place}", records_of(removed)), out)
 }
 
 /// How many records so many bytes are, in words.
-fn records(bytes: usize) -> String {
+pub fn records_of(bytes: usize) -> String {
     number_of((bytes / RECORD_BYTES) as u64, "record")
 }
 
-/// An edited sheet, what it holds, and the form in which it is written.
+/// An edited sheet, what it holds, and how its file is to be read.
 struct Edited {
-    form: Form,
+    reading: Reading,
     sheet: Sheet,
     counts: Counts,
 }
 
-/// Puts the sheet where it goes and says what was done.
-fn finish(job: Job, to: &OsStr, result: &Edited, done: &str, out: &mut impl Write) -> Done {
-    let silent = job.is_to_output();
-    let file = result.form.file(result.sheet.as_bytes()).map_err(|refusal| Failure::Refused(refusal.to_string()))?;
-    let path = job.path();
+/// Puts the sheet where it goes, with a directory made anew where it had one, and says what was done.
+fn finish(job: Job, to: &OsStr, result: Edited, done: &str, out: &mut impl Write) -> Done {
+    let (silent, path) = (job.is_to_output(), job.path());
+    let Edited { reading, sheet, counts } = result;
+    let file = file_of(reading, sheet).map_err(|refusal| Failure::Refused(refusal.to_string()))?;
     job.deliver(&file, out)?;
     if silent {
-        files::say_form(path, result.form);
+        files::say_reading(path, reading);
         return Ok(FINE);
     }
-    let (name, counts) = (files::name(to), result.counts);
-    let line = files::in_form(result.form, format!("{done}, now {} records {} items", counts.records, counts.items));
+    let name = files::name(to);
+    let now = format!("{done}, now {} records {} items", counts.records, counts.items);
+    let line = files::as_made(reading, reading.layers(&file), now);
     let said = writeln!(out, "{name}: {line}").and_then(|()| out.flush());
     said.map_err(|e| Failure::File(format!("{name}: {done}; only this could not be printed: {e}")))?;
     Ok(FINE)

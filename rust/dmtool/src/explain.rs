@@ -2,31 +2,30 @@
 //! explains them. Also what a refused edit says.
 
 use crate::arguments::Arguments;
+use crate::asked::Asked;
 use crate::failure::{output_failed, Done, Failure, FINE, REFUSED};
-use crate::files;
-use std::borrow::Cow;
-use std::ffi::OsStr;
+use crate::files::{self, as_read};
 use std::io::{self, Write};
-use zvaigulta::explain::{explain_in, line_in, Explanation, Fault};
+use zvaigulta::explain::{explain_as, line_as, Explanation, Fault};
 use zvaigulta::layout::Column;
-use zvaigulta::outline::{Outline, Record};
+use zvaigulta::outline::Record;
 use zvaigulta::text::quoted;
-use zvaigulta::{FileKind, Form, Reason, Refusal, LINE_RECORD_BYTES, RECORD_BYTES};
+use zvaigulta::{FileKind, Reason, Refusal, LINE_RECORD_BYTES, RECORD_BYTES};
 
 /// Prints the judgement of a file and, where it is refused, what is wrong.
 pub fn run(arguments: &Arguments, out: &mut impl Write) -> Done {
     let [path] = arguments.exactly("explain FILE")?;
     let bytes = files::read(path)?;
-    let (name, form) = (files::name(path), arguments.form_of(&bytes));
-    match files::judge(form, &bytes) {
+    let (name, asked) = (files::name(path), Asked::of(arguments, path, &bytes));
+    match asked.reading.judge(&bytes) {
         Ok(counts) => {
-            writeln!(out, "{name}: {}", files::in_form(form, counts)).map_err(output_failed)?;
+            writeln!(out, "{name}: {}", as_read(asked.reading, asked.layers(), counts)).map_err(output_failed)?;
             Ok(FINE)
         }
         Err(refusal) => {
-            let line = line_in(form, &bytes, refusal);
-            writeln!(out, "{name}: {}", files::in_form(form, &line)).map_err(output_failed)?;
-            print(&Asked { path, form, bytes: &bytes }, refusal, &line, out).map_err(output_failed)?;
+            let line = line_as(asked.reading, &bytes, refusal);
+            writeln!(out, "{name}: {}", as_read(asked.reading, None, &line)).map_err(output_failed)?;
+            print(&asked, refusal, &line, out).map_err(output_failed)?;
             Ok(REFUSED)
         }
     }
@@ -35,12 +34,11 @@ pub fn run(arguments: &Arguments, out: &mut impl Write) -> Done {
 /// What there is to say first that `line` has not said, then the refused record whole, then of each other record with a fault its
 /// marked columns.
 fn print(asked: &Asked, refusal: Refusal, line: &str, out: &mut impl Write) -> io::Result<()> {
-    let Asked { path, form, bytes } = *asked;
-    let Explanation { faults, notes, .. } = explain_in(form, bytes, refusal);
+    let Explanation { faults, notes, .. } = explain_as(asked.reading, asked.bytes, refusal);
     let unsaid = notes.iter().filter(|note| !line.contains(note.as_str()));
-    unsaid.map(|note| files::with_name(note, path)).try_for_each(|note| writeln!(out, "{note}"))?;
-    let (records, mut others) = (form.records(bytes), Vec::new());
-    for record in Outline::of(&records) {
+    unsaid.map(|note| files::with_name(note, asked.path)).try_for_each(|note| writeln!(out, "{note}"))?;
+    let (records, mut others) = (asked.reading.form.records(asked.bytes), Vec::new());
+    for record in asked.reading.outline(&records) {
         let whole = Some(record.number) == refusal.record;
         let own: Vec<&Fault> = faults.iter().filter(|fault| fault.record == record.number).collect();
         if whole {
@@ -88,39 +86,35 @@ fn print_columns(named: &Record, faults: &[&Fault], whole: bool, out: &mut impl 
     Ok(widest)
 }
 
-/// A file that was read, and in which form.
-pub struct Asked<'a> {
-    pub path: &'a OsStr,
-    pub form: Form,
-    pub bytes: &'a [u8],
-}
-
-impl<'a> Asked<'a> {
-    /// Its records without their line ends, where they all have one.
-    pub fn plain(&self) -> Result<Cow<'a, [u8]>, Failure> {
-        self.form.plain(self.bytes).map_err(|refusal| file(self, refusal))
-    }
-}
-
 /// A refused insertion as the failure of its subcommand; the sheet and the block without line ends.
 pub fn insertion(asked: &Asked, sheet: &[u8], place: usize, block: &[u8], refusal: Refusal) -> Failure {
-    refused(asked, refusal, zvaigulta::explain::insertion(sheet, place, block, refusal))
+    let words = zvaigulta::explain::insertion(sheet, place, block, refusal);
+    refused(asked, refusal, words.into_iter().chain(in_directory(asked, sheet, place)).collect())
 }
 
 /// The same where the block has line ends, and they are wrong.
 pub fn block(asked: &Asked, block: &Asked, wrong: Refusal, refusal: Refusal) -> Failure {
-    let notes = explain_in(block.form, block.bytes, wrong).notes;
+    let notes = explain_as(block.reading, block.bytes, wrong).notes;
     refused(asked, refusal, notes.iter().map(|note| format!("in the block: {}", files::with_name(note, block.path))).collect())
 }
 
 /// A refused removal as the failure of its subcommand.
 pub fn removal(asked: &Asked, sheet: &[u8], place: usize, refusal: Refusal) -> Failure {
-    refused(asked, refusal, zvaigulta::explain::removal(sheet, place, refusal))
+    let words = zvaigulta::explain::removal(sheet, place, refusal);
+    refused(asked, refusal, words.into_iter().chain(in_directory(asked, sheet, place)).collect())
 }
 
 /// A refused way up as the failure of its subcommand.
 pub fn way_up(asked: &Asked, sheet: &[u8], record: usize, refusal: Refusal) -> Failure {
-    refused(asked, refusal, zvaigulta::explain::way_up(sheet, record, refusal))
+    let words = zvaigulta::explain::way_up(sheet, record, refusal);
+    refused(asked, refusal, words.into_iter().chain(in_directory(asked, sheet, record)).collect())
+}
+
+/// That a record which is none of the sheet's is one of its directory.
+fn in_directory(asked: &Asked, sheet: &[u8], record: usize) -> Option<String> {
+    let records = asked.bytes.len() / asked.reading.form.record_bytes();
+    let its = asked.reading.directory && (sheet.len() / RECORD_BYTES + 1..=records).contains(&record);
+    its.then(|| format!("record {record} belongs to the directory, which is no part of the sheet"))
 }
 
 /// A refused file as the failure of a subcommand.
@@ -128,13 +122,43 @@ pub fn file(asked: &Asked, refusal: Refusal) -> Failure {
     refused(asked, refusal, Vec::new())
 }
 
+/// The same of a file with a directory: what there is to say where that is wrong, or does not say where the sheet ends.
+pub fn directory(asked: &Asked, refusal: Refusal) -> Failure {
+    if !asked.reading.directory {
+        return file(asked, refusal);
+    }
+    let Explanation { faults, notes, .. } = explain_as(asked.reading, asked.bytes, refusal);
+    let its = refusal.reason == Reason::Directory || faults.iter().any(|fault| fault.column == "pointer");
+    let words = match its {
+        true => notes.iter().map(|note| files::with_name(note, asked.path)).collect(),
+        false => vec!["the sheet before the directory is refused: it must be mended first".to_string()],
+    };
+    refused(asked, refusal, words)
+}
+
+/// A refused append as the failure of its subcommand.
+pub fn appending(asked: &Asked, refusal: Refusal) -> Failure {
+    let words = match FileKind::of(asked.bytes) {
+        FileKind::Index => vec!["this is an index: it has no layers, and so no directory".to_string()],
+        FileKind::Sheet => Vec::new(),
+    };
+    refused(asked, refusal, words)
+}
+
+/// A refused jump as the failure of its subcommand; the file without line ends.
+pub fn jump(asked: &Asked, plain: &[u8], refusal: Refusal) -> Failure {
+    let words = zvaigulta::explain::jump(plain, refusal);
+    refused(asked, refusal, words.iter().map(|note| files::with_name(note, asked.path)).collect())
+}
+
 /// The refusal, then what to do, a line each. An index that should be a sheet is told to be one, and there is nothing to explain.
 fn refused(asked: &Asked, refusal: Refusal, mut words: Vec<String>) -> Failure {
-    let of_file = refusal.number() <= 10 || refusal.reason == Reason::LineEnd;
+    let of_file = refusal.number() <= 10 || matches!(refusal.reason, Reason::LineEnd | Reason::Directory);
     if of_file && (words.is_empty() || FileKind::of(asked.bytes) == FileKind::Sheet) {
-        words.push(format!("{} says what is wrong", files::explain_command(asked.path, asked.form, asked.bytes)));
+        words.push(format!("{} says what is wrong", files::explain_command(asked.path, asked.reading, asked.bytes)));
     }
-    let line = files::in_form(asked.form, line_in(asked.form, asked.bytes, refusal));
+    let layers = asked.layers().filter(|_| !of_file);
+    let line = as_read(asked.reading, layers, line_as(asked.reading, asked.bytes, refusal));
     words.insert(0, format!("{}: {line}", files::name(asked.path)));
     Failure::Refused(words.join("\n"))
 }

@@ -7,12 +7,15 @@ use std::ffi::OsStr;
 use std::fmt::Display;
 use std::fs::{self, File};
 use std::io::{self, ErrorKind, Read};
-use zvaigulta::text::shown;
-use zvaigulta::{Counts, FileKind, Form, Refusal, LINE_END, LINE_RECORD_BYTES, MOST_RECORDS};
+use zvaigulta::text::{number_of, shown};
+use zvaigulta::{Form, Reading, LINE_END, LINE_RECORD_BYTES, MOST_DIRECTORY_RECORDS, MOST_RECORDS, RECORD_BYTES};
 
-/// One record more than a file may have, each with two line ends, as `convert --mend` takes them. A longer file answers as this much of it does:
-/// it is refused by its length.
-const LONGEST: u64 = ((MOST_RECORDS + 1) * (LINE_RECORD_BYTES + LINE_END.len())) as u64;
+/// One record more than a file may have, those of a directory included, each with two line ends, as `convert --mend` takes them. A longer file answers
+/// as this much of it does: it is refused by its length.
+const LONGEST: u64 = ((MOST_RECORDS + MOST_DIRECTORY_RECORDS + 1) * (LINE_RECORD_BYTES + LINE_END.len())) as u64;
+
+// What is read of a longer file ends inside a record in either form, so that none of its records is taken for a directory's end.
+const _: () = assert!(!LONGEST.is_multiple_of(RECORD_BYTES as u64) && !LONGEST.is_multiple_of(LINE_RECORD_BYTES as u64));
 
 /// Whether bytes are all of the file that they were read from, for sure.
 pub fn is_whole(bytes: &[u8]) -> bool {
@@ -97,37 +100,60 @@ pub fn name(path: &OsStr) -> String {
     shown(path.to_string_lossy().chars())
 }
 
-/// Judges a whole file: as an index if it starts `I `, else as a sheet.
-pub fn judge(form: Form, bytes: &[u8]) -> Result<Counts, Refusal> {
-    FileKind::of(bytes).judge_in(form, bytes, bytes.len())
+/// A line about a file, which says so where it is read with line ends or with a directory; of an accepted one, how many layers that lists.
+pub fn as_read(reading: Reading, layers: Option<usize>, line: impl Display) -> String {
+    noted(reading, &directory_of(layers), line)
 }
 
-/// A line about a file, which says so where the file is read with line ends.
-pub fn in_form(form: Form, line: impl Display) -> String {
-    match form {
-        Form::Plain => line.to_string(),
-        Form::Lines => format!("{line} ({form})"),
+/// The same about a result, whose directory is made anew.
+pub fn as_made(reading: Reading, layers: Option<usize>, line: impl Display) -> String {
+    noted(reading, &format!("{} made anew", directory_of(layers)), line)
+}
+
+fn directory_of(layers: Option<usize>) -> String {
+    layers.map_or("directory".to_string(), |layers| format!("directory of {}", number_of(layers as u64, "layer")))
+}
+
+fn noted(reading: Reading, directory: &str, line: impl Display) -> String {
+    match (reading.form, reading.directory) {
+        (Form::Plain, false) => line.to_string(),
+        (Form::Plain, true) => format!("{line} ({directory})"),
+        (form, false) => format!("{line} ({form})"),
+        (form, true) => format!("{line} ({form}, {directory})"),
     }
 }
 
-/// The command that explains a file as it was read: with the form, where that is not the one which is recognised.
-pub fn explain_command(path: &OsStr, form: Form, bytes: &[u8]) -> String {
-    let option = match form {
-        _ if form == Form::of(bytes) => "",
+/// The command that explains a file as it was read: with the options for that, where it is not what is recognised.
+pub fn explain_command(path: &OsStr, reading: Reading, bytes: &[u8]) -> String {
+    let form = match reading.form {
+        form if form == Form::of(bytes) => "",
         Form::Lines => " --lines",
         Form::Plain => " --plain",
     };
-    quoted(&format!("dmtool explain{option} {}", word(path)))
+    let directory = match reading.directory {
+        directory if directory == Reading::in_form(reading.form, bytes).directory => "",
+        true => " --directory",
+        false => " --no-directory",
+    };
+    quoted(&format!("dmtool explain{form}{directory} {}", word(path)))
 }
 
-/// A note of the library with the file's name in the command that mends it. Standard input has none that a command could mend.
+/// A note of the library with the file's name in the commands that mend it. Standard input has none that a command could mend.
 pub fn with_name(note: &str, path: &OsStr) -> String {
-    let parts = note.split_once("'dmtool convert FILE ").filter(|_| path != "-");
-    let parts = parts.and_then(|(before, rest)| Some((before, rest.split_once('\'')?)));
-    parts.map_or_else(
-        || note.to_string(),
-        |(before, (words, behind))| format!("{before}{}{behind}", quoted(&format!("dmtool convert {} {words}", word(path)))),
-    )
+    let (mut named, mut rest) = (String::new(), note);
+    while let Some((before, command, behind)) = command_in(rest).filter(|_| path != "-") {
+        named.push_str(before);
+        named.push_str(&quoted(&command.replacen(" FILE ", &format!(" {} ", word(path)), 1)));
+        rest = behind;
+    }
+    named + rest
+}
+
+/// The first command in a text, between what stands before it and behind it.
+fn command_in(text: &str) -> Option<(&str, &str, &str)> {
+    let (before, rest) = text.split_at(text.find("'dmtool ")?);
+    let (command, behind) = rest.strip_prefix('\'')?.split_once('\'')?;
+    Some((before, command, behind))
 }
 
 /// A command in quotation marks that it does not hold itself.
@@ -161,9 +187,13 @@ fn in_octal(byte: &u8) -> String {
     }
 }
 
-/// Says that a file was read with line ends, and that its result has them, where the answer has no room for it.
-pub fn say_form(path: &OsStr, form: Form) {
-    if form == Form::Lines {
-        complain(&format!("{}: it has line ends, and so has the result", name(path)));
-    }
+/// Says that a file was read with line ends or a directory, and that its result has them, where the answer has no room for it.
+pub fn say_reading(path: &OsStr, reading: Reading) {
+    let has = match (reading.form, reading.directory) {
+        (Form::Plain, false) => return,
+        (Form::Lines, false) => "it has line ends, and so has the result",
+        (Form::Plain, true) => "it has a directory, and the result has it made anew",
+        (Form::Lines, true) => "it has line ends and a directory, and so has the result, the directory made anew",
+    };
+    complain(&format!("{}: {has}", name(path)));
 }

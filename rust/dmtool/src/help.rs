@@ -16,6 +16,8 @@ Usage: dmtool SUBCOMMAND ...
   up FILE RECORD                 the headers above a record
   normal FILE                    the file with every number in written form
   convert FILE --to lines|plain  the file with line ends, or without
+  directory FILE                 the layers by the directory behind a sheet; appends it, takes it off, checks it
+  jump FILE LAYER                the record of a layer's header, by the directory
   batch                          the line protocol of test benches
 
   dmtool SUBCOMMAND --help       more about one of them
@@ -23,7 +25,8 @@ Usage: dmtool SUBCOMMAND ...
 
 A FILE - is standard input. A file that starts \"I \" is taken as an index, any other as a sheet. Records number from 1. Files whose
 records end in carriage return and line feed, 86 bytes in all, are recognised, and answers say '(line ends)'; --lines or --plain
-behind a subcommand reads a file in that form, whatever it seems to be.
+behind a subcommand reads a file in that form, whatever it seems to be. So are sheets with a directory of layers behind them, and
+answers say '(directory of 2 layers)'; --directory or --no-directory overrules that.
 Exit status: 0 fine; 1 refused; 2 wrong words, or a file that cannot be read or written.
 ";
 
@@ -35,6 +38,18 @@ A file with line ends (carriage return and line feed behind each record) is know
 
   --lines      reads FILE with line ends, whatever it seems to be
   --plain      reads FILE without
+"
+    };
+}
+
+/// What the subcommands that read a sheet with a directory or without say of it.
+macro_rules! directory {
+    () => {
+        "
+A directory of layers behind a sheet is known by its last record, which starts \"ZE\".
+
+  --directory  reads FILE with a directory, whatever it seems to be
+  --no-directory  reads FILE without
 
 "
     };
@@ -42,18 +57,20 @@ A file with line ends (carriage return and line feed behind each record) is know
 
 const JUDGE: &str = concat!(
     "\
-Usage: dmtool judge FILE... [--lines | --plain]
+Usage: dmtool judge FILE... [--lines | --plain] [--directory | --no-directory]
 
 Judges each file and prints one line for it:
 
   sheet.dm: accepted 9 records 1 items
   other.dm: refused 10 at record 6: a count differs from what the file holds
   field.dm: accepted 9 records 1 items (line ends)
+  plot.dm: accepted 28 records 8 items (directory of 2 layers)
 
 A file that cannot be read is named on standard error, and the list goes on. Where judging a list takes longer than a second, standard
 error is a terminal and the answers go elsewhere, a line there says how far it has come.
 ",
     form!(),
+    directory!(),
     "\
 Exit status: 0 only if every file is accepted; 2 if one could not be read; else 1.
 "
@@ -61,13 +78,14 @@ Exit status: 0 only if every file is accepted; 2 if one could not be read; else 
 
 const EXPLAIN: &str = concat!(
     "\
-Usage: dmtool explain FILE [--lines | --plain]
+Usage: dmtool explain FILE [--lines | --plain] [--directory | --no-directory]
 
 Judges the file. Where it is refused, says what to look at first, then prints the refused record with its columns named, those at
 fault marked by > with the reason, and of other records that have to do with it the marked columns. The refusal and its record are
 the proved library's; the rest is an explanation of it.
 ",
     form!(),
+    directory!(),
     "\
 Exit status: 0 accepted; 1 refused; 2 the file cannot be read.
 "
@@ -75,13 +93,14 @@ Exit status: 0 accepted; 1 refused; 2 the file cannot be read.
 
 const SHOW: &str = concat!(
     "\
-Usage: dmtool show FILE [FROM [TO]] [--lines | --plain]
+Usage: dmtool show FILE [FROM [TO]] [--lines | --plain] [--directory | --no-directory]
 
 Prints the judgement, then a line for each record from FROM (else 1) to TO (else the last): its number, what it is, its level, and its columns
 by name. Text stands in quotation marks without the spaces at its end; bytes that are not printable ASCII as \\x8f; a malformed integer in quotation
 marks behind a ?. Blank columns and empty texts are left out. Behind a refusal the names are the best guess.
 ",
     form!(),
+    directory!(),
     "\
 Exit status: 0 shown, whatever the judgement; 2 wrong words, or the file cannot be read or has no record FROM.
 "
@@ -101,46 +120,59 @@ that is marked read-only or that has several names (hard links) stays as it is.
   --no-lock    replaces a file without its lock, for shares that have no locks; only where nobody else edits it
   --lines      reads FILE with line ends (carriage return and line feed behind each record), whatever it seems to be
   --plain      reads FILE without
+"
+    };
+}
 
+/// What the edits say of a directory.
+macro_rules! made_anew {
+    () => {
+        "  --directory  reads FILE with a directory of layers behind its sheet, whatever it seems to be
+  --no-directory  reads FILE without
+
+A directory behind the sheet is taken off and made anew. Where it is wrong nothing is changed: 'dmtool explain FILE' says what to do.
 "
     };
 }
 
 const INSERT: &str = concat!(
     "\
-Usage: dmtool insert FILE PLACE BLOCKFILE [-o OTHER [--force]] [--no-lock] [--lines | --plain]
+Usage: dmtool insert FILE PLACE BLOCKFILE [-o OTHER [--force]] [--no-lock] [--lines | --plain] [--directory | --no-directory]
 
 Puts the item in BLOCKFILE (an element, grid or net with its data records) into the sheet before the record PLACE; 'end' is one
 past the last record. The header above and the sheet's counts are brought up to date. The result replaces FILE, unless -o names
 another place. A sheet with line ends keeps them; the block may have them or not.
 ",
     replacing!(),
-    "\
+    made_anew!(),
+    "
 Exit status: 0 done; 1 refused, and no file is changed; 2 wrong words, or a file cannot be read or written.
 "
 );
 
 const REMOVE: &str = concat!(
     "\
-Usage: dmtool remove FILE PLACE [-o OTHER [--force]] [--no-lock] [--lines | --plain]
+Usage: dmtool remove FILE PLACE [-o OTHER [--force]] [--no-lock] [--lines | --plain] [--directory | --no-directory]
 
 Takes the item that starts at the record PLACE, with its data records, out of the sheet. The header above and the sheet's counts
 are brought up to date. The result replaces FILE, unless -o names another place. A sheet with line ends keeps them.
 ",
     replacing!(),
-    "\
+    made_anew!(),
+    "
 Exit status: 0 done; 1 refused, and no file is changed; 2 wrong words, or a file cannot be read or written.
 "
 );
 
 const UP: &str = concat!(
     "\
-Usage: dmtool up FILE RECORD [--lines | --plain]
+Usage: dmtool up FILE RECORD [--lines | --plain] [--directory | --no-directory]
 
 Prints the header above a record of a sheet, how many headers the way up to its layer passes, and their record numbers. A data record answers as its
 item.
 ",
     form!(),
+    directory!(),
     "\
 Exit status: 0 answered; 1 the sheet is refused, or the record is none of its layers'; 2 wrong words, or the file cannot be read.
 "
@@ -148,13 +180,14 @@ Exit status: 0 answered; 1 the sheet is refused, or the record is none of its la
 
 const NORMAL: &str = concat!(
     "\
-Usage: dmtool normal FILE [-o OTHER [--force]] [--no-lock] [--lines | --plain]
+Usage: dmtool normal FILE [-o OTHER [--force]] [--no-lock] [--lines | --plain] [--directory | --no-directory]
 
 Writes the file with every judged integer in written form (shortest digits, spaces in front) to standard output, or to the place
 that -o names, which may be FILE itself. Nothing is written where the file is refused. A file with line ends keeps them.
 ",
     replacing!(),
-    "\
+    made_anew!(),
+    "
 Exit status: 0 done; 1 refused, and no file is changed; 2 wrong words, or a file cannot be read or written.
 "
 );
@@ -171,9 +204,45 @@ Nothing else is judged or changed: over and back gives the same bytes. The resul
                bytes; not together with --plain
 ",
     replacing!(),
-    "\
+    "
 Exit status: 0 done, also where the file has that form already; 1 refused (1: the length; 18: a line end), and no file is changed;
 2 wrong words, or a file cannot be read or written.
+"
+);
+
+const DIRECTORY: &str = concat!(
+    "\
+Usage: dmtool directory FILE [--append | --remove] [-o OTHER [--force]] [--no-lock] [--lines | --plain]
+       dmtool directory --check FILE... [--lines | --plain]
+
+A sheet may have a directory of its layers behind its last record: records that start \"Z \", each with the record numbers of up to eleven
+layer headers, and one record \"ZE\" with the number of the first of them and the number of layers.
+
+Without --append, --remove or --check prints the judgement, and a line for each layer: its number, the record of its header, its records
+(the header included) and items, and the columns of the header that name it. Of a sheet without a directory, the one that --append appends.
+
+  --append     appends the directory to a sheet that has none. One that is there already and right stays as it is
+  --remove     takes the directory off, right or wrong, where the sheet before it is accepted and nothing but records that start \"Z \" or
+               \"ZE\" stands behind that
+  --check      judges each file with its directory and prints one line for it, as 'dmtool judge --directory' does
+",
+    replacing!(),
+    "
+Exit status: 0 shown, done, or every file checked is accepted with its directory; 1 refused, and no file is changed; 2 wrong words, or a
+file cannot be read or written.
+"
+);
+
+const JUMP: &str = concat!(
+    "\
+Usage: dmtool jump FILE LAYER [--lines | --plain]
+
+Prints the record number of the header of a layer, layers counted from 1, and the columns of the header that name it. The file is judged with
+its directory, which then answers: nothing is counted from the front.
+",
+    form!(),
+    "
+Exit status: 0 answered; 1 the file or its directory is refused, or there is no such layer; 2 wrong words, or the file cannot be read.
 "
 );
 
@@ -194,6 +263,9 @@ Reads one command a line from standard input and answers each with one line, at 
   insert USED PLACE BUF BLOCK          ok NEWUSED BUF-AFTER
   remove USED PLACE BUF                ok NEWUSED BUF-AFTER
   up USED RECORD BUF                   ok HEADER PASSED (HEADER 0 for none)
+  directory USED BUF                   ok RECORDS ITEMS, of a sheet with its directory
+  append USED BUF                      ok NEWUSED BUF-AFTER, a directory appended
+  jump USED BUF N                      ok RECORD, the header of layer N
   main BYTES                           what the program dm prints on that input
 
 A refusal is 'no NUMBER RECORD'; a line that is no command is 'error REASON'.
@@ -211,6 +283,8 @@ pub fn of(name: &str) -> Option<&'static str> {
         ("up", UP),
         ("normal", NORMAL),
         ("convert", CONVERT),
+        ("directory", DIRECTORY),
+        ("jump", JUMP),
         ("batch", BATCH),
     ];
     all.into_iter().find(|(known, _)| *known == name).map(|(_, text)| text)

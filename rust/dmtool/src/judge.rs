@@ -2,11 +2,12 @@
 
 use crate::arguments::Arguments;
 use crate::failure::{complain, output_failed, Done, Failure, FAILED, FINE, REFUSED};
-use crate::{files, progress};
+use crate::files::{self, as_read};
+use crate::progress;
 use std::ffi::OsStr;
 use std::io::Write;
 use std::time::Instant;
-use zvaigulta::{explain, Form, Mended, Reason, Refusal};
+use zvaigulta::{explain, Form, Mended, Reading, Reason, Refusal};
 
 /// Judges every file of the list, whatever became of those before it. The exit status is the worst of theirs.
 pub fn run(arguments: &Arguments, out: &mut impl Write) -> Done {
@@ -37,13 +38,13 @@ pub fn run(arguments: &Arguments, out: &mut impl Write) -> Done {
 /// Judges one file and prints its line.
 fn one(arguments: &Arguments, path: &OsStr, buffer: &mut Vec<u8>, out: &mut impl Write) -> Done {
     files::read_into(path, buffer)?;
-    let form = arguments.form_of(buffer);
-    let (line, status) = match files::judge(form, buffer) {
-        Ok(counts) => (files::in_form(form, counts), FINE),
+    let reading = arguments.reading_of(buffer);
+    let (line, status) = match reading.judge(buffer) {
+        Ok(counts) => (as_read(reading, reading.layers(buffer), counts), FINE),
         Err(refusal) => {
-            let line = files::in_form(form, explain::line_in(form, buffer, refusal));
+            let line = as_read(reading, None, explain::line_as(reading, buffer, refusal));
             let plain = arguments.form == Some(Form::Plain);
-            let hint = if plain { String::new() } else { hint(path, form, buffer, refusal) };
+            let hint = if plain { String::new() } else { hint(path, reading, buffer, refusal) };
             (line + &hint, REFUSED)
         }
     };
@@ -52,9 +53,9 @@ fn one(arguments: &Arguments, path: &OsStr, buffer: &mut Vec<u8>, out: &mut impl
 }
 
 /// That nothing but the line ends may be wrong, where the refusal does not say so itself.
-fn hint(path: &OsStr, form: Form, bytes: &[u8], refusal: Refusal) -> String {
+fn hint(path: &OsStr, reading: Reading, bytes: &[u8], refusal: Refusal) -> String {
     if refusal.reason == Reason::LineEnd || Mended::of(bytes).is_none() {
         return String::new();
     }
-    format!("; its line ends are wrong, {} says how", files::explain_command(path, form, bytes))
+    format!("; its line ends are wrong, {} says how", files::explain_command(path, reading, bytes))
 }

@@ -3,10 +3,12 @@
 #![deny(unsafe_code)]
 
 mod arguments;
+mod asked;
 mod batch;
 mod beside;
 mod closed;
 mod convert;
+mod directory;
 mod edit;
 mod explain;
 mod failure;
@@ -14,6 +16,7 @@ mod files;
 mod held;
 mod help;
 mod judge;
+mod jump;
 mod lock;
 mod normal;
 mod owner;
@@ -37,9 +40,11 @@ fn run(name: &str, words: &[OsString], out: &mut impl Write) -> Done {
         return Err(Failure::Usage(format!("there is no subcommand '{name}'")));
     };
     let taken = Taken {
-        output: ["insert", "remove", "normal", "convert"].contains(&name),
+        output: ["insert", "remove", "normal", "convert", "directory"].contains(&name),
         form: name != "batch",
+        directory: ["judge", "explain", "show", "insert", "remove", "up", "normal"].contains(&name),
         convert: name == "convert",
+        action: name == "directory",
     };
     let arguments = Arguments::parse(words, taken)?;
     if arguments.help {
@@ -54,6 +59,8 @@ fn run(name: &str, words: &[OsString], out: &mut impl Write) -> Done {
         "up" => up::run(&arguments, out),
         "normal" => normal::run(&arguments, out),
         "convert" => convert::run(&arguments, out),
+        "directory" => directory::run(&arguments, out),
+        "jump" => jump::run(&arguments, out),
         _ => closed::refuse(Standard::Input).and_then(|()| batch::run(&arguments, &mut io::stdin().lock(), out)),
     }
 }

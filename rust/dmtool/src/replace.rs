@@ -3,7 +3,7 @@
 
 use crate::arguments::Arguments;
 use crate::beside;
-use crate::failure::{output_failed, Failure};
+use crate::failure::{output_failed, Done, Failure, FINE};
 use crate::files::{self, name};
 use crate::held::{self, Held};
 use std::ffi::OsStr;
@@ -78,6 +78,22 @@ impl<'a> Job<'a> {
             Target::Other => Held::take(to, self.no_lock)?.replace(result, None),
             Target::Same(held) => held.replace(result, Some(&self.bytes)),
         }
+    }
+
+    /// The same, unless it is what the file already has there; and says what was done.
+    pub fn deliver_and_say(self, result: &[u8], done: &str, out: &mut impl Write) -> Done {
+        let (silent, name) = (self.is_to_output(), name(self.to));
+        if self.is_to_same() && self.bytes == result {
+            writeln!(out, "{name}: {done}; nothing was changed").map_err(output_failed)?;
+            return Ok(FINE);
+        }
+        let done = if self.bytes == result { format!("{done}; copied as it is") } else { done.to_string() };
+        self.deliver(result, out)?;
+        if !silent {
+            let said = writeln!(out, "{name}: {done}").and_then(|()| out.flush());
+            said.map_err(|e| Failure::File(format!("{name}: {done}; only this could not be printed: {e}")))?;
+        }
+        Ok(FINE)
     }
 }
 

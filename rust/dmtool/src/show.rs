@@ -2,10 +2,10 @@
 
 use crate::arguments::{record_number, Arguments};
 use crate::failure::{output_failed, Done, Failure, FINE};
-use crate::files;
+use crate::files::{self, as_read};
 use std::io::Write;
 use zvaigulta::layout::{Column, Content};
-use zvaigulta::outline::{Outline, Record};
+use zvaigulta::outline::Record;
 use zvaigulta::text::{quoted, quoted_short};
 use zvaigulta::{explain, RECORD_BYTES};
 
@@ -21,16 +21,18 @@ pub fn run(arguments: &Arguments, out: &mut impl Write) -> Done {
         return Err(Failure::Usage("FROM must be 1 or more, and TO no less than FROM".to_string()));
     }
     let bytes = files::read(path)?;
-    let form = arguments.form_of(&bytes);
-    let plain = form.records(&bytes);
+    let reading = arguments.reading_of(&bytes);
+    let plain = reading.form.records(&bytes);
     let records = plain.len().div_ceil(RECORD_BYTES);
     if from > records.max(1) {
         return Err(Failure::File(format!("{}: it has {records} records; give a FROM up to that", files::name(path))));
     }
-    let refused = |refusal| explain::line_in(form, &bytes, refusal);
-    let judged = files::judge(form, &bytes).map_or_else(refused, |counts| counts.to_string());
-    writeln!(out, "{}: {}", files::name(path), files::in_form(form, judged)).map_err(output_failed)?;
-    let shown = Outline::of(&plain).skip(from - 1).take_while(|named| named.number <= to);
+    let judged = match reading.judge(&bytes) {
+        Ok(counts) => as_read(reading, reading.layers(&bytes), counts),
+        Err(refusal) => as_read(reading, None, explain::line_as(reading, &bytes, refusal)),
+    };
+    writeln!(out, "{}: {judged}", files::name(path)).map_err(output_failed)?;
+    let shown = reading.outline(&plain).skip(from - 1).take_while(|named| named.number <= to);
     for named in shown {
         writeln!(out, "{}", line(&named)).map_err(output_failed)?;
     }

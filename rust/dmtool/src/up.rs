@@ -1,7 +1,8 @@
 //! `up FILE RECORD`: the way from a record up to its layer.
 
 use crate::arguments::{record_number, Arguments};
-use crate::explain::{self, Asked};
+use crate::asked::Asked;
+use crate::explain;
 use crate::failure::{output_failed, Done, FINE};
 use crate::files;
 use std::io::Write;
@@ -12,8 +13,8 @@ pub fn run(arguments: &Arguments, out: &mut impl Write) -> Done {
     let [path, record] = arguments.exactly("up FILE RECORD")?;
     let record = record_number(record, "RECORD")?;
     let bytes = files::read(path)?;
-    let asked = Asked { path, form: arguments.form_of(&bytes), bytes: &bytes };
-    let sheet = asked.plain()?;
+    let asked = Asked::of(arguments, path, &bytes);
+    let sheet = asked.sheet()?;
     let above = |record| way_up(&sheet, sheet.len(), record).map_err(|r| explain::way_up(&asked, &sheet, record, r));
     let way = above(record)?;
     let mut passed = Vec::new();
@@ -28,6 +29,6 @@ pub fn run(arguments: &Arguments, out: &mut impl Write) -> Done {
         None => "a layer header, no header above".to_string(),
         Some(header) => format!("header above {header}, headers passed {} ({})", way.passed, passed.join(", ")),
     };
-    writeln!(out, "{name}: record {record}: {}", files::in_form(asked.form, line)).map_err(output_failed)?;
+    writeln!(out, "{name}: record {record}: {}", files::as_read(asked.reading, asked.layers(), line)).map_err(output_failed)?;
     Ok(FINE)
 }

@@ -65,7 +65,8 @@ fn show_and_up() {
     let up = |record| f.run(&["up", "l_good.dm", record]);
     assert_eq!(up("9").text(), "l_good.dm: record 9: header above 6, headers passed 1 (6) (line ends)\n");
     assert_eq!(up("6").text(), "l_good.dm: record 6: a layer header, no header above (line ends)\n");
-    let refused = "dmtool: l_good.dm: refused 17: the record number is outside the file or in the sheet part (line ends)\n";
+    let words = "the record number is outside the file or in the sheet part, or there is no such layer";
+    let refused = &format!("dmtool: l_good.dm: refused 17: {words} (line ends)\n");
     assert!(up("5").err.starts_with(refused) && up("5").status == Some(1), "{}", up("5").err);
 }
 

@@ -68,6 +68,26 @@ pub fn sheet(bytes: &[u8]) -> Option<&[u8]> {
     judge_sheet(sheet, sheet.len()).ok().map(|_| sheet)
 }
 
+/// The sheet before a directory, right or wrong, if it is sure where that starts: the records at the start of a plain file, as many as they state themselves,
+/// are accepted as a sheet, and each record behind them starts `Z ` or `ZE`. The whole of a sheet without a directory.
+///
+/// ```
+/// use zvaigulta::{sheet_before_directory, Sheet, EXAMPLE};
+///
+/// let mut file = Sheet::from(EXAMPLE.to_vec()).with_directory()?;
+/// file[10 * 84 + 8] = b'7';
+/// assert_eq!(sheet_before_directory(&file), Some(EXAMPLE.as_slice()));
+/// // Not where a record of the sheet is missing.
+/// file.drain(8 * 84..9 * 84);
+/// assert_eq!(sheet_before_directory(&file), None);
+/// # Ok::<(), zvaigulta::Refusal>(())
+/// ```
+pub fn sheet_before_directory(plain: &[u8]) -> Option<&[u8]> {
+    let sheet = sheet(plain)?;
+    let mut behind = plain.get(sheet.len()..)?.chunks(RECORD_BYTES);
+    behind.all(|record| record.len() == RECORD_BYTES && (is_row(record) || is_end(record))).then_some(sheet)
+}
+
 /// How many records stand before the directory of a file: those of its sheet, if that is accepted; else those before the last records that start
 /// `Z `, or before the last of all.
 pub fn records_before(bytes: &[u8], sheet: Option<&[u8]>) -> usize {

@@ -37,7 +37,7 @@ mod shift;
 
 pub use block::block;
 pub(crate) use block::is_block;
-pub use edits::{insertion, removal, way_up};
+pub use edits::{insertion, jump, removal, way_up};
 
 use crate::layout::{INDEX_A, SHEET_A, SHEET_B, SHEET_D};
 use crate::outline::{Outline, Record, Sort};
@@ -177,7 +177,8 @@ pub fn line_in(form: Form, bytes: &[u8], refusal: Refusal) -> String {
     }
 }
 
-/// The same of a file as it was read: with a directory of layers, 1 may also be the sheet's before it.
+/// The same of a file as it was read: with a directory of layers, 1 may also be the sheet's before it, and of the two reasons of 19 it is the one that
+/// holds.
 ///
 /// ```
 /// use zvaigulta::{explain, judge_directory, Form, Reading, EXAMPLE};
@@ -185,9 +186,15 @@ pub fn line_in(form: Form, bytes: &[u8], refusal: Refusal) -> String {
 /// let reading = Reading { form: Form::Plain, directory: true };
 /// let refusal = judge_directory(EXAMPLE, 100).unwrap_err();
 /// assert_eq!(explain::line_as(reading, &EXAMPLE[..100], refusal), "refused 1: the length, 100 bytes, is not a multiple of 84");
+/// let refusal = judge_directory(EXAMPLE, EXAMPLE.len()).unwrap_err();
+/// assert_eq!(explain::line_as(reading, EXAMPLE, refusal), "refused 19 at record 9: the directory of layers is missing");
 /// ```
 pub fn line_as(reading: Reading, bytes: &[u8], refusal: Refusal) -> String {
     match refusal.reason {
+        Reason::Directory => {
+            let at = refusal.record.map_or(String::new(), |record| format!(" at record {record}"));
+            format!("refused {}{at}: {}", refusal.number(), directory::reason(&reading.form.records(bytes)))
+        }
         Reason::Length if reading.directory => {
             format!("refused {}: {}", refusal.number(), directory::length(reading.form, bytes))
         }

@@ -50,7 +50,7 @@ pub use calls::{
     append_directory, from_lines, insert, join, judge_directory, judge_index, judge_index_lines, judge_sheet, judge_sheet_lines,
     jump, normal_index, normal_sheet, read_column, remove, report, split, to_lines, way_up, write_column, Corner, Counts, WayUp,
 };
-pub use directory::{LAYERS_TO_A_RECORD, MOST_DIRECTORY_RECORDS};
+pub use directory::{sheet_before_directory, LAYERS_TO_A_RECORD, MOST_DIRECTORY_RECORDS};
 pub use form::{Form, LINE_END};
 pub use kind::FileKind;
 pub use line_ends::Mended;

@@ -38,6 +38,15 @@ pub fn length(form: Form, bytes: &[u8]) -> String {
     }
 }
 
+/// The one of the two reasons that a directory is refused for.
+pub fn reason(bytes: &[u8]) -> &'static str {
+    let end = last_record(Form::Plain, bytes).unwrap_or(bytes);
+    match is_row(end) || directory_layout(end, true) == Some(&DIRECTORY_END) {
+        true => "the directory of layers differs here from the right one",
+        false => "the directory of layers is missing",
+    }
+}
+
 /// What is said of a directory in a sheet that was read without one: at the refused record, or behind 200,000 records.
 pub fn noticed(bytes: &[u8], refused: Option<usize>) -> Option<String> {
     let is_its = |number| is_row(record(bytes, number)) || is_end(record(bytes, number));

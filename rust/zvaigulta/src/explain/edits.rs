@@ -2,10 +2,11 @@
 
 use super::block::{judged, Item};
 use super::body::Body;
+use super::explain_as;
 use crate::layout::HEADER;
 use crate::outline::{natural, part, Record, Sort};
 use crate::text::number_of;
-use crate::{FileKind, Reason, Refusal, MOST_RECORDS, RECORD_BYTES};
+use crate::{FileKind, Form, Reading, Reason, Refusal, MOST_RECORDS, RECORD_BYTES};
 
 /// The most that a header's total can state.
 const MOST_TOTAL: u64 = 99_999;
@@ -49,6 +50,29 @@ pub fn way_up(sheet: &[u8], number: usize, refusal: Refusal) -> Vec<String> {
         _ => vec![sheet_refused(sheet)],
     }
 }
+
+/// Why a jump to a layer of a sheet with a directory was refused, a line each.
+///
+/// ```
+/// use zvaigulta::{explain, jump, Sheet, EXAMPLE};
+///
+/// let file = Sheet::from(EXAMPLE.to_vec()).with_directory()?;
+/// let words = explain::jump(&file, jump(&file, file.len(), 2).unwrap_err());
+/// assert_eq!(words, ["the sheet has 1 layer: there is no other to jump to"]);
+/// # Ok::<(), zvaigulta::Refusal>(())
+/// ```
+pub fn jump(file: &[u8], refusal: Refusal) -> Vec<String> {
+    match refusal.reason {
+        Reason::RecordNumber => vec![match WITH_DIRECTORY.layers(file).unwrap_or(0) {
+            0 => "the sheet has no layer to jump to".to_string(),
+            1 => "the sheet has 1 layer: there is no other to jump to".to_string(),
+            layers => format!("the sheet has {layers} layers: give a number from 1 to {layers}"),
+        }],
+        _ => explain_as(WITH_DIRECTORY, file, refusal).notes,
+    }
+}
+
+const WITH_DIRECTORY: Reading = Reading { form: Form::Plain, directory: true };
 
 /// 1 to 10: the sheet itself.
 fn sheet_refused(sheet: &[u8]) -> String {

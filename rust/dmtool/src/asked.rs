@@ -1,0 +1,59 @@
+//! A file as it was read: how, its records, its sheet without the directory behind it, and the file that an edited sheet makes.
+
+use crate::arguments::Arguments;
+use crate::explain;
+use crate::failure::Failure;
+use std::borrow::Cow;
+use std::ffi::OsStr;
+use zvaigulta::{judge_directory, Reading, Refusal, Sheet, RECORD_BYTES};
+
+/// A file that was read, and how.
+pub struct Asked<'a> {
+    pub path: &'a OsStr,
+    pub reading: Reading,
+    pub bytes: &'a [u8],
+}
+
+impl<'a> Asked<'a> {
+    /// Read as the options say, else as it is recognised.
+    pub fn of(arguments: &Arguments, path: &'a OsStr, bytes: &'a [u8]) -> Asked<'a> {
+        Asked { path, reading: arguments.reading_of(bytes), bytes }
+    }
+
+    /// Its records without their line ends, where they all have one.
+    pub fn plain(&self) -> Result<Cow<'a, [u8]>, Failure> {
+        self.reading.form.plain(self.bytes).map_err(|refusal| explain::file(self, refusal))
+    }
+
+    /// The same without its directory, where that is right. What is edited is the sheet before a directory, and nothing of it is lost where the directory
+    /// is made anew.
+    pub fn sheet(&self) -> Result<Cow<'a, [u8]>, Failure> {
+        let plain = self.plain()?;
+        if !self.reading.directory {
+            return Ok(plain);
+        }
+        let counts = judge_directory(&plain, plain.len()).map_err(|refusal| explain::directory(self, refusal))?;
+        let length = counts.records * RECORD_BYTES;
+        Ok(match plain {
+            Cow::Borrowed(file) => Cow::Borrowed(file.get(..length).unwrap_or(file)),
+            Cow::Owned(mut file) => {
+                file.truncate(length);
+                Cow::Owned(file)
+            }
+        })
+    }
+
+    /// How many layers its directory lists, if it was read with one.
+    pub fn layers(&self) -> Option<usize> {
+        self.reading.layers(self.bytes)
+    }
+}
+
+/// The file of a sheet, to be read as another: with the line ends and with the directory that it has then.
+pub fn file_of(reading: Reading, sheet: Sheet) -> Result<Vec<u8>, Refusal> {
+    let plain = if reading.directory { sheet.with_directory()? } else { sheet.into_bytes() };
+    match reading.form.file(&plain)? {
+        Cow::Owned(file) => Ok(file),
+        Cow::Borrowed(_) => Ok(plain),
+    }
+}

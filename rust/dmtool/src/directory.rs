@@ -1,0 +1,145 @@
+//! `directory FILE`: the layers of a sheet as its directory lists them; a directory appended, taken off or checked.
+
+use crate::arguments::{Action, Arguments};
+use crate::asked::{file_of, Asked};
+use crate::edit::{records_of, target};
+use crate::explain;
+use crate::failure::{output_failed, Done, FINE};
+use crate::files::{self, as_read};
+use crate::judge;
+use crate::replace::Job;
+use std::io::{self, Write};
+use zvaigulta::layout::HEADER;
+use zvaigulta::outline::{layers, Layer};
+use zvaigulta::text::number_of;
+use zvaigulta::{judge_directory, judge_sheet, sheet_before_directory, FileKind, Reading, Sheet, RECORD_BYTES};
+
+/// Shows the directory of a file, or does to it what an option says.
+pub fn run(arguments: &Arguments, out: &mut impl Write) -> Done {
+    match arguments.action {
+        None => show(arguments, out),
+        Some(Action::Check) => judge::run(arguments, out),
+        Some(Action::Append) => append(arguments, out),
+        Some(Action::Remove) => remove(arguments, out),
+    }
+}
+
+/// Prints the judgement, and a line for each layer.
+fn show(arguments: &Arguments, out: &mut impl Write) -> Done {
+    let [path] = arguments.exactly("directory FILE [--append | --remove | --check] [--lines | --plain]")?;
+    let bytes = files::read(path)?;
+    let asked = Asked::of(arguments, path, &bytes);
+    let counts = asked.reading.judge(&bytes).map_err(|refusal| explain::directory(&asked, refusal))?;
+    let plain = asked.plain()?;
+    let sheet = plain.get(..counts.records * RECORD_BYTES).unwrap_or(&plain);
+    let line = as_read(asked.reading, asked.layers(), counts);
+    let layers = layers(sheet);
+    let printed = writeln!(out, "{}: {line}", files::name(path)).and_then(|()| match FileKind::of(&plain) {
+        FileKind::Index => writeln!(out, "an index has no layers, and so no directory"),
+        FileKind::Sheet => print(&asked, sheet, &layers, out),
+    });
+    printed.map(|()| FINE).map_err(output_failed)
+}
+
+/// What is to be known of the directory as a whole, and the layers.
+fn print(asked: &Asked, sheet: &[u8], layers: &[Layer], out: &mut impl Write) -> io::Result<()> {
+    if !asked.reading.directory {
+        let command = files::with_name("'dmtool directory FILE --append'", asked.path);
+        writeln!(out, "it has no directory; {command} appends this one, {}:", span(sheet, layers.len()))?;
+    }
+    if layers.is_empty() {
+        return writeln!(out, "the sheet has no layer, and a directory of it lists none");
+    }
+    table(layers, out)
+}
+
+/// The records of a directory of so many layers behind a sheet: `records 10 to 11`.
+fn span(sheet: &[u8], layers: usize) -> String {
+    let (first, rows) = (sheet.len() / RECORD_BYTES + 1, layers.div_ceil(zvaigulta::LAYERS_TO_A_RECORD));
+    match rows {
+        0 => format!("record {first}"),
+        _ => format!("records {first} to {}", first + rows),
+    }
+}
+
+/// The columns of a layer's header that name it.
+const NAMING: [&str; 4] = ["class", "area code", "information", "number"];
+
+/// A line for each layer: its number, the record of its header, its records and items, and what its header says of it.
+fn table(layers: &[Layer], out: &mut impl Write) -> io::Result<()> {
+    let titles = ["layer", "header", "records", "items"].into_iter().chain(NAMING).map(str::to_string).collect();
+    let rows: Vec<Vec<String>> = [titles].into_iter().chain(layers.iter().zip(1..).map(row)).collect();
+    let widest = |nth: usize| rows.iter().filter_map(|row| row.get(nth)).map(String::len).max().unwrap_or(0);
+    let widths: Vec<usize> = (0..4 + NAMING.len()).map(widest).collect();
+    rows.iter().try_for_each(|row| {
+        let cells: Vec<String> = row.iter().zip(&widths).map(|(cell, width)| format!("{cell:>width$}")).collect();
+        writeln!(out, "{}", cells.join("  "))
+    })
+}
+
+fn row((layer, number): (&Layer, usize)) -> Vec<String> {
+    let counted = [number, layer.header.number, layer.records, layer.items].map(|n| n.to_string());
+    counted.into_iter().chain(NAMING.map(|name| column(layer.header.bytes, name))).collect()
+}
+
+/// A number of a layer's header.
+fn column(header: &[u8], name: &str) -> String {
+    HEADER.value(name, header).map_or("?".to_string(), |value| value.to_string())
+}
+
+/// What names a layer by its header, in words: `class 2100, area code 0, information 0, number 0`.
+pub fn naming(header: &[u8]) -> String {
+    NAMING.map(|name| format!("{name} {}", column(header, name))).join(", ")
+}
+
+/// Appends a directory to a sheet that has none.
+fn append(arguments: &Arguments, out: &mut impl Write) -> Done {
+    let [path] = arguments.exactly("directory FILE --append [-o OTHER [--force]] [--no-lock] [--lines | --plain]")?;
+    let job = Job::open(arguments, path, target(arguments, path)?)?;
+    let asked = Asked::of(arguments, path, &job.bytes);
+    let sheet = asked.sheet()?;
+    if let Some(layers) = asked.layers() {
+        let done = format!("it has a directory of {} already, and it is right", number_of(layers as u64, "layer"));
+        return unchanged(job, &done, out);
+    }
+    let reading = Reading { directory: true, ..asked.reading };
+    let result = file_of(reading, Sheet::from(sheet.to_vec())).map_err(|refusal| explain::appending(&asked, refusal))?;
+    let layers = reading.layers(&result).unwrap_or(0);
+    let done = format!("appended a directory of {}, {}", number_of(layers as u64, "layer"), span(&sheet, layers));
+    let done = as_read(asked.reading, None, done);
+    job.deliver_and_say(&result, &done, out)
+}
+
+/// Takes the directory off a file, where it is sure what that is.
+fn remove(arguments: &Arguments, out: &mut impl Write) -> Done {
+    let [path] = arguments.exactly("directory FILE --remove [-o OTHER [--force]] [--no-lock] [--lines | --plain]")?;
+    let job = Job::open(arguments, path, target(arguments, path)?)?;
+    let asked = Asked::of(arguments, path, &job.bytes);
+    let plain = asked.plain()?;
+    let sheet = sheet_before_directory(&plain).filter(|sheet| sheet.len() < plain.len());
+    let sheet = match (sheet, asked.reading.judge(asked.bytes)) {
+        (Some(sheet), _) => sheet,
+        (None, Ok(_)) => return unchanged(job, "it has no directory", out),
+        (None, Err(refusal)) => return Err(explain::directory(&asked, refusal)),
+    };
+    let done = as_read(asked.reading.form.into(), None, removed(&plain, sheet));
+    let result = asked.reading.form.file(sheet).map_err(|refusal| explain::file(&asked, refusal))?.into_owned();
+    job.deliver_and_say(&result, &done, out)
+}
+
+/// What is taken off a file, in words.
+fn removed(plain: &[u8], sheet: &[u8]) -> String {
+    let wrong = judge_directory(plain, plain.len()).err().map_or(String::new(), |refusal| {
+        let at = refusal.record.map_or(String::new(), |record| format!(" at record {record}"));
+        format!(", which was refused {}{at}", refusal.number())
+    });
+    let records = records_of(plain.len() - sheet.len());
+    let now = judge_sheet(sheet, sheet.len()).map_or_else(|refusal| refusal.to_string(), |counts| counts.to_string());
+    format!("removed its directory, {records}{wrong}; now {now}")
+}
+
+/// Says that there is nothing to do; a result that goes elsewhere is a copy.
+fn unchanged(job: Job, done: &str, out: &mut impl Write) -> Done {
+    let copy = job.bytes.clone();
+    job.deliver_and_say(&copy, done, out)
+}
