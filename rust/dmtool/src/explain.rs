@@ -10,7 +10,7 @@ use zvaigulta::explain::{explain_as, line_as, Explanation, Fault};
 use zvaigulta::layout::Column;
 use zvaigulta::outline::Record;
 use zvaigulta::text::quoted;
-use zvaigulta::{FileKind, Reason, Refusal, LINE_RECORD_BYTES, RECORD_BYTES};
+use zvaigulta::{sheet_before_directory, FileKind, Reason, Refusal, LINE_RECORD_BYTES, RECORD_BYTES};
 
 /// Prints the judgement of a file and, where it is refused, what is wrong.
 pub fn run(arguments: &Arguments, out: &mut impl Write) -> Done {
@@ -122,15 +122,17 @@ pub fn file(asked: &Asked, refusal: Refusal) -> Failure {
     refused(asked, refusal, Vec::new())
 }
 
-/// The same of a file with a directory: what there is to say where that is wrong, or does not say where the sheet ends.
+/// The same of a file with a directory: what there is to say of that, unless it is the sheet before it that is refused.
 pub fn directory(asked: &Asked, refusal: Refusal) -> Failure {
     if !asked.reading.directory {
         return file(asked, refusal);
     }
-    let Explanation { faults, notes, .. } = explain_as(asked.reading, asked.bytes, refusal);
-    let its = refusal.reason == Reason::Directory || faults.iter().any(|fault| fault.column == "pointer");
+    let its = refusal.reason == Reason::Directory || sheet_before_directory(&asked.reading.form.records(asked.bytes)).is_some();
     let words = match its {
-        true => notes.iter().map(|note| files::with_name(note, asked.path)).collect(),
+        true => {
+            let notes = explain_as(asked.reading, asked.bytes, refusal).notes;
+            notes.iter().map(|note| files::with_name(note, asked.path)).collect()
+        }
         false => vec!["the sheet before the directory is refused: it must be mended first".to_string()],
     };
     refused(asked, refusal, words)

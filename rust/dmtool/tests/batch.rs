@@ -4,7 +4,7 @@ mod support;
 
 use reference::protocol::{answer, hex};
 use reference::random::Random;
-use reference::{judge, sheets, RECORD};
+use reference::{directory_calls, judge, sheets, RECORD};
 use std::io::{BufRead, BufReader, Write};
 use std::process::{Command, Stdio};
 use support::{ended, good, large, Folder};
@@ -213,6 +213,24 @@ fn thousands_of_lines_on_files_with_line_ends() {
     }
     for wrong in ["judge86 sheet 86", "judge86 other 1 00", "to86 1 00", "from86 1 00 00 00", "to86 x 00 00", "from86 -1 00 00"] {
         assert!(Folder::new("batch_86").run_on(wrong.as_bytes(), &["batch"]).text().starts_with("error "), "{wrong}");
+    }
+}
+
+/// The commands of order 5 as the reference draws and answers them, some of them with wrong words.
+#[test]
+fn thousands_of_lines_on_sheets_with_a_directory() {
+    let mut r = Random(57);
+    let drawn = String::from_utf8(directory_calls::commands(56, 4_000)).expect("text");
+    let lines: Vec<String> =
+        drawn.lines().map(|line| if r.once_in(12) { spoiled(&mut r, line) } else { line.to_string() }).collect();
+    let (accepted, errors) = compare("batch_directories", &lines);
+    assert!(accepted > 1_000 && errors > 100, "{accepted} accepted, {errors} errors");
+    for command in ["directory ", "append ", "jump "] {
+        assert!(lines.iter().filter(|line| line.starts_with(command)).count() > 1_000, "{command}");
+    }
+    for wrong in ["directory", "directory 84", "append 1 00 00", "jump 84 00", "jump 84 00 x", "jump 84 00 1 1", "jump 84 00 -1"]
+    {
+        assert!(Folder::new("batch_words").run_on(wrong.as_bytes(), &["batch"]).text().starts_with("error "), "{wrong}");
     }
 }
 

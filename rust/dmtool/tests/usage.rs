@@ -6,7 +6,8 @@ use std::io::Read;
 use std::process::{Command, Stdio};
 use support::{good, large, run, Folder};
 
-const SUBCOMMANDS: [&str; 9] = ["judge", "explain", "show", "insert", "remove", "up", "normal", "convert", "batch"];
+const SUBCOMMANDS: [&str; 11] =
+    ["judge", "explain", "show", "insert", "remove", "up", "normal", "convert", "directory", "jump", "batch"];
 
 #[test]
 fn help_for_the_tool_and_each_subcommand() {
@@ -24,9 +25,13 @@ fn help_for_the_tool_and_each_subcommand() {
         let text = f.run(&[name, "--help"]).text();
         assert!(options.iter().all(|option| text.contains(&format!("\n  {option} "))), "{text}");
     };
-    ["insert", "remove", "normal", "convert"].iter().for_each(|name| options(name, &["-o OTHER", "--force", "--no-lock"]));
+    let writing = ["insert", "remove", "normal", "convert", "directory"];
+    writing.iter().for_each(|name| options(name, &["-o OTHER", "--force", "--no-lock"]));
     SUBCOMMANDS.iter().filter(|name| **name != "batch").for_each(|name| options(name, &["--lines", "--plain"]));
+    let reading = ["judge", "explain", "show", "insert", "remove", "up", "normal"];
+    reading.iter().for_each(|name| options(name, &["--directory", "--no-directory"]));
     options("convert", &["--mend"]);
+    options("directory", &["--append", "--remove", "--check"]);
     assert_eq!(f.run(&["--version"]).text(), format!("dmtool {}\n", env!("CARGO_PKG_VERSION")));
 }
 

@@ -117,6 +117,28 @@ pub fn block() -> Vec<u8> {
     good()[6 * RECORD..].to_vec()
 }
 
+/// A sheet of so many layers, all empty.
+pub fn layered(layers: usize) -> Vec<u8> {
+    let mut sheet = good()[..5 * RECORD].to_vec();
+    sheet[RECORD + 31..RECORD + 44].copy_from_slice(format!("     0{layers:7}").as_bytes());
+    let mut header = good()[5 * RECORD..6 * RECORD].to_vec();
+    header[18..69].copy_from_slice(format!("{}0", "    0".repeat(10)).as_bytes());
+    (0..layers).for_each(|_| sheet.extend(&header));
+    sheet
+}
+
+/// A sheet with the directory of its layers.
+pub fn filed(sheet: &[u8]) -> Vec<u8> {
+    zvaigulta::Sheet::from(sheet.to_vec()).with_directory().expect("an accepted sheet")
+}
+
+/// A file with another text in a record, from a byte on that is counted from 0.
+pub fn with(mut file: Vec<u8>, record: usize, start: usize, text: &str) -> Vec<u8> {
+    let at = (record - 1) * RECORD + start;
+    file[at..at + text.len()].copy_from_slice(text.as_bytes());
+    file
+}
+
 /// Records with a line end behind each.
 pub fn ended(plain: &[u8], end: &[u8]) -> Vec<u8> {
     plain.chunks(RECORD).flat_map(|record| [record, end].concat()).collect()
