@@ -133,9 +133,12 @@ fn removed(plain: &[u8], sheet: &[u8]) -> String {
         let at = refusal.record.map_or(String::new(), |record| format!(" at record {record}"));
         format!(", which was refused {}{at}", refusal.number())
     });
-    let records = records_of(plain.len() - sheet.len());
+    let taken = match plain.len() - sheet.len() {
+        bytes if bytes.is_multiple_of(RECORD_BYTES) => records_of(bytes),
+        bytes => number_of(bytes as u64, "byte"),
+    };
     let now = judge_sheet(sheet, sheet.len()).map_or_else(|refusal| refusal.to_string(), |counts| counts.to_string());
-    format!("removed its directory, {records}{wrong}; now {now}")
+    format!("removed its directory, {taken}{wrong}; now {now}")
 }
 
 /// Says that there is nothing to do; a result that goes elsewhere is a copy.

@@ -369,6 +369,22 @@ fn a_directory_without_its_end() {
     assert_eq!((ran.text().as_str(), f.get("sheet.dm")), (said, layered(12)));
 }
 
+/// One that is cut off inside a record is taken off too.
+#[test]
+fn a_directory_that_is_cut_off() {
+    let f = Folder::new("directory_cut_off");
+    for bytes in [2, 40, 83, 84 + 2, 84 + 40, 2 * 84 + 83] {
+        f.put("sheet.dm", &filed(&layered(12))[..17 * RECORD + bytes]);
+        assert!(f.run(&["judge", "sheet.dm"]).text().starts_with("sheet.dm: refused 1: the length, "));
+        let explained = f.run(&["explain", "sheet.dm"]).text();
+        assert!(explained.contains("by 'dmtool directory sheet.dm --remove' and append the right one by "), "{explained}");
+        let ran = f.run(&["directory", "sheet.dm", "--remove"]);
+        let said =
+            format!("sheet.dm: removed its directory, {bytes} bytes, which was refused 1; now accepted 17 records 0 items\n");
+        assert_eq!((ran.text(), f.get("sheet.dm")), (said, layered(12)));
+    }
+}
+
 #[test]
 fn read_with_a_directory_or_without() {
     let f = Folder::new("directory_forced");

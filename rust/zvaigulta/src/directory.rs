@@ -69,7 +69,7 @@ pub fn sheet(bytes: &[u8]) -> Option<&[u8]> {
 }
 
 /// The sheet before a directory, right or wrong, if it is sure where that starts: the records at the start of a plain file, as many as they state themselves,
-/// are accepted as a sheet, and each record behind them starts `Z ` or `ZE`. The whole of a sheet without a directory.
+/// are accepted as a sheet, and each record behind them, also one that is cut off, starts `Z ` or `ZE`. The whole of a sheet without a directory.
 ///
 /// ```
 /// use zvaigulta::{sheet_before_directory, Sheet, EXAMPLE};
@@ -84,8 +84,18 @@ pub fn sheet(bytes: &[u8]) -> Option<&[u8]> {
 /// ```
 pub fn sheet_before_directory(plain: &[u8]) -> Option<&[u8]> {
     let sheet = sheet(plain)?;
-    let mut behind = plain.get(sheet.len()..)?.chunks(RECORD_BYTES);
-    behind.all(|record| record.len() == RECORD_BYTES && (is_row(record) || is_end(record))).then_some(sheet)
+    plain.get(sheet.len()..)?.chunks(RECORD_BYTES).all(|record| is_row(record) || is_end(record)).then_some(sheet)
+}
+
+/// The bytes before a directory that stands whole at the end of a plain file, by its own count of layers, where these are no whole records.
+pub fn ragged_before(bytes: &[u8]) -> Option<&[u8]> {
+    let (_, end) =
+        bytes.split_at_checked(bytes.len().checked_sub(RECORD_BYTES)?).filter(|(_, end)| is_end(end) && is_formed(end))?;
+    let layers = DIRECTORY_END.value("layers", end).and_then(|layers| usize::try_from(layers).ok())?;
+    let records = layers.div_ceil(LAYERS_TO_A_RECORD).checked_add(1)?;
+    let (before, directory) = bytes.split_at_checked(bytes.len().checked_sub(records.checked_mul(RECORD_BYTES)?)?)?;
+    let rows = directory.chunks_exact(RECORD_BYTES).take(records - 1).all(is_row);
+    Some(before).filter(|before| rows && !before.len().is_multiple_of(RECORD_BYTES))
 }
 
 /// How many records stand before the directory of a file: those of its sheet, if that is accepted; else those before the last records that start

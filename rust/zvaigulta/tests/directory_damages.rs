@@ -7,7 +7,7 @@ use reference::random::Random;
 use reference::sheets;
 use std::collections::BTreeMap;
 use town::damage::{is_explained, Damage};
-use town::{ended, filed, index, layered, sheet, twice, with, without};
+use town::{ended, filed, index, layered, sheet, shifted, twice, with, without};
 use zvaigulta::explain::{explain_as, line_as, Explanation};
 use zvaigulta::outline::layers;
 use zvaigulta::{append_directory, insert, judge_directory, judge_sheet, jump, Form, Reading, Reason, RECORD_BYTES};
@@ -571,6 +571,41 @@ const UNREAD: &[Damage] = &[
         || [file(), vec![0x1a]].concat(),
         (1, 0),
         &["behind record 30: nothing but an end-of-file mark (the byte 1A); without that the file is accepted"],
+        &[],
+    ),
+    (
+        "a byte of the sheet is lost",
+        || shifted(file(), 12, 76, 1, b""),
+        (1, 0),
+        &[
+            "from record 13 on the file reads in order 1 byte earlier, so 1 byte is lost there",
+            "by the directory at the end of the file a sheet of 28 records, 2352 bytes, stands before it; there are 2351 bytes",
+            "not: the file has 2351",
+        ],
+        &[],
+    ),
+    (
+        "a byte of the sheet too many",
+        || shifted(file(), 12, 76, 0, b" "),
+        (1, 0),
+        &["so 1 byte is too many there", "2352 bytes, stands before it; there are 2353 bytes"],
+        &[],
+    ),
+    (
+        "the end of the directory is cut off",
+        || file()[..29 * RECORD_BYTES + 40].to_vec(),
+        (1, 0),
+        &[
+            "behind record 28: a directory of layers of 1 record and 40 bytes, cut off, or with bytes of it lost or too many",
+            MEND,
+        ],
+        &[],
+    ),
+    (
+        "a byte of the directory is lost",
+        || shifted(file(), 29, 30, 1, b""),
+        (1, 0),
+        &["a directory of layers of 1 record and 83 bytes, cut off, or", "without that the file is accepted", NO_COMMAND],
         &[],
     ),
     (

@@ -5,8 +5,9 @@ mod columns;
 mod notes;
 
 use super::body::Body;
+use super::counts::Records;
 use super::{fault, length, of_records, Explanation, Fault};
-use crate::directory::{is_end, is_row, last_record, records_before, sheet};
+use crate::directory::{is_end, is_row, last_record, ragged_before, records_before, sheet};
 use crate::layout::{DIRECTORY, DIRECTORY_END};
 use crate::outline::{directory_layout, layers, record, Layer, Outline, Record};
 use crate::text::{quoted, with_article};
@@ -56,6 +57,21 @@ pub fn noticed(bytes: &[u8], refused: Option<usize>) -> Option<String> {
     let directory = Directory::of(bytes);
     let first = refused.unwrap_or(directory.before + 1);
     is_its(first).then(|| directory.unread(first))
+}
+
+/// What is said of a file with a directory that is no whole records: bytes are lost or too many before the directory, or in it. Whether it is one.
+pub fn ragged(bytes: &[u8], told: &mut Explanation) -> bool {
+    if let Some(before) = ragged_before(bytes) {
+        length::odd(before, told);
+        // What the sheet states is told of the bytes before the directory, not of the file.
+        let stated = Records::of(before).map(|records| records.words_in_bytes(before.len(), Form::Plain));
+        told.notes.retain(|note| Some(note) != stated.as_ref());
+        told.notes.extend(notes::bytes_before(bytes, before));
+        return true;
+    }
+    let sheet = sheet(bytes).filter(|sheet| bytes.get(sheet.len()..).is_some_and(|rest| is_row(rest) || is_end(rest)));
+    told.notes.extend(sheet.map(|_| Directory::of(bytes).cut_off()));
+    sheet.is_some()
 }
 
 /// A directory as it stands in a file, and the sheet before it.

@@ -39,12 +39,13 @@ pub fn explain(bytes: &[u8], told: &mut Explanation) {
     let directory = || directory::noticed(bytes, None).filter(|_| bytes.len() > MOST_RECORDS * RECORD_BYTES);
     match form::of(bytes, None).or_else(directory).or_else(|| other(bytes.len(), Form::Plain)) {
         Some(words) => told.notes.push(words),
+        None if directory::ragged(bytes, told) => {}
         None => odd(bytes, told),
     }
 }
 
 /// Whole records, and some bytes more.
-fn odd(bytes: &[u8], told: &mut Explanation) {
+pub fn odd(bytes: &[u8], told: &mut Explanation) {
     let records = bytes.len() / RECORD_BYTES;
     let (whole, rest) = bytes.split_at(records * RECORD_BYTES);
     match FileKind::of(whole).judge(whole, whole.len()) {

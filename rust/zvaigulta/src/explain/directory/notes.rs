@@ -3,9 +3,10 @@
 use super::{letters, Directory};
 use crate::directory::{is_end, is_row};
 use crate::explain::form;
+use crate::layout::DIRECTORY_END;
 use crate::outline::{directory_layout, record, Outline};
 use crate::text::number_of;
-use crate::{judge_directory, FileKind, RECORD_BYTES};
+use crate::{judge_directory, sheet_before_directory, FileKind, RECORD_BYTES};
 
 /// What takes a directory off and puts the right one there.
 const MEND: &str =
@@ -165,6 +166,24 @@ impl Directory<'_> {
         }
     }
 
+    /// That a directory ends inside a record, and what becomes of the file without it.
+    pub fn cut_off(&self) -> String {
+        let (sheet, rest) = self.bytes.split_at(self.before * RECORD_BYTES);
+        let more = format!(
+            "{} and {}",
+            number_of((rest.len() / RECORD_BYTES) as u64, "record"),
+            number_of((rest.len() % RECORD_BYTES) as u64, "byte")
+        );
+        let next = match sheet_before_directory(self.bytes) {
+            Some(_) => self.next().unwrap_or_default(),
+            None => form::without(sheet),
+        };
+        format!(
+            "behind record {}: a directory of layers of {more}, cut off, or with bytes of it lost or too many; {next}",
+            self.before
+        )
+    }
+
     /// What stands behind a directory that ends at a record.
     fn behind(&self, end: usize) -> String {
         let (file, rest) = self.bytes.split_at(end * RECORD_BYTES);
@@ -174,6 +193,14 @@ impl Directory<'_> {
         };
         format!("behind the directory of layers, which ends at record {end}: {what}; {}", form::without(file))
     }
+}
+
+/// How many bytes stand before a directory at the end of a file, where they are no whole records.
+pub fn bytes_before(bytes: &[u8], before: &[u8]) -> Option<String> {
+    let end = bytes.get(bytes.len().checked_sub(RECORD_BYTES)?..)?;
+    let made = DIRECTORY_END.value("pointer", end).and_then(|pointer| usize::try_from(pointer).ok()?.checked_sub(1))?;
+    let due = format!("{}, {} bytes", number_of(made as u64, "record"), made.saturating_mul(RECORD_BYTES));
+    Some(format!("by the directory at the end of the file a sheet of {due}, stands before it; there are {} bytes", before.len()))
 }
 
 /// Some records, and what they do: `record 5 is`, `records 5 to 7 are`.
