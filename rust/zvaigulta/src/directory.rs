@@ -2,7 +2,7 @@
 
 use crate::layout::{Column, DIRECTORY, DIRECTORY_END, SHEET_B};
 use crate::line_ends::reads_as_sheet;
-use crate::outline::{part, record};
+use crate::outline::{directory_layout, part, record};
 use crate::{judge_sheet, write_column, FileKind, Form, RECORD_BYTES};
 
 /// So many layers are listed in one record of a directory.
@@ -98,15 +98,18 @@ pub fn ragged_before(bytes: &[u8]) -> Option<&[u8]> {
     Some(before).filter(|before| rows && !before.len().is_multiple_of(RECORD_BYTES))
 }
 
-/// How many records stand before the directory of a file: those of its sheet, if that is accepted; else those before the last records that start
-/// `Z `, or before the last of all.
+/// How many records stand before the directory of a file: those of its sheet, if that is accepted; else those before the last records that are a
+/// directory's; all of them, where the last is none of a directory.
 pub fn records_before(bytes: &[u8], sheet: Option<&[u8]>) -> usize {
     sheet.map_or_else(|| before_rows(bytes), |sheet| sheet.len() / RECORD_BYTES)
 }
 
-/// How many records stand before the last ones that are a directory's by their letters and columns, the very last taken as one of them.
+/// The same where no sheet is accepted.
 fn before_rows(bytes: &[u8]) -> usize {
-    let before = (bytes.len() / RECORD_BYTES).saturating_sub(1);
-    let rows = bytes.chunks_exact(RECORD_BYTES).take(before).rev().take_while(|row| is_row(row) && DIRECTORY.fits(row));
-    before - rows.count()
+    let records = bytes.len() / RECORD_BYTES;
+    if directory_layout(record(bytes, records), true).is_none() {
+        return records;
+    }
+    let rows = bytes.chunks_exact(RECORD_BYTES).rev().skip(1).take_while(|row| is_row(row) && DIRECTORY.fits(row));
+    records - 1 - rows.count()
 }

@@ -500,10 +500,10 @@ const FORCED: &[Damage] = &[
         "no directory, and the sheet is refused",
         || with(sheet(), 7, 18, "    4"),
         (19, 28),
-        &["no directory stands behind the sheet", NO_COMMAND],
-        &[(28, "type")],
+        &["no directory stands behind the sheet", "read without a directory, the file is refused 10 at record 7", NO_COMMAND],
+        &[(28, "X 1"), (7, "total")],
     ),
-    ("an index", index, (19, 5), &["this is an index: it has no layers, and so no directory", NO_COMMAND], &[(5, "type")]),
+    ("an index", index, (19, 5), &["this is an index: it has no layers, and so no directory", NO_COMMAND], &[(5, "class used")]),
     (
         "the last record is lost",
         || without(file(), 30, 30),

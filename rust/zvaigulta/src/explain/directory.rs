@@ -11,7 +11,7 @@ use crate::directory::{is_end, is_row, last_record, ragged_before, records_befor
 use crate::layout::{DIRECTORY, DIRECTORY_END};
 use crate::outline::{directory_layout, layers, record, Layer, Outline, Record};
 use crate::text::{quoted, with_article};
-use crate::{judge_sheet, Form, Reason, Refusal, LAYERS_TO_A_RECORD, RECORD_BYTES};
+use crate::{judge_sheet, FileKind, Form, Reason, Refusal, LAYERS_TO_A_RECORD, RECORD_BYTES};
 use std::cmp::Ordering;
 use std::ops::RangeInclusive;
 
@@ -146,10 +146,17 @@ impl<'a> Directory<'a> {
 
     /// What the sheet before a directory is refused for by itself.
     fn add_sheet(&self, form: Form, told: &mut Explanation) {
-        let sheet = self.bytes.get(..self.before * RECORD_BYTES).filter(|sheet| self.sheet.is_none() && !sheet.is_empty());
+        let sheet = self
+            .bytes
+            .get(..self.before * RECORD_BYTES)
+            .filter(|sheet| self.sheet.is_none() && FileKind::of(sheet) == FileKind::Sheet);
         let Some((sheet, Err(refusal))) = sheet.map(|sheet| (sheet, judge_sheet(sheet, sheet.len()))) else { return };
         let at = refusal.record.map_or(String::new(), |record| format!(" at record {record}"));
-        told.notes.push(format!("judged alone, the sheet before the directory is refused {}{at}", refusal.number()));
+        let alone = match self.numbers().is_empty() {
+            true => "read without a directory, the file",
+            false => "judged alone, the sheet before the directory",
+        };
+        told.notes.push(format!("{alone} is refused {}{at}", refusal.number()));
         let inner = of_records(sheet, form, refusal);
         told.notes.extend(inner.notes);
         told.add_faults(inner.faults);
@@ -158,13 +165,13 @@ impl<'a> Directory<'a> {
     /// The columns that are not as they should be.
     fn faults(&self) -> Vec<Fault> {
         if self.numbers().is_empty() {
-            return self.none();
+            return self.last_alone();
         }
         self.numbers().flat_map(|number| self.faults_of(number)).collect()
     }
 
     /// The last record of a file that has no directory.
-    fn none(&self) -> Vec<Fault> {
+    fn last_alone(&self) -> Vec<Fault> {
         let last = Outline::of(self.bytes).last().filter(|last| last.bytes.len() == RECORD_BYTES);
         let first_column = |last: Record| {
             let name = last.layout.and_then(|layout| layout.columns.first()).map_or("type", |column| column.name);

@@ -33,17 +33,16 @@ impl Directory<'_> {
         if FileKind::of(self.bytes) == FileKind::Index {
             return Some("this is an index: it has no layers, and so no directory".to_string());
         }
-        let last = Outline::of(self.bytes).last()?;
-        let (number, name, other) = (last.number, last.name(), directory_layout(self.end(), true).is_none());
-        match (self.sheet.is_some() && self.before == self.records, is_end(self.end())) {
-            (true, true) => Some(format!(
+        let last = Outline::of(self.bytes).last().filter(|_| self.numbers().is_empty())?;
+        let (number, name) = (last.number, last.name());
+        Some(match (self.sheet.is_some(), is_end(self.end())) {
+            (true, true) => format!(
                 "without a directory the file is accepted, and record {number} is {name}: if that is right, read the file with \
                  --no-directory; if it ends a directory, records of the sheet are lost before it"
-            )),
-            (true, false) => Some(format!("the sheet has no directory, its last record is {name}: {APPEND}")),
-            (false, _) if other && self.sheet.is_none() => Some("no directory stands behind the sheet".to_string()),
-            _ => None,
-        }
+            ),
+            (true, false) => format!("the sheet has no directory, its last record is {name}: {APPEND}"),
+            (false, _) => "no directory stands behind the sheet".to_string(),
+        })
     }
 
     /// That the last record is not there.
