@@ -1,8 +1,7 @@
 //! A directory of layers behind a sheet, right or not: where it stands, and whether a file has one. The library judges it.
 
 use crate::layout::{Column, DIRECTORY, DIRECTORY_END, SHEET_B};
-use crate::line_ends::reads_as_sheet;
-use crate::outline::{directory_layout, part, record};
+use crate::outline::{directory_layout, part, record, Outline, What};
 use crate::{judge_sheet, write_column, FileKind, Form, RECORD_BYTES};
 
 /// So many layers are listed in one record of a directory.
@@ -54,10 +53,11 @@ pub fn last_record(form: Form, bytes: &[u8]) -> Option<&[u8]> {
 }
 
 /// Whether a sheet in a form has a directory behind it: its last record starts `ZE`. Where the columns of that record are not of a directory's form, it
-/// may be text of the last item: not if the file reads as a sheet without a directory.
+/// may be text of the last item: not if it is due as data of that.
 pub fn is_behind(form: Form, bytes: &[u8]) -> bool {
     let end = last_record(form, bytes).filter(|last| is_end(last) && FileKind::of(bytes) == FileKind::Sheet);
-    end.is_some_and(|end| is_formed(end) || !reads_as_sheet(&form.records(bytes)))
+    let is_data = || Outline::of(&form.records(bytes)).last().is_some_and(|last| matches!(last.what, What::Data { .. }));
+    end.is_some_and(|end| is_formed(end) || !is_data())
 }
 
 /// The records of the sheet at the start of a file, by its own record count, if it is accepted.

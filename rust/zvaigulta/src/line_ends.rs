@@ -229,16 +229,8 @@ fn is_accepted(bytes: &[u8]) -> bool {
 /// The same, or a plain sheet in which nothing but counts is wrong: all its records are read in order before these are compared. Not so an index,
 /// whose names of sheets may be any bytes.
 pub fn reads_as_plain(bytes: &[u8]) -> bool {
-    reads_as_sheet(bytes) || read(FileKind::Sheet, judge_directory(bytes, bytes.len()))
-}
-
-/// The same without a directory of layers.
-pub fn reads_as_sheet(bytes: &[u8]) -> bool {
     let kind = FileKind::of(bytes);
-    read(kind, kind.judge(bytes, bytes.len())) || explain::is_block(bytes)
-}
-
-/// Whether all records of a file were read in order, by its judgement.
-fn read(kind: FileKind, judged: Result<Counts, Refusal>) -> bool {
-    judged.map_or_else(|refusal| refusal.reason == Reason::Count && kind == FileKind::Sheet, |_| true)
+    let counts = |refusal: Refusal| refusal.reason == Reason::Count && kind == FileKind::Sheet;
+    let read = |judged: Result<Counts, Refusal>| judged.map_or_else(counts, |_| true);
+    read(kind.judge(bytes, bytes.len())) || read(judge_directory(bytes, bytes.len())) || explain::is_block(bytes)
 }

@@ -31,9 +31,8 @@ impl Reading {
         Reading::in_form(Form::of(bytes), bytes)
     }
 
-    /// The same in a form that is known: with a directory where the last record starts `ZE`. Where that record is not of a directory's form (both
-    /// numbers in written form, the rest spaces) and the file is accepted as a sheet without a directory, or refused for its counts alone (10), it is text
-    /// of the last item. An index has no directory.
+    /// The same in a form that is known: with a directory where the last record of a sheet starts `ZE`, unless that record is due as data of the last
+    /// item and not of a directory's form (both numbers in written form, the rest spaces): then it is text. An index has no directory.
     pub fn in_form(form: Form, bytes: &[u8]) -> Reading {
         Reading { form, directory: directory::is_behind(form, bytes) }
     }

@@ -787,21 +787,24 @@ fn layers_are_those_of_the_directory() {
     }
 }
 
-/// A text at the end of a sheet that starts as a directory's end is text, while the file reads as a sheet and it is no directory's end.
+/// A text at the end of a sheet that starts as a directory's end is text where it is due as data, unless it is of a directory's form.
 #[test]
 fn text_that_starts_like_an_end() {
     let text = |text: &str| with(without(sheet(), 19, 28), 18, 0, text);
     let counts = |file: Vec<u8>| with(file, 2, 31, "     4     12");
     let zebra = counts(text("ZEBRA CROSSING   "));
     assert!(judge_sheet(&zebra, zebra.len()).is_ok() && !Reading::of(&zebra).directory);
-    let refused = text("ZEBRA CROSSING   ");
-    assert_eq!(judge_sheet(&refused, refused.len()).unwrap_err().reason, Reason::Count);
-    assert!(!Reading::of(&refused).directory && !Reading::of(&ended(&zebra, b"\r\n")).directory);
+    assert!(Reading::of(&filed(&zebra)).judge(&filed(&zebra)).is_ok());
+    assert!(!Reading::of(&ended(&zebra, b"\r\n")).directory);
+    // Whatever the sheet is refused for.
+    for (refused, number) in [(text("ZEBRA CROSSING   "), 10), (with(zebra, 7, 2, "    "), 5)] {
+        assert_eq!(judge_sheet(&refused, refused.len()).unwrap_err().number(), number);
+        assert!(!Reading::of(&refused).directory);
+    }
     // Of the form of a directory's end it is not passed over: records before it may be lost.
     assert_eq!(Reading::of(&counts(text("ZE     19      1   "))), WITH);
-    assert!(Reading::of(&filed(&zebra)).judge(&filed(&zebra)).is_ok());
-    // In another file it is one, whatever stands in it.
-    assert!(Reading::of(&with(text("ZEBRA CROSSING   "), 7, 2, "    ")).directory);
+    // Where no data is due it is no text.
+    assert_eq!(Reading::of(&with(file(), 30, 2, "BRA CROSSING   ")), WITH);
     assert!(!Reading::of(&index()).directory && !Reading::of(b"").directory && !Reading::of(&file()[..2500]).directory);
 }
 
