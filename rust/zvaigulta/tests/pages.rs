@@ -4,7 +4,7 @@
 use std::fs;
 use std::path::{Path, PathBuf};
 use std::process::Command;
-use zvaigulta::layout::{Column, Content, Layout, ALL};
+use zvaigulta::layout::{Column, Content, Layout, ALL, DIRECTORY, DIRECTORY_END};
 use zvaigulta::Reason;
 
 fn root() -> PathBuf {
@@ -38,7 +38,7 @@ fn table(layout: &Layout) -> String {
 #[test]
 fn every_column_of_every_layout() {
     let format = page("docs/FORMAT.md");
-    for layout in ALL {
+    for layout in ALL.into_iter().chain([&DIRECTORY, &DIRECTORY_END]) {
         assert!(format.contains(&table(layout)), "docs/FORMAT.md: {} must be\n{}", layout.name, table(layout));
     }
 }
