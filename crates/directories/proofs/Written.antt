@@ -35,10 +35,15 @@ use Rattle.records.specs.Outline.{outlineOf}
 use Rattle.records.proofs.Outlined.{outline-head, outline-level, outline-data-records, outline-data-records-most}
 use Rattle.format_directory.specs.declared.Edition.{Edition}
 use Rattle.format_directory.specs.declared.Edition.the-variants.{One}
-use Rattle.format_directory.specs.Directory.{Layer, layerBody, layersFrom, letters, endLetters, endListed, listed, listedAll, perRecord, columnsOf, recordOf, row, closing, shared, directoryOf}
+use Rattle.judge.specs.Listed.{firstHeaders}
+use Rattle.format_directory.specs.Directory.{Layer, noLayer, layerBody, layersFrom, letters, endLetters, endListed, listed, listedAll, perRecord, columnsOf, recordOf, row, closing, shared, directoryOf}
 use Rattle.format_directory.proofs.DirectoryRecords.{Two, two-letters, two-endLetters, length-columns, length-listedAll, wide-rows, length-closing}
 use Rattle.directories.specs.declared.writing.Row.{Row}
-use Rattle.directories.specs.Steps.{viewsIn, layersIn, isLayer, behindEntry, NextLayer, RowFrom, rowsPut, directoryPut}
+use Rattle.directories.specs.Steps.{viewsIn, layersIn, isLayer, behindEntry, NextLayer, Kept, RowFrom, rowsPut, directoryPut}
+
+-- ---- a header has no data records
+header-due : (r : View) → isHeaderAt 1 r ≡ true → dueAfter 0 r ≡ 0
+header-due r e = ap (λ (t : Bool). cond t 0 (r .dataRecords)) (and-true (isHead (r .kind)) (eqb (r .level) 1) e .0)
 
 -- ---- data records are passed over
 skip : (due i : ℕ) (rs : List View) → layersFrom due i rs ≡ layersFrom 0 (i + due) (drop due rs)
@@ -66,6 +71,10 @@ module _ (file : List ℕ) where
       mapped zero l = refl
       mapped (suc n) [] = refl
       mapped (suc n) (x ∷ l) = mapped n l
+
+  views-count : (k : ℕ) → length (viewsIn file k) ≡ length rs - k
+  unfolding viewsIn
+  views-count k = length-map (drop k rs) view ∙ length-drop k rs
 
   pub none-over : (k : ℕ) → length rs ≤ k → layersIn file k ≡ []
   none-over k h = rw (views-over k h)
@@ -166,6 +175,99 @@ pub at-small : (file : List ℕ) (at count : ℕ) → count ≡ length (recordsO
 unfolding strideOf
 at-small file at count counted h long = omega (arith, counted, record-inside Plain file at (let x : at < length (recordsOf Plain file) = omega (arith, counted) in x))
 
+-- ---- `layer_from`: the header of layer j of a file, as judging kept it
+-- number j of the layers among some records, and those behind it
+record Place (due i : ℕ) (rs : List View) (j : ℕ) : Type 0 where
+  header : ℕ
+  low : i ≤ header
+  inside : header - i < length rs
+  split : drop j (layersFrom due i rs) ≡ record { header = header; body = layerBody 0 (drop (suc header - i) rs) } ∷ layersFrom 0 (suc header) (drop (suc header - i) rs)
+
+place-on : (due due′ i : ℕ) (r : View) (rs : List View) (j j′ : ℕ) → drop j′ (layersFrom due′ i (r ∷ rs)) ≡ drop j (layersFrom due (suc i) rs) → Place due (suc i) rs j → Place due′ i (r ∷ rs) j′
+place-on due due′ i r rs j j′ e p = record {
+  header = p .header;
+  low = omega (arith, p .low);
+  inside = omega (arith, p .low, p .inside);
+  split = e ∙ p .split ∙ ap (λ (l : List View). record { header = p .header; body = layerBody 0 l } ∷ layersFrom 0 (suc (p .header)) l) (ap (λ (n : ℕ). drop n (r ∷ rs)) (let q : suc (suc (p .header) - suc i) ≡ suc (p .header) - i = omega (arith, p .low) in q));
+}
+
+place-of : (due i : ℕ) (rs : List View) (j : ℕ) → j < length (layersFrom due i rs) → Place due i rs j
+place-of due i [] j h = absurd (omega arith)
+place-of zero i (r ∷ rs) j h = go (isHeaderAt 1 r) refl j (place-of (dueAfter 0 r) (suc i) rs) h
+  where
+    rest : List Layer
+    rest = layersFrom (dueAfter 0 r) (suc i) rs
+
+    all : (t : Bool) → isHeaderAt 1 r ≡ t → layersFrom 0 i (r ∷ rs) ≡ cond t (record { header = i; body = layerBody 0 rs } ∷ []) [] ++ layersFrom (dueAfter 0 r) (suc i) rs
+    all t e = ap (λ (x : Bool). cond x (record { header = i; body = layerBody 0 rs } ∷ []) [] ++ layersFrom (dueAfter 0 r) (suc i) rs) e
+
+    go : (t : Bool) → isHeaderAt 1 r ≡ t → (j : ℕ) → ((j : ℕ) → j < length (layersFrom (dueAfter 0 r) (suc i) rs) → Place (dueAfter 0 r) (suc i) rs j) → j < length (layersFrom 0 i (r ∷ rs)) → Place zero i (r ∷ rs) j
+    go false e j ih h = place-on (dueAfter 0 r) zero i r rs j j (ap (drop j) (all false e)) (ih j (subst (λ (l : List Layer). j < length l) (all false e) h))
+    go true e (suc j) ih h = place-on (dueAfter 0 r) zero i r rs j (suc j) (ap (drop (suc j)) (all true e)) (ih j (omega (arith, ap length (all true e))))
+    go true e zero ih h = record {
+      header = i;
+      low = omega arith;
+      inside = omega arith;
+      split = all true e ∙ ap₂ (λ (l : List View) (m : ℕ). record { header = i; body = layerBody 0 l } ∷ layersFrom m (suc i) l) (ap (λ (n : ℕ). drop n (r ∷ rs)) (let q : 1 ≡ suc i - i = omega arith in q)) (header-due r e);
+    }
+place-of (suc due) i (r ∷ rs) j h = place-on due (suc due) i r rs j j refl (place-of due (suc i) rs j h)
+
+-- what is kept of some layers
+kept-at : (room : ℕ) (ls : List Layer) (j : ℕ) → j < room → j < length ls → getD (firstHeaders room ls) j 0 ≡ (getD ls j noLayer) .header
+kept-at zero ls j h l = absurd (omega arith)
+kept-at (suc room) [] j h l = absurd (omega arith)
+kept-at (suc room) (x ∷ ls) zero h l = refl
+kept-at (suc room) (x ∷ ls) (suc j) h l = kept-at room ls j (omega arith) (omega arith)
+
+kept-over : (room : ℕ) (ls : List Layer) (j : ℕ) → j < room → length ls ≤ j → getD (firstHeaders room ls) j 0 ≡ 0
+kept-over zero ls j h l = absurd (omega arith)
+kept-over (suc room) [] zero h l = refl
+kept-over (suc room) [] (suc j) h l = kept-over room [] j (omega arith) (omega arith)
+kept-over (suc room) (x ∷ ls) zero h l = absurd (omega arith)
+kept-over (suc room) (x ∷ ls) (suc j) h l = kept-over room ls j (omega arith) (omega arith)
+
+module _ (file first : List ℕ) (before k : ℕ) (g : Kept file first before k) (few : before < 32) where
+  abbrev kept-of : List Layer
+  kept-of = layersIn file (g .part)
+
+  place-header : (p : Place 0 (suc (g .part)) (viewsIn file (g .part)) before) → ltb before (length kept-of) ≡ true → (getD kept-of before noLayer) .header ≡ p .header
+  place-header p e =
+      let q : getD kept-of before noLayer ∷ drop (suc before) kept-of ≡ record { header = p .header; body = layerBody 0 (drop (suc (p .header) - suc (g .part)) (viewsIn file (g .part))) } ∷ layersFrom 0 (suc (p .header)) (drop (suc (p .header) - suc (g .part)) (viewsIn file (g .part))) = sym (drop-cons kept-of before noLayer (ltb-true before (length kept-of) e)) ∙ p .split in
+      let r : getD kept-of before noLayer ≡ record { header = p .header; body = layerBody 0 (drop (suc (p .header) - suc (g .part)) (viewsIn file (g .part))) } = cc in
+      ap (λ (l : Layer). l .header) r
+
+  pub no-layer-kept : (count : ℕ) → count ≡ length (recordsOf Plain file) → getD first before 0 ≡ 0 → NextLayer file k count
+  no-layer-kept count counted z = record { within = omega (arith, counted); found = λ l. absurd (omega (arith, counted)); none-left = λ l. g .left ∙ gone (ltb before (length kept-of)) refl }
+    where
+      gone : (t : Bool) → ltb before (length kept-of) ≡ t → drop before kept-of ≡ []
+      gone false e = drop-of-length-le kept-of (ltb-false before (length kept-of) e)
+      gone true e =
+          let p : Place 0 (suc (g .part)) (viewsIn file (g .part)) before = place-of 0 (suc (g .part)) (viewsIn file (g .part)) before (ltb-true before (length kept-of) e) in
+          absurd (omega (arith, p .low, place-header p e, z, ap (λ (l : List ℕ). getD l before 0) (g .are) ∙ kept-at 32 kept-of before few (ltb-true before (length kept-of) e)))
+
+  pub layer-kept : (getD first before 0 ≡ 0 → ⊥) → NextLayer file k (getD first before 0 - 1)
+  layer-kept ne = go (ltb before (length kept-of)) refl
+    where
+      go : (t : Bool) → ltb before (length kept-of) ≡ t → NextLayer file k (getD first before 0 - 1)
+      go false e = absurd (ne (ap (λ (l : List ℕ). getD l before 0) (g .are) ∙ kept-over 32 kept-of before few (ltb-false before (length kept-of) e)))
+      go true e = record {
+        within = omega (arith, header-is, p .low, p .inside, views-long);
+        found = λ l. g .left ∙ p .split ∙ ap₂ (λ (n : ℕ) (v : List View). record { header = n; body = layerBody 0 v } ∷ layersFrom 0 (suc n) v) (let q : p .header ≡ suc (getD first before 0 - 1) = omega (arith, header-is, p .low) in q) (views-later file (g .part) (suc (p .header) - suc (g .part)) ∙ ap (viewsIn file) (let q : g .part + (suc (p .header) - suc (g .part)) ≡ getD first before 0 - 1 + 1 = omega (arith, header-is, p .low) in q)) ∙ ap (λ (n : ℕ). record { header = suc (getD first before 0 - 1); body = layerBody 0 (viewsIn file (getD first before 0 - 1 + 1)) } ∷ layersFrom 0 n (viewsIn file (getD first before 0 - 1 + 1))) (let q : suc (suc (getD first before 0 - 1)) ≡ suc (getD first before 0 - 1 + 1) = omega arith in q);
+        none-left = λ l. absurd (omega (arith, header-is, p .low, p .inside, views-long));
+      }
+        where
+          p : Place 0 (suc (g .part)) (viewsIn file (g .part)) before
+          p = place-of 0 (suc (g .part)) (viewsIn file (g .part)) before (ltb-true before (length kept-of) e)
+
+          header-is : getD first before 0 ≡ p .header
+          header-is = ap (λ (l : List ℕ). getD l before 0) (g .are) ∙ kept-at 32 kept-of before few (ltb-true before (length kept-of) e) ∙ place-header p e
+
+          views-long : length (viewsIn file (g .part)) ≡ length (recordsOf Plain file) - g .part
+          views-long = views-count file (g .part)
+
+pub kept-on : (file first : List ℕ) (before k i at : ℕ) → Kept file first before k → layersIn file at ≡ drop i (layersIn file k) → Kept file first (before + i) at
+kept-on file first before k i at g e = record { part = g .part; are = g .are; left = e ∙ ap (drop i) (g .left) ∙ drop-drop i before (layersIn file (g .part)) }
+
 -- ---- one record written: letters first, then number after number
 pub blank-of : (e : Edition) (r : List ℕ) → r ≡ recordOf (90 ∷ 32 ∷ []) [] → r ≡ recordOf (letters e) []
 unfolding bytes
@@ -223,6 +325,12 @@ pub record Filling (file : List ℕ) (k each : ℕ) (bytes₀ bytes : List ℕ) 
 pub filling : (file : List ℕ) (k each : ℕ) (bytes₀ : List ℕ) → Filling file k each bytes₀ bytes₀ k 0
 unfolding row
 filling file k each bytes₀ = record { below = omega arith; taken = omega arith; left = refl; bytes-are = λ e q h. h }
+
+pub kept-further : (file first : List ℕ) (before k each : ℕ) (bytes₀ bytes : List ℕ) (at i : ℕ) → Kept file first before k → Filling file k each bytes₀ bytes at i → Kept file first (before + i) at
+kept-further file first before k each bytes₀ bytes at i g f = kept-on file first before k i at g (f .left)
+
+pub each-small : (e : Edition) (each : ℕ) → each ≡ perRecord e → each ≤ 11
+each-small One each q = omega arith
 
 pub column-small : (e : Edition) (each i : ℕ) → each ≡ perRecord e → i < each → i < 11
 column-small One each i q h = omega arith

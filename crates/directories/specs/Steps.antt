@@ -17,7 +17,7 @@ use Rattle.format_directory.proofs.DirectoryRecords.{AllFit}
 use Rattle.files.specs.declared.Stride.the-variants.{Plain}
 use Rattle.files.specs.Records.{recordsOf}
 use Rattle.directory_columns.specs.Numbers.{numberIs}
-use Rattle.judge.specs.Listed.{firstUnlisted}
+use Rattle.judge.specs.Listed.{firstUnlisted, firstHeaders}
 use Rattle.records.specs.declared.outlines.Outline.{Outline}
 use Rattle.directories.specs.declared.Found.{Found}
 use Rattle.directories.specs.declared.writing.Row.{Row}
@@ -95,6 +95,12 @@ pub record NextLayer (file : List ℕ) (k at : ℕ) : Type 0 where
   pub within : at ≤ length (recordsOf Plain file)
   pub found : at < length (recordsOf Plain file) → layersIn file k ≡ record { header = suc at; body = layerBody 0 (viewsIn file (at + 1)) } ∷ layersIn file (at + 1)
   pub none-left : length (recordsOf Plain file) ≤ at → layersIn file k ≡ []
+
+-- the headers of a file's first layers, where so many layers stand before record k
+pub record Kept (file first : List ℕ) (before k : ℕ) : Type 0 where
+  pub part : ℕ
+  pub are : first ≡ firstHeaders 32 (layersIn file part)
+  pub left : layersIn file k ≡ drop before (layersIn file part)
 
 pub record RowFrom (file : List ℕ) (e : Edition) (k : ℕ) (r : Row) : Type 0 where
   pub bytes-are : r .bytes ≡ row e (take (perRecord e) (layersIn file k))

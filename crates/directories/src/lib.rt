@@ -146,7 +146,8 @@ fn append_edition(buffer: &mut [u8], used: usize, edition: Edition) -> Edited
     if buffer.len() < new {
         return Edited::Refused(15, 0);
     }
-    writing::write_directory(buffer, used, edition, listed.part, listed.layers);
+    let first = listed.first_layers;
+    writing::write_directory(buffer, used, edition, listed.part, listed.layers, first);
     Edited::Used(new)
 }
 

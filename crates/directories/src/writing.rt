@@ -10,12 +10,14 @@ ghost use Rattle.format.specs.Layout.{splice};
 ghost use Rattle.format_directory.specs.Directory.{recordOf, letters, perRecord, closing};
 ghost use Rattle.files.specs.declared.Stride.the-variants.{Plain};
 ghost use Rattle.files.specs.Records.{recordsOf};
-ghost use Rattle.directories.specs.Steps.{layersIn, isLayer, behindEntry, NextLayer, RowFrom, rowsPut, directoryPut};
+ghost use Rattle.judge.specs.Listed.{firstHeaders};
+ghost use Rattle.directories.specs.Steps.{layersIn, isLayer, behindEntry, NextLayer, Kept, RowFrom, rowsPut, directoryPut};
 use directory_columns::LETTERS;
 use directory_columns::WIDTH;
 use files::RECORD;
 use files::Stride;
 use format_directory::Edition;
+use judge::FirstLayers;
 use records::Outline;
 
 // The bytes of a record.
@@ -99,9 +101,24 @@ fn next_layer(file: &[u8], k: usize) -> usize
     count
 }
 
-// The right record of the layers from record k of the sheet on: as many as it takes.
-fn row_from(file: &[u8], edition: Edition, k: usize) -> Row
-    requires { ⌜ length (recordsOf Plain (now file)) ≤ 200000 ⌝ }
+// The same, where so many layers stand before record k, and judging kept the headers of the first ones: they are not looked for again.
+fn layer_from(file: &[u8], first: FirstLayers, before: usize, k: usize) -> usize
+    requires { ⌜ Kept (now file) first before k ⌝ }
+    ensures { λ r. ⌜ NextLayer (now (file .entry)) k r ⌝ }
+{
+    if judge::KEPT <= before {
+        return next_layer(file, k);
+    }
+    let header = first[before];
+    if header == 0 {
+        return files::count(file, Stride::Plain);
+    }
+    header - 1
+}
+
+// The right record of the layers from record k of the sheet on, before which so many stand: as many as it takes.
+fn row_from(file: &[u8], edition: Edition, k: usize, first: FirstLayers, before: usize) -> Row
+    requires { ⌜ (length (recordsOf Plain (now file)) ≤ 200000) × (before ≤ 200000 * 11) × (Kept (now file) first before k) ⌝ }
     ensures { λ r. ⌜ RowFrom (now (file .entry)) edition k r ⌝ }
 {
     let each = directory_columns::per_record(edition);
@@ -110,7 +127,7 @@ fn row_from(file: &[u8], edition: Edition, k: usize) -> Row
     let mut at = k;
     let mut i = 0;
     while i < each {
-        let header = next_layer(file, at);
+        let header = layer_from(file, first, before + i, at);
         if count <= header {
             return Row {
                 bytes,
@@ -126,16 +143,24 @@ fn row_from(file: &[u8], edition: Edition, k: usize) -> Row
 }
 
 // So many records, of the layers from record k of the sheet on, behind the sheet.
-fn write_rows(buffer: &mut [u8], used: usize, edition: Edition, k: usize, rows: usize)
-    requires { ⌜ (used ≤ 84 * 200000) × (rows ≤ 200000) × (used + 84 * rows ≤ length (now buffer)) ⌝ }
+fn write_rows(
+    buffer: &mut [u8],
+    used: usize,
+    edition: Edition,
+    k: usize,
+    rows: usize,
+    first: FirstLayers,
+)
+    requires { ⌜ (used ≤ 84 * 200000) × (rows ≤ 200000) × (used + 84 * rows ≤ length (now buffer)) × (first ≡ firstHeaders 32 (layersIn (take used (now buffer)) k)) ⌝ }
     ensures { λ _. ⌜ now (buffer .exit) ≡ rowsPut edition used k rows (now (buffer .entry)) ⌝ }
 {
+    let each = directory_columns::per_record(edition);
     let start = 0;
     let end = RECORD;
     let mut at = k;
     let mut i = 0;
     while i < rows {
-        let row = row_from(&buffer[..used], edition, at);
+        let row = row_from(&buffer[..used], edition, at, first, each * i);
         let bytes = row.bytes;
         files::put_at(buffer, used + RECORD * i, &bytes[start..end]);
         at = row.next;
@@ -153,19 +178,21 @@ fn closing_bytes(edition: Edition, pointer: usize, layers: usize) -> Bytes
     }
 }
 
-// The right directory of the sheet in the first `used` bytes, whose body starts behind `part` records and has so many layers.
+// The right directory of the sheet in the first `used` bytes, whose body starts behind `part` records and has so many layers, with the headers of the first
+// of these.
 pub(crate) fn write_directory(
     buffer: &mut [u8],
     used: usize,
     edition: Edition,
     part: usize,
     layers: usize,
+    first: FirstLayers,
 )
-    requires { ⌜ (used ≤ 84 * 200000) × (layers ≤ 200000) × (layers ≡ length (layersIn (take used (now buffer)) part)) × (used + 84 * (roundUp layers (perRecord edition) + 1) ≤ length (now buffer)) ⌝ }
+    requires { ⌜ (used ≤ 84 * 200000) × (layers ≤ 200000) × (layers ≡ length (layersIn (take used (now buffer)) part)) × (first ≡ firstHeaders 32 (layersIn (take used (now buffer)) part)) × (used + 84 * (roundUp layers (perRecord edition) + 1) ≤ length (now buffer)) ⌝ }
     ensures { λ _. ⌜ now (buffer .exit) ≡ directoryPut edition used part (now (buffer .entry)) ⌝ }
 {
     let rows = directory_columns::rows(edition, layers);
-    write_rows(buffer, used, edition, part, rows);
+    write_rows(buffer, used, edition, part, rows, first);
     let start = 0;
     let end = RECORD;
     let bytes = closing_bytes(edition, used / RECORD + 1, layers);

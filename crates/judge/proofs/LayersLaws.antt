@@ -1,13 +1,14 @@
 -- The loop of `walk_layers`: its invariant, and what it ensures at each way out. Assumes nothing.
-use mathlib.Core.Path.{_≡_, refl, sym, ap, subst, _∙_}
+use mathlib.Core.Path.{_≡_, refl, sym, ap, ap₂, subst, _∙_}
 use mathlib.Core.Bool.{Bool, true, false}
-use mathlib.Core.List.{List, []}
+use mathlib.Core.List.{List, [], _∷_, _++_, append-assoc, append-nil}
 use Prim.Native.Nat.{ℕ, zero, suc, _+_, _-_, _^_, _≤_, _<_}
 use mir.Syntax.{w64}
 use mir.Val.{Fits}
 use native.Mathlib.Omega.{arith}
 use native.Mathlib.Numerals.{add-one}
-use lib.ListN.{length}
+use lib.ListN.{length, length-append, set, replicate}
+use lib.Seq.{set-at}
 use Rattle.format.specs.Basics.{fault, first, unless}
 use Rattle.format.specs.Record.{Kind, head, item, neither, nothing, isHead, View, view}
 use Rattle.format.specs.Judge.{lowestLevel, faultAt}
@@ -22,14 +23,47 @@ use Rattle.judge.specs.declared.body_records.Extent.{Extent}
 use Rattle.judge.specs.declared.walk.Seen.{Seen}
 use Rattle.judge.specs.declared.walk.WalkedGroup.{WalkedGroup}
 use Rattle.judge.specs.declared.walk.WalkedLayers.{WalkedLayers}
-use Rattle.judge.specs.Listed.{firstUnlisted}
+use Rattle.judge.specs.Listed.{firstUnlisted, firstHeaders}
 use Rattle.judge.specs.Walks.{ExtentOf, recordAt, viewsFrom, faultFrom, seenNone, SeenUpTo, entryFault, JoinsTo, SeesTo, HeaderAt, Child, WholeBody, layersAt, Listing, passedLayersOf}
 use Rattle.judge.proofs.Steps.{views-more, views-end, fault-here}
 use Rattle.judge.proofs.EntryLaws.{fault-is}
 use Rattle.judge.proofs.Joined.{joins-none, joins-more, sees-none, sees-more}
 
+-- ---- `kept`
+set-over : (l : List ℕ) (i x : ℕ) → length l ≤ i → set l i x ≡ l
+set-over [] i x h = refl
+set-over (y ∷ l) zero x h = absurd (omega arith)
+set-over (y ∷ l) (suc i) x h = ap (λ (r : List ℕ). y ∷ r) (set-over l i x (omega arith))
+
+pub kept-none : (hs : List ℕ) (layer header : ℕ) → length hs ≡ 32 → 32 ≤ layer → hs ≡ set hs layer header
+kept-none hs layer header w h = sym (set-over hs layer header (omega arith))
+
+-- ---- the headers of layers kept one after the other, from number n on
+abbrev pub keep : (n : ℕ) → List ℕ → List Layer → List ℕ
+keep n hs [] = hs
+keep n hs (l ∷ ls) = keep (suc n) (set hs n (l .header)) ls
+
+-- behind those that are kept
+keep-behind : (P : List ℕ) (room : ℕ) (ls : List Layer) → keep (length P) (P ++ replicate room 0) ls ≡ P ++ firstHeaders room ls
+keep-behind P zero [] = refl
+keep-behind P (suc room) [] = ap (λ (x : List ℕ). P ++ x) (zeros (suc room))
+  where
+    zeros : (n : ℕ) → replicate n 0 ≡ firstHeaders n []
+    zeros zero = refl
+    zeros (suc n) = ap (λ (x : List ℕ). 0 ∷ x) (zeros n)
+keep-behind P zero (l ∷ ls) = ap (λ (x : List ℕ). keep (suc (length P)) x ls) (set-over (P ++ []) (length P) (l .header) (rw (append-nil P) (omega arith))) ∙ over (suc (length P)) (P ++ []) ls (rw (append-nil P) (omega arith))
+  where
+    over : (n : ℕ) (hs : List ℕ) (ls : List Layer) → length hs ≤ n → keep n hs ls ≡ hs
+    over n hs [] h = refl
+    over n hs (l ∷ ls) h = ap (λ (x : List ℕ). keep (suc n) x ls) (set-over hs n (l .header) h) ∙ over (suc n) hs ls (omega arith)
+keep-behind P (suc room) (l ∷ ls) =
+    ap (λ (x : List ℕ). keep (suc (length P)) x ls) (set-at P 0 (replicate room 0) (l .header) (length P) refl ∙ sym (append-assoc P (l .header ∷ []) (replicate room 0)))
+    ∙ ap (λ (n : ℕ). keep n ((P ++ (l .header ∷ [])) ++ replicate room 0) ls) (let q : suc (length P) ≡ length (P ++ (l .header ∷ [])) = omega (arith, length-append P (l .header ∷ [])) in q)
+    ∙ keep-behind (P ++ (l .header ∷ [])) room ls
+    ∙ append-assoc P (l .header ∷ []) (firstHeaders room ls)
+
 -- the walk of all layers that began at record k has come to record `at`
-pub record Layering (file : List ℕ) (x : Extent) (k : ℕ) (directory : List (List ℕ)) (e : Edition) (at low : ℕ) (s : Seen) (layers unlisted : ℕ) : Type 0 where
+pub record Layering (file : List ℕ) (x : Extent) (k : ℕ) (directory : List (List ℕ)) (e : Edition) (at low : ℕ) (s : Seen) (layers unlisted : ℕ) (first-layers : List ℕ) : Type 0 where
   pub extent-of : ExtentOf file x
   pub few : k + layers ≤ at
   pub within : at ≤ x .records
@@ -38,8 +72,9 @@ pub record Layering (file : List ℕ) (x : Extent) (k : ℕ) (directory : List (
   pub seen-then : SeenUpTo at s
   pub count : layers + length (layersAt file x at) ≡ length (layersAt file x k)
   pub first-is : first unlisted (firstUnlisted e directory layers (layersAt file x at)) ≡ firstUnlisted e directory 0 (layersAt file x k)
+  pub kept : keep layers first-layers (layersAt file x at) ≡ firstHeaders 32 (layersAt file x k)
 
-pub layering : (file : List ℕ) (x : Extent) (k : ℕ) (directory : List (List ℕ)) (e : Edition) (s : Seen) → ExtentOf file x → k ≤ x .records → s ≡ seenNone k → Layering file x k directory e k 0 s 0 0
+pub layering : (file : List ℕ) (x : Extent) (k : ℕ) (directory : List (List ℕ)) (e : Edition) (s : Seen) → ExtentOf file x → k ≤ x .records → s ≡ seenNone k → Layering file x k directory e k 0 s 0 0 (replicate 32 0)
 layering file x k directory e s extent-of h of = rw of (record {
   extent-of = extent-of;
   few = omega arith;
@@ -49,6 +84,7 @@ layering file x k directory e s extent-of h of = rw of (record {
   seen-then = record { few = omega arith; nine = refl };
   count = omega arith;
   first-is = refl;
+  kept = keep-behind [] 32 (layersAt file x k);
 })
 
 -- ---- at open level 0 nothing but the header of a layer passes
@@ -76,7 +112,7 @@ first-first : (a b c : ℕ) → first a (first b c) ≡ first (first a b) c
 first-first zero b c = refl
 first-first (suc a) b c = refl
 
-module _ (file : List ℕ) (x : Extent) (k : ℕ) (directory : List (List ℕ)) (e : Edition) (at low : ℕ) (s : Seen) (layers unlisted : ℕ) (g : Layering file x k directory e at low s layers unlisted) where
+module _ (file : List ℕ) (x : Extent) (k : ℕ) (directory : List (List ℕ)) (e : Edition) (at low : ℕ) (s : Seen) (layers unlisted : ℕ) (first-layers : List ℕ) (g : Layering file x k directory e at low s layers unlisted first-layers) where
   fails-at : (w : WalkedLayers) → (w .number ≡ 0 → ⊥) → faultFrom 0 (suc at) (viewsFrom file x at) ≡ fault (w .number) (w .at) → WholeBody file x k w
   fails-at w ne q = record {
     fails = λ h. g .joins .same ∙ q;
@@ -106,8 +142,8 @@ module _ (file : List ℕ) (x : Extent) (k : ℕ) (directory : List (List ℕ)) 
       pub layer-further : x .records - c .next < x .records - at
       layer-further = omega (arith, child .further z, child .within z)
 
-      pub layer-goes : (low′ own unlisted′ : ℕ) → own ≡ unless (listsHeader e directory layers (at + 1)) (suc layers) → unlisted′ ≡ first unlisted own → low′ ≡ first low (c .low) → Layering file x k directory e (c .next) low′ (c .seen) (layers + 1) unlisted′
-      layer-goes low′ own unlisted′ of un first-low =
+      pub layer-goes : (low′ own unlisted′ : ℕ) → own ≡ unless (listsHeader e directory layers (at + 1)) (suc layers) → unlisted′ ≡ first unlisted own → low′ ≡ first low (c .low) → (more : List ℕ) → more ≡ set first-layers layers (at + 1) → Layering file x k directory e (c .next) low′ (c .seen) (layers + 1) unlisted′ more
+      layer-goes low′ own unlisted′ of un first-low more more-is =
           let f = child .further z in
           rw (first-low, un) (record {
             extent-of = g .extent-of;
@@ -118,6 +154,7 @@ module _ (file : List ℕ) (x : Extent) (k : ℕ) (directory : List (List ℕ)) 
             seen-then = child .seen-then z;
             count = omega (arith, g .count, ap length (child .layers z refl));
             first-is = sym (first-first unlisted own _) ∙ ap (first unlisted) (ap (λ (n : ℕ). first n (firstUnlisted e directory (layers + 1) (layersAt file x (c .next)))) (of ∙ ap (λ (n : ℕ). unless (listsHeader e directory layers n) (suc layers)) (add-one at)) ∙ ap (λ (n : ℕ). first (unless (listsHeader e directory layers (suc at)) (suc layers)) (firstUnlisted e directory n (layersAt file x (c .next)))) (add-one layers) ∙ sym (ap (firstUnlisted e directory layers) (child .layers z refl))) ∙ g .first-is;
+            kept = ap₂ (λ (n : ℕ) (hs : List ℕ). keep n hs (layersAt file x (c .next))) (add-one layers) (more-is ∙ ap (set first-layers layers) (add-one at)) ∙ sym (ap (keep layers first-layers) (child .layers z refl)) ∙ g .kept;
           })
 
   -- the end
@@ -128,7 +165,7 @@ module _ (file : List ℕ) (x : Extent) (k : ℕ) (directory : List (List ℕ)) 
     none-left : layersAt file x at ≡ []
     none-left = rw (views-end file x (g .extent-of) at end)
 
-    pub layers-end : (w : WalkedLayers) → w ≡ passedLayersOf low s layers unlisted → WholeBody file x k w
+    pub layers-end : (w : WalkedLayers) → w ≡ passedLayersOf low s layers unlisted first-layers → WholeBody file x k w
     layers-end w q = rw q (record {
       fails = λ h. absurd (h refl);
       passes = λ z. subst (λ (n : ℕ). JoinsTo file x k 0 n 0 low) over (g .joins);
@@ -136,11 +173,16 @@ module _ (file : List ℕ) (x : Extent) (k : ℕ) (directory : List (List ℕ)) 
       seen-then = λ z. subst (λ (n : ℕ). SeenUpTo n s) over (g .seen-then);
     })
 
-    pub layers-listed : (w : WalkedLayers) → w ≡ passedLayersOf low s layers unlisted → w .number ≡ 0 → Listing file x k directory e (w .layers) (w .unlisted)
+    pub layers-listed : (w : WalkedLayers) → w ≡ passedLayersOf low s layers unlisted first-layers → w .number ≡ 0 → Listing file x k directory e (w .layers) (w .unlisted) (w .«first_layers»)
     layers-listed w q z = rw q (record {
       count = omega (arith, g .count, ap length none-left);
       first-is = sym (first-alone unlisted) ∙ ap (λ (ls : List Layer). first unlisted (firstUnlisted e directory layers ls)) (sym none-left) ∙ g .first-is;
+      kept = sym (ap (keep layers first-layers) none-left) ∙ g .kept;
     })
+
+-- a walk that fails lists nothing
+pub no-listing : (file : List ℕ) (x : Extent) (k : ℕ) (directory : List (List ℕ)) (e : Edition) (w : WalkedLayers) (number : ℕ) → (number ≡ 0 → ⊥) → w .number ≡ number → w .number ≡ 0 → Listing file x k directory e (w .layers) (w .unlisted) (w .«first_layers»)
+no-listing file x k directory e w number ne q z = absurd (ne (sym q ∙ z))
 
 -- ---- `unlisted`
 pub listed-none : (t own : Bool) (n : ℕ) → t ≡ own → t ≡ true → 0 ≡ unless own n
@@ -150,5 +192,5 @@ pub not-listed : (t own : Bool) (n : ℕ) → t ≡ own → t ≡ false → n + 
 not-listed t own n e h = rw (← e, h) (add-one n)
 
 -- ---- `walk_whole`
-pub begun-layers : (file : List ℕ) (x : Extent) (k begun : ℕ) (directory : List (List ℕ)) (e : Edition) (w : WalkedLayers) → begun ≡ k → (WholeBody file x begun w) × (w .number ≡ 0 → Listing file x begun directory e (w .layers) (w .unlisted)) → (WholeBody file x k w) × (w .number ≡ 0 → Listing file x k directory e (w .layers) (w .unlisted))
+pub begun-layers : (file : List ℕ) (x : Extent) (k begun : ℕ) (directory : List (List ℕ)) (e : Edition) (w : WalkedLayers) → begun ≡ k → (WholeBody file x begun w) × (w .number ≡ 0 → Listing file x begun directory e (w .layers) (w .unlisted) (w .«first_layers»)) → (WholeBody file x k w) × (w .number ≡ 0 → Listing file x k directory e (w .layers) (w .unlisted) (w .«first_layers»))
 begun-layers file x k begun directory e w begins walked = rw begins at walked

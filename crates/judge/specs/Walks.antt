@@ -25,7 +25,7 @@ use Rattle.judge.specs.declared.walk.WalkedLayers.{WalkedLayers}
 use Rattle.judge.specs.declared.opening.Against.{Against}
 use Rattle.judge.specs.declared.Sheet.{Sheet}
 use Rattle.judge.specs.Sheet.{values, startBefore, headerBefore, acceptedSheet, sheetFor, recordsSheet}
-use Rattle.judge.specs.Listed.{firstUnlisted}
+use Rattle.judge.specs.Listed.{firstUnlisted, firstHeaders}
 
 -- ---- The records of a file, which count from 0 here; record k has number k + 1
 -- the file has as many records as the walk is told
@@ -187,12 +187,13 @@ pub record WholeBody (file : List ℕ) (x : Extent) (k : ℕ) (w : WalkedLayers)
   pub seen-then : w .number ≡ 0 → SeenUpTo (x .records) (w .seen)
 
 -- and of the layers against the records of a directory
-pub record Listing (file : List ℕ) (x : Extent) (k : ℕ) (directory : List (List ℕ)) (e : Edition) (layers unlisted : ℕ) : Type 0 where
+pub record Listing (file : List ℕ) (x : Extent) (k : ℕ) (directory : List (List ℕ)) (e : Edition) (layers unlisted : ℕ) (first-layers : List ℕ) : Type 0 where
   pub count : layers ≡ length (layersAt file x k)
   pub first-is : unlisted ≡ firstUnlisted e directory 0 (layersAt file x k)
+  pub kept : first-layers ≡ firstHeaders 32 (layersAt file x k)
 
-abbrev pub passedLayersOf : (low : ℕ) → Seen → (layers unlisted : ℕ) → WalkedLayers
-passedLayersOf low seen layers unlisted = record { number = 0; at = 0; low = low; seen = seen; layers = layers; unlisted = unlisted }
+abbrev pub passedLayersOf : (low : ℕ) → Seen → (layers unlisted : ℕ) → List ℕ → WalkedLayers
+passedLayersOf low seen layers unlisted first-layers = record { number = 0; at = 0; low = low; seen = seen; layers = layers; unlisted = unlisted; «first_layers» = first-layers }
 
 -- a sheet, by what its sheet part came to
 abbrev pub bodyOf : List ℕ → Extent → SheetPart → File
@@ -232,9 +233,10 @@ bodySheet file x part = sheetFor (judge (bodyOf file x part)) (part .unit) (part
 -- the same against the records of a directory
 pub record BodyAgainst (file : List ℕ) (x : Extent) (part : SheetPart) (directory : List (List ℕ)) (e : Edition) (r : Against) : Type 0 where
   pub sheet-is : r .sheet ≡ bodySheet file x part
-  pub listing : r .sheet .fault ≡ 0 → Listing file x (part .length) directory e (r .layers) (r .unlisted)
+  pub listing : r .sheet .fault ≡ 0 → Listing file x (part .length) directory e (r .layers) (r .unlisted) (r .«first_layers»)
 
 pub record OpenedAgainst (records : List (List ℕ)) (before : ℕ) (directory : List (List ℕ)) (e : Edition) (r : Against) : Type 0 where
   pub sheet-is : r .sheet ≡ recordsSheet records before
   pub count : r .sheet .fault ≡ 0 → r .layers ≡ length (layersOf records)
   pub first-is : r .sheet .fault ≡ 0 → r .unlisted ≡ firstUnlisted e directory 0 (layersOf records)
+  pub kept : r .sheet .fault ≡ 0 → r .«first_layers» ≡ firstHeaders 32 (layersOf records)

@@ -1,4 +1,5 @@
 // Opening a sheet whose length is right: its sheet part, its body, stage three, and what stands before the place.
+use super::FirstLayers;
 use super::Sheet;
 use super::body_records;
 use super::body_records::Extent;
@@ -122,11 +123,13 @@ fn at_place(file: &[u8], extent: Extent, part: SheetPart, seen: Seen) -> Sheet
     accepted(part, due, open_of(entry), seen)
 }
 
-// A sheet that is opened against a directory: how many layers it has, and the first of them, counted from 1, that the directory does not list, or 0.
+// A sheet that is opened against a directory: how many layers it has, the first of them, counted from 1, that the directory does not list, or 0, and the
+// headers of its first layers.
 pub(crate) struct Against {
     pub sheet: Sheet,
     pub layers: usize,
     pub unlisted: usize,
+    pub first_layers: FirstLayers,
 }
 
 // The same of a sheet that is refused.
@@ -137,6 +140,7 @@ fn refused_against(fault: u8, at: usize) -> Against
         sheet: refused(fault, at),
         layers: 0,
         unlisted: 0,
+        first_layers: [0; 32],
     }
 }
 
@@ -169,10 +173,12 @@ fn open_body(
     if body.number != 0 {
         return refused_against(body.number, body.at);
     }
+    let first_layers = body.first_layers;
     Against {
         sheet: stage_three(file, extent, part, body),
         layers: body.layers,
         unlisted: body.unlisted,
+        first_layers,
     }
 }
 

@@ -1,5 +1,7 @@
 // The walk of stage two over the body. It also counts, so that stage three reads no more than each header's own counts, and keeps what stands
 // before the place.
+use super::FirstLayers;
+use super::KEPT;
 use super::body_records;
 use super::body_records::Extent;
 use format_directory::Edition;
@@ -7,6 +9,7 @@ use records::Entry;
 use records::Tally;
 ghost use mathlib.Core.Path.{_≡_};
 ghost use Prim.Native.Nat.{suc, _<_, _≤_};
+ghost use lib.ListN.{set};
 ghost use Rattle.format.specs.Basics.{first, unless};
 ghost use Rattle.files.specs.declared.Stride.the-variants.{Plain};
 ghost use Rattle.files.specs.Records.{recordsOf};
@@ -58,6 +61,7 @@ pub(crate) struct WalkedLayers {
     pub seen: Seen,
     pub layers: usize,
     pub unlisted: usize,
+    pub first_layers: FirstLayers,
 }
 
 // A walk that found a fault.
@@ -106,6 +110,7 @@ fn failed_layers(number: u8, at: usize, seen: Seen) -> WalkedLayers
         seen,
         layers: 0,
         unlisted: 0,
+        first_layers: [0; 32],
     }
 }
 
@@ -145,8 +150,14 @@ fn passed_body(next: usize, low: usize, tally: Tally, seen: Seen) -> WalkedBody
     }
 }
 
-fn passed_layers(low: usize, seen: Seen, layers: usize, unlisted: usize) -> WalkedLayers
-    ensures { λ r. ⌜ r ≡ passedLayersOf low seen layers unlisted ⌝ }
+fn passed_layers(
+    low: usize,
+    seen: Seen,
+    layers: usize,
+    unlisted: usize,
+    first_layers: FirstLayers,
+) -> WalkedLayers
+    ensures { λ r. ⌜ r ≡ passedLayersOf low seen layers unlisted «first_layers» ⌝ }
 {
     WalkedLayers {
         number: 0,
@@ -155,7 +166,19 @@ fn passed_layers(low: usize, seen: Seen, layers: usize, unlisted: usize) -> Walk
         seen,
         layers,
         unlisted,
+        first_layers,
     }
+}
+
+// The header of a layer, counted from 0, kept where there is room for it.
+fn kept(first_layers: FirstLayers, layer: usize, header: usize) -> FirstLayers
+    ensures { λ r. ⌜ r ≡ set «first_layers» layer header ⌝ }
+{
+    let mut more = first_layers;
+    if layer < KEPT {
+        more[layer] = header;
+    }
+    more
 }
 
 // The first of two numbers that is not 0; 0 is none.
@@ -299,13 +322,14 @@ fn walk_layers(
     edition: Edition,
 ) -> WalkedLayers
     requires { ⌜ (ExtentOf (now file) extent) × (k ≤ extent .records) ⌝ }
-    ensures { λ r. ⌜ (WholeBody (now (file .entry)) extent k r) × (r .number ≡ 0 → Listing (now (file .entry)) extent k (recordsOf Plain (now (directory .entry))) edition (r .layers) (r .unlisted)) ⌝ }
+    ensures { λ r. ⌜ (WholeBody (now (file .entry)) extent k r) × (r .number ≡ 0 → Listing (now (file .entry)) extent k (recordsOf Plain (now (directory .entry))) edition (r .layers) (r .unlisted) (r .«first_layers»)) ⌝ }
 {
     let mut at = k;
     let mut low = 0;
     let mut seen = seen_none(k);
     let mut layers = 0;
     let mut wrong = 0;
+    let mut first_layers = [0; 32];
     while at < extent.records {
         let entry = body_records::entry_at(file, extent, at);
         let fault = body_records::entry_fault(entry, 0);
@@ -317,12 +341,14 @@ fn walk_layers(
             return failed_layers(layer.number, layer.at, seen);
         }
         wrong = first_of(wrong, unlisted(directory, edition, layers, at + 1));
+        let more = kept(first_layers, layers, at + 1);
+        first_layers = more;
         layers += 1;
         at = layer.next;
         low = first_of(low, layer.low);
         seen = layer.seen;
     }
-    passed_layers(low, seen, layers, wrong)
+    passed_layers(low, seen, layers, wrong, first_layers)
 }
 
 // All of the body, behind a sheet part of so many records.
@@ -334,7 +360,7 @@ pub(crate) fn walk_whole(
     edition: Edition,
 ) -> WalkedLayers
     requires { ⌜ (ExtentOf (now file) extent) × (part ≤ extent .records) ⌝ }
-    ensures { λ r. ⌜ (WholeBody (now (file .entry)) extent part r) × (r .number ≡ 0 → Listing (now (file .entry)) extent part (recordsOf Plain (now (directory .entry))) edition (r .layers) (r .unlisted)) ⌝ }
+    ensures { λ r. ⌜ (WholeBody (now (file .entry)) extent part r) × (r .number ≡ 0 → Listing (now (file .entry)) extent part (recordsOf Plain (now (directory .entry))) edition (r .layers) (r .unlisted) (r .«first_layers»)) ⌝ }
 {
     let first = body_records::begin(file, part);
     walk_layers(file, extent, first, directory, edition)

@@ -1,5 +1,5 @@
 -- `append_edition`: judged, then the room, then written. Assumes nothing.
-use Rattle.directories.proofs.Appended.{append-refused, closing-fits, directory-fits, new-fits, append-short, used-few, layers-few, layers-counted, append-room, appended}
+use Rattle.directories.proofs.Appended.{append-refused, closing-fits, directory-fits, new-fits, append-short, used-few, layers-few, layers-counted, first-kept, append-room, appended}
 use borrow.Author.Needs.{needs}
 use Rattle.directories.proofs.append_edition.Statement.{statement}
 use Rattle.directories.proofs.append_edition.Tie as tie
@@ -41,7 +41,7 @@ returns-2 : tie.Need-returns-2
 returns-2 c = search append-short
 
 write-directory-requires : tie.Need-write-directory-requires
-write-directory-requires c κs = (search used-few, search layers-few, search layers-counted, search append-room)
+write-directory-requires c κs = (search used-few, search layers-few, search layers-counted, search first-kept, search append-room)
 
 same-length-3 : tie.Need-same-length-3
 same-length-3 c = search needs

@@ -1,15 +1,16 @@
 -- `row_from` writes layer after layer. The loop's invariant is `Filling`, its measure the columns left. Assumes nothing.
-use Prim.Native.Nat.{_-_, _≤_}
+use Prim.Native.Nat.{_-_, _*_, _≤_}
 use borrow.Author.Needs.{needs}
-use Rattle.directories.proofs.Written.{Filling, filling, column-small, header-small, layer-added, last-row, full-row}
+use Rattle.directories.proofs.Written.{Filling, filling, kept-further, each-small, column-small, header-small, layer-added, last-row, full-row}
+use Rattle.directories.specs.Steps.{Kept}
 use Rattle.directories.proofs.writing.row_from.Statement.{statement}
 use Rattle.directories.proofs.writing.row_from.Tie as tie
 
 abbrev Inv-loop : tie.InvT-loop
-Inv-loop file k each count bytes₀ at₀ i₀ bytes at i = (count ≤ 200000) × Filling file k each bytes₀ bytes at i
+Inv-loop file k first before each count bytes₀ at₀ i₀ bytes at i = (count ≤ 200000) × (before ≤ 200000 * 11) × (each ≤ 11) × Kept file first before k × Filling file k each bytes₀ bytes at i
 
 abbrev μ-loop : tie.MeasureT-loop
-μ-loop file k each count bytes₀ at₀ i₀ bytes at i = each - i
+μ-loop file k first before each count bytes₀ at₀ i₀ bytes at i = each - i
 
 per-record-requires : tie.Need-per-record-requires Inv-loop μ-loop
 per-record-requires c κs = search needs
@@ -21,10 +22,13 @@ blank-row-requires : tie.Need-blank-row-requires Inv-loop μ-loop
 blank-row-requires c κs = search needs
 
 loop-holds : tie.Need-loop-holds Inv-loop μ-loop
-loop-holds c = (search needs, search filling)
+loop-holds c = (search needs, search needs, search each-small, search needs, search filling)
 
-next-layer-requires : tie.Need-next-layer-requires Inv-loop μ-loop
-next-layer-requires c κs = search needs
+add-layer-from : tie.Need-add-layer-from Inv-loop μ-loop
+add-layer-from c = search needs
+
+layer-from-requires : tie.Need-layer-from-requires Inv-loop μ-loop
+layer-from-requires c κs = search kept-further
 
 returns : tie.Need-returns Inv-loop μ-loop
 returns c = search last-row
@@ -45,7 +49,7 @@ loop-less : tie.Need-loop-less Inv-loop μ-loop
 loop-less c = search needs
 
 loop-again : tie.Need-loop-again Inv-loop μ-loop
-loop-again c = (search needs, search layer-added)
+loop-again c = (search needs, search needs, search needs, search needs, search layer-added)
 
 returns-2 : tie.Need-returns-2 Inv-loop μ-loop
 returns-2 c = search full-row
@@ -60,7 +64,8 @@ row-from-spec =
     count-requires
     blank-row-requires
     loop-holds
-    next-layer-requires
+    add-layer-from
+    layer-from-requires
     returns
     add-with-number
     with-number-requires

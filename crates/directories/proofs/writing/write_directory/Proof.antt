@@ -9,7 +9,7 @@ rows-requires : tie.Need-rows-requires
 rows-requires c κs = search needs
 
 write-rows-requires : tie.Need-write-rows-requires
-write-rows-requires c κs = (search needs, search rows-few, search rows-room)
+write-rows-requires c κs = (search needs, search rows-few, search rows-room, search needs)
 
 add-closing-bytes : tie.Need-add-closing-bytes
 add-closing-bytes c = search needs

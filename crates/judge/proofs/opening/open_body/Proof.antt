@@ -17,7 +17,7 @@ stage-three-requires : tie.Need-stage-three-requires
 stage-three-requires c κs = search needs
 
 returns-2 : tie.Need-returns-2
-returns-2 c = search (against-body, c .before .before .before .walk-whole .ensures .1)
+returns-2 c = search (against-body, c .before .before .before .before .walk-whole .ensures .1)
 
 pub open-body-spec : {M : Type 1} → statement M
 open-body-spec =

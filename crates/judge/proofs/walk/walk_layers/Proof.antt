@@ -1,17 +1,18 @@
 -- `walk_layers` walks layer after layer. The loop's invariant is `Layering`, its measure the records left. Assumes nothing.
 use Prim.Native.Nat.{_-_}
+use native.Mathlib.Omega.{arith}
 use Rattle.files.specs.declared.Stride.the-variants.{Plain}
 use Rattle.files.specs.Records.{recordsOf}
 use borrow.Author.Needs.{needs}
-use Rattle.judge.proofs.LayersLaws.{Layering, layering, layer-header, layers-fault, layer-below, layers-fit, layer-stops, layer-further, layer-goes, layers-end, layers-listed}
+use Rattle.judge.proofs.LayersLaws.{Layering, layering, layer-header, layers-fault, layer-below, layers-fit, layer-stops, no-listing, layer-further, layer-goes, layers-end, layers-listed}
 use Rattle.judge.proofs.walk.walk_layers.Statement.{statement}
 use Rattle.judge.proofs.walk.walk_layers.Tie as tie
 
 abbrev Inv-loop : tie.InvT-loop
-Inv-loop file extent k directory edition at₀ low₀ seen₀ layers₀ wrong₀ at low seen layers wrong = Layering file extent k (recordsOf Plain directory) edition at low seen layers wrong
+Inv-loop file extent k directory edition at₀ low₀ seen₀ layers₀ wrong₀ first-layers₀ at low seen layers wrong first-layers = Layering file extent k (recordsOf Plain directory) edition at low seen layers wrong first-layers
 
 abbrev μ-loop : tie.MeasureT-loop
-μ-loop file extent k directory edition at₀ low₀ seen₀ layers₀ wrong₀ at low seen layers wrong = extent .records - at
+μ-loop file extent k directory edition at₀ low₀ seen₀ layers₀ wrong₀ first-layers₀ at low seen layers wrong first-layers = extent .records - at
 
 seen-none-requires : tie.Need-seen-none-requires Inv-loop μ-loop
 seen-none-requires c κs = search needs
@@ -32,7 +33,7 @@ failed-layers-requires : tie.Need-failed-layers-requires Inv-loop μ-loop
 failed-layers-requires c κs = search needs
 
 returns : tie.Need-returns Inv-loop μ-loop
-returns c = (search layers-fault, search needs)
+returns c = (search layers-fault, no-listing _ _ _ _ _ (c .failed-layers .result) _ (c .before .if2 .taken) (search needs))
 
 walk-group-requires : tie.Need-walk-group-requires Inv-loop μ-loop
 walk-group-requires c κs = (search needs, search needs, search needs, search layer-header, search needs)
@@ -41,7 +42,7 @@ failed-layers-requires-2 : tie.Need-failed-layers-requires-2 Inv-loop μ-loop
 failed-layers-requires-2 c κs = search needs
 
 returns-2 : tie.Need-returns-2 Inv-loop μ-loop
-returns-2 c = (search layer-stops, search needs)
+returns-2 c = (search layer-stops, no-listing _ _ _ _ _ (c .failed-layers2 .result) _ (c .before .if3 .taken) (search needs))
 
 add-unlisted : tie.Need-add-unlisted Inv-loop μ-loop
 add-unlisted c = search needs
@@ -52,8 +53,14 @@ unlisted-requires c κs = search layer-below
 first-of-requires : tie.Need-first-of-requires Inv-loop μ-loop
 first-of-requires c κs = search needs
 
+add-kept : tie.Need-add-kept Inv-loop μ-loop
+add-kept c = search needs
+
+kept-requires : tie.Need-kept-requires Inv-loop μ-loop
+kept-requires c κs = search needs
+
 add-layers : tie.Need-add-layers Inv-loop μ-loop
-add-layers c = search (layers-fit, c .before .before .before .before .before .before .before .before .before)
+add-layers c = layers-fit _ _ _ _ _ _ _ _ _ _ _ (c .before .before .before .before .before .before .before .before .before .before .before .loop .inv) (search needs) (omega (arith, c .before .before .before .before .before .before .before .before .before .before .before .before .before .before .before .good))
 
 first-of-requires-2 : tie.Need-first-of-requires-2 Inv-loop μ-loop
 first-of-requires-2 c κs = search needs
@@ -63,9 +70,9 @@ loop-less c = search layer-further
 
 loop-again : tie.Need-loop-again Inv-loop μ-loop
 loop-again c =
-    let begun = c .before .before .before .before .before .before .before .before .before .before .before .before in
-    let walked = c .before .before .before .before .before .before in
-    layer-goes _ _ _ _ _ _ _ _ _ _ (begun .loop .inv) _ (walked .walk-group .ensures) (search needs) _ _ _ (c .before .before .before .unlisted .ensures) (c .before .before .first-of .ensures) (c .before .first-of2 .ensures)
+    let begun = c .before .before .before .before .before .before .before .before .before .before .before .before .before in
+    let walked = c .before .before .before .before .before .before .before in
+    layer-goes _ _ _ _ _ _ _ _ _ _ _ (begun .loop .inv) _ (walked .walk-group .ensures) (search needs) _ _ _ (c .before .before .before .before .unlisted .ensures) (c .before .before .before .first-of .ensures) (c .before .first-of2 .ensures) _ (c .before .before .kept .ensures)
 
 passed-layers-requires : tie.Need-passed-layers-requires Inv-loop μ-loop
 passed-layers-requires c κs = search needs
@@ -92,6 +99,8 @@ walk-layers-spec =
     add-unlisted
     unlisted-requires
     first-of-requires
+    add-kept
+    kept-requires
     add-layers
     first-of-requires-2
     loop-less
