@@ -1,7 +1,7 @@
 //! The sheets that are measured.
 
 use reference::random::Random;
-use reference::sheets;
+use reference::{sheets, RECORD};
 
 /// The technician's grid: 1,000 by 840 heights, 70,000 data records.
 pub fn technicians_grid() -> Vec<u8> {
@@ -47,6 +47,25 @@ pub fn elements(records: usize, seed: u64) -> Vec<u8> {
         let kind = 1 + r.below(8);
         (kind, sheets::item(r, kind, 2))
     })
+}
+
+/// Points of one record each: every record but the layers' headers is an item, and a walk that passes over items' data passes over none.
+pub fn points(records: usize, _seed: u64) -> Vec<u8> {
+    sheets::sheet_of_points(records)
+}
+
+/// The same in layers of ten: many headers, and items between them.
+pub fn tens(records: usize, _seed: u64) -> Vec<u8> {
+    let point = sheets::sheet_of_points(20).split_off(19 * RECORD);
+    let mut layer = vec![point; 11];
+    layer[0] = sheets::layer(&[(5, 10)]);
+    let layers = records / 11;
+    sheets::sheet_of(&mut Random(3), vec![layer; layers].concat(), 10 * layers)
+}
+
+/// Nothing but empty layers: no sheet has more of them, and none a longer directory beside its records.
+pub fn empty_layers(records: usize, _seed: u64) -> Vec<u8> {
+    sheets::sheet_of(&mut Random(3), vec![sheets::layer(&[]); records], 0)
 }
 
 /// An index of 100 sheets with so many c records.

@@ -1,6 +1,6 @@
 //! Files with line ends: judging beside the plain twin, and the writers beside a copy of the records.
 
-use crate::{least, Make, ROUNDS};
+use crate::{least, no_such, turns, Make, MORE_ROUNDS};
 use bench::files;
 use reference::lines::with_ends;
 use reference::RECORD;
@@ -14,14 +14,6 @@ type Judge = fn(&[u8], usize) -> Result<Counts, Refusal>;
 /// The judges of a kind of file: of the plain form, and of that with line ends.
 const SHEET: (Judge, Judge) = (judge_sheet, judge_sheet_lines);
 const INDEX: (Judge, Judge) = (judge_index, judge_index_lines);
-
-/// More rounds than the other rows have: the bars are ratios of times that are close to each other, and other work on the machine comes and goes.
-const MORE_ROUNDS: usize = 2 * ROUNDS;
-
-/// How often a call on so many bytes is repeated in a round: the first time its bytes come from further away than the second time.
-fn turns(bytes: usize) -> usize {
-    2_000_000 / bytes + 3
-}
 
 /// A file in both forms, and the best seconds of judging each.
 struct Twins {
@@ -136,9 +128,6 @@ pub fn once(what: &str, records: usize) {
             let mut all = Written::new(records);
             println!("{:?}", from_lines(&all.lines, all.lines.len(), &mut all.target));
         }
-        other => {
-            eprintln!("no such call: {other}");
-            std::process::exit(2);
-        }
+        other => no_such(other),
     }
 }

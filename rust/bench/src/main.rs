@@ -1,7 +1,9 @@
 //! The benchmark: the proved judge beside an idiomatic one, the reference and a plain copy; its cost a record as files grow; edits beside a
-//! judging and a move; files with line ends beside plain ones and a copy (`bench lines`: these alone). Every figure is the best of several rounds
-//! with all of them in turn, so that ratios compare. `bench once WHAT RECORDS` makes one call, for a tool that counts instructions.
+//! judging and a move; files with line ends beside plain ones and a copy (`bench lines`: these alone); sheets with a directory of layers beside
+//! those without (`bench directories`). Every figure is the best of several rounds with all of them in turn, so that ratios compare. `bench once WHAT
+//! RECORDS` makes one call, for a tool that counts instructions.
 
+mod directories;
 mod lines;
 
 use bench::{files, idiomatic};
@@ -12,6 +14,14 @@ use std::time::Instant;
 use zvaigulta::{insert, judge_index, judge_sheet, normal_index, normal_sheet, remove, way_up};
 
 const ROUNDS: usize = 9;
+
+/// More rounds than the other rows have: the bars are ratios of times that are close to each other, and other work on the machine comes and goes.
+const MORE_ROUNDS: usize = 2 * ROUNDS;
+
+/// How often a call on so many bytes is repeated in a round: the first time its bytes come from further away than the second time.
+fn turns(bytes: usize) -> usize {
+    2_000_000 / bytes + 3
+}
 
 /// Makes a sheet of so many records from a seed.
 type Make = fn(usize, u64) -> Vec<u8>;
@@ -174,28 +184,51 @@ fn once_index(what: &str, c_records: usize) {
     }
 }
 
-/// One call: `grids`, `mixed`, `elements` judge a sheet of so many records; `insert`, `remove` edit one of small elements at its first item, and
-/// `insert-last`, `remove-last` at its last.
+/// The place of an edit, or the record of a way up: the end of a sheet of layers, or its last record; the first item of another sheet, or its last.
+fn place_of(what: &str, file: &[u8]) -> usize {
+    let records = file.len() / RECORD;
+    match what {
+        "insert-layers" => records + 1,
+        "way-up-layers" => records,
+        _ if what.ends_with("last") => ends(file).1,
+        _ => ends(file).0,
+    }
+}
+
+/// One call on a sheet of so many records: `grids`, `mixed`, `elements`, `points`, `tens` and `layers` judge it; `insert` and `remove` edit one of
+/// small elements at its first item, `insert-last` and `remove-last` at its last, `insert-layers` one of empty layers at its end.
 fn once(what: &str, records: usize) {
     let make: Make = match what {
         "grids" => files::grids,
         "mixed" => files::mixed,
+        "points" => files::points,
+        "tens" => files::tens,
+        "layers" | "insert-layers" | "way-up-layers" => files::empty_layers,
         _ => files::elements,
     };
     let mut file = make(records, 11);
     let used = file.len();
-    let (first, last) = if what == "grids" { (0, 0) } else { ends(&file) };
-    let place = if what.ends_with("last") { last } else { first };
+    match what {
+        "grids" | "mixed" | "elements" | "points" | "tens" | "layers" => return println!("{:?}", judge_sheet(&file, used)),
+        "normal" => return println!("{:?}", normal_sheet(&file, used, &mut vec![0; used])),
+        _ => {}
+    }
+    let place = place_of(what, &file);
     file.resize(used + 100 * RECORD, b' ');
     match what {
-        "insert" | "insert-last" => {
+        "insert" | "insert-last" | "insert-layers" => {
             println!("{:?}", insert(&mut file, used, place, &sheets::item(&mut Random(5), 2, 2).concat()))
         }
         "remove" | "remove-last" => println!("{:?}", remove(&mut file, used, place)),
-        "normal" => println!("{:?}", normal_sheet(&file, used, &mut vec![0; used])),
-        "way-up" | "way-up-last" => println!("{:?}", way_up(&file, used, place)),
-        _ => println!("{:?}", judge_sheet(&file, used)),
+        "way-up" | "way-up-last" | "way-up-layers" => println!("{:?}", way_up(&file, used, place)),
+        other => no_such(other),
     }
+}
+
+/// A call that is none of those that can be asked for.
+fn no_such(what: &str) -> ! {
+    eprintln!("no such call: {what}");
+    std::process::exit(2)
 }
 
 fn main() {
@@ -207,15 +240,22 @@ fn main() {
             growth();
             edits();
             lines::rows();
+            directories::rows();
         }
         ["lines"] => lines::rows(),
+        ["directories"] => directories::rows(),
         ["once", what @ ("index" | "normal-index"), records] => once_index(what, records.parse().expect("a number of c records")),
+        ["once", what, records] if what.starts_with("directory-") || what.starts_with("append-") || what == "jump" => {
+            directories::once(what, records.parse().expect("a number of records"))
+        }
         ["once", what, records] if what.contains("lines") => lines::once(what, records.parse().expect("a number of records")),
         ["once", what, records] => once(what, records.parse().expect("a number of records")),
         _ => {
             eprintln!(
-                "usage: bench [lines] | bench once grids|mixed|elements|index|insert|insert-last|remove|remove-last|normal|normal-index|way-up|way-up-last|\
-                 judge-lines-grids|judge-lines-mixed|judge-lines-elements|judge-lines-index|to-lines|from-lines RECORDS"
+                "usage: bench [lines|directories] | bench once WHAT RECORDS, where WHAT is SHEET|insert|insert-last|insert-layers|remove|\
+                 remove-last|normal|way-up|way-up-last|way-up-layers|index|normal-index|judge-lines-grids|judge-lines-mixed|\
+                 judge-lines-elements|judge-lines-index|to-lines|from-lines|directory-SHEET|append-SHEET|jump, and SHEET is \
+                 grids|mixed|elements|points|tens|layers"
             );
             std::process::exit(2);
         }
