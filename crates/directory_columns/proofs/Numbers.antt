@@ -4,7 +4,7 @@ use mathlib.Core.Bool.{Bool, true, false, _&&_, and-false}
 use mathlib.Core.List.{List, []}
 use Prim.Native.Nat.{ℕ, zero, suc, _+_, _-_, _*_, _/_, _%_, _≤_, _<_, _^_}
 use native.Mathlib.Omega.{arith}
-use borrow.Author.Tests.{le-leb, lt-ltb, le-ltb, ltb-true}
+use borrow.Author.Tests.{le-leb, lt-leb, lt-ltb, le-ltb, ltb-true}
 use lib.Dec.{ltb, leb}
 use lib.IntN.{pos}
 use lib.ListN.{length, getD}
@@ -13,7 +13,7 @@ use mir.Val.{Fits, SFits, toZ, ofZ}
 use mir.ValLaws.{toZ-ofZ}
 use Rattle.format.specs.Basics.{roundUp}
 use Rattle.format.specs.Text.{same}
-use Rattle.format.specs.Column.{written}
+use Rattle.format.specs.Column.{fits, widthOk, written}
 use Rattle.format.specs.Layout.{column}
 use Rattle.format.proofs.Basics.{and-true}
 use Rattle.format.proofs.ColumnFits.{fits-plus}
@@ -60,3 +60,13 @@ module _ (r : List ℕ) (k n : ℕ) where
 pub listed-is : (e : Edition) (directory : List (List ℕ)) (each layer header : ℕ) (record₁ : List ℕ) (t : Bool) → each ≡ perRecord e → record₁ ≡ getD directory (layer / each) [] → t ≡ numberIs record₁ (layer % each) header → t ≡ listsHeader e directory layer header
 unfolding listsHeader
 listed-is e directory each layer header record₁ t q p h = h ∙ rw (p, q)
+
+-- where there is no record, nothing is listed
+pub nothing-lists : (e : Edition) (layer header : ℕ) → listsHeader e [] layer header ≡ false
+unfolding listsHeader numberIs isWrittenAt
+nothing-lists e layer header = never (ltb (layer % perRecord e) 11) (widthOk 7 && fits 7 (pos header)) (leb (2 + 7 * (layer % perRecord e) + 7) 0) (same (column (2 + 7 * (layer % perRecord e)) 7 []) (written 7 (pos header))) (lt-leb (2 + 7 * (layer % perRecord e) + 7) 0 (omega arith))
+  where
+    never : (a b c d : Bool) → c ≡ false → a && ((b && c) && d) ≡ false
+    never true true c d q = ap (λ (t : Bool). t && d) q
+    never true false c d q = refl
+    never false b c d q = refl

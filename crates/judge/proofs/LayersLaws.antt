@@ -1,22 +1,27 @@
 -- The loop of `walk_layers`: its invariant, and what it ensures at each way out. Assumes nothing.
 use mathlib.Core.Path.{_≡_, refl, sym, ap, ap₂, subst, _∙_}
 use mathlib.Core.Bool.{Bool, true, false}
-use mathlib.Core.List.{List, [], _∷_, _++_, append-assoc, append-nil}
-use Prim.Native.Nat.{ℕ, zero, suc, _+_, _-_, _^_, _≤_, _<_}
+use mathlib.Core.List.{List, [], _∷_, _++_, append-assoc}
+use Prim.Native.Nat.{ℕ, zero, suc, _+_, _-_, _/_, _^_, _≤_, _<_}
 use mir.Syntax.{w64}
 use mir.Val.{Fits}
 use native.Mathlib.Omega.{arith}
 use native.Mathlib.Numerals.{add-one}
+use borrow.Author.Tests.{lt-ltb, le-ltb}
 use lib.ListN.{length, length-append, set, replicate}
 use lib.Seq.{set-at}
-use Rattle.format.specs.Basics.{fault, first, unless}
+use Rattle.format.specs.Basics.{fault, first, unless, chunks}
 use Rattle.format.specs.Record.{Kind, head, item, neither, nothing, isHead, View, view}
 use Rattle.format.specs.Judge.{lowestLevel, faultAt}
 use Rattle.format.proofs.Basics.{first-alone}
 use Rattle.format.proofs.JudgeWalks.{good}
 use Rattle.format_directory.specs.declared.Edition.{Edition}
 use Rattle.format_directory.specs.Directory.{Layer}
+use Rattle.files.specs.declared.Stride.the-variants.{Plain}
+use Rattle.files.specs.Records.{recordsOf}
+use Rattle.files.proofs.Records.{plain-records}
 use Rattle.directory_columns.specs.Numbers.{listsHeader}
+use Rattle.directory_columns.proofs.Numbers.{nothing-lists}
 use Rattle.records.specs.Entry.{entryOf}
 use Rattle.records.specs.declared.items.Entry.{Entry}
 use Rattle.judge.specs.declared.body_records.Extent.{Extent}
@@ -24,42 +29,39 @@ use Rattle.judge.specs.declared.walk.Seen.{Seen}
 use Rattle.judge.specs.declared.walk.WalkedGroup.{WalkedGroup}
 use Rattle.judge.specs.declared.walk.WalkedLayers.{WalkedLayers}
 use Rattle.judge.specs.Listed.{firstUnlisted, firstHeaders}
-use Rattle.judge.specs.Walks.{ExtentOf, recordAt, viewsFrom, faultFrom, seenNone, SeenUpTo, entryFault, JoinsTo, SeesTo, HeaderAt, Child, WholeBody, layersAt, Listing, passedLayersOf}
+use Rattle.judge.specs.Walks.{ExtentOf, recordAt, viewsFrom, faultFrom, seenNone, SeenUpTo, entryFault, JoinsTo, SeesTo, HeaderAt, Child, WholeBody, layersAt, Listing, keptIn, passedLayersOf}
 use Rattle.judge.proofs.Steps.{views-more, views-end, fault-here}
 use Rattle.judge.proofs.EntryLaws.{fault-is}
 use Rattle.judge.proofs.Joined.{joins-none, joins-more, sees-none, sees-more}
 
--- ---- `kept`
-set-over : (l : List ℕ) (i x : ℕ) → length l ≤ i → set l i x ≡ l
-set-over [] i x h = refl
-set-over (y ∷ l) zero x h = absurd (omega arith)
-set-over (y ∷ l) (suc i) x h = ap (λ (r : List ℕ). y ∷ r) (set-over l i x (omega arith))
+-- ---- `keep`
+pub kept-there : (kept : List ℕ) (layer header : ℕ) → layer < 32 → set kept layer header ≡ keptIn kept layer header
+kept-there kept layer header h = rw (lt-ltb layer 32 h)
 
-pub kept-none : (hs : List ℕ) (layer header : ℕ) → length hs ≡ 32 → 32 ≤ layer → hs ≡ set hs layer header
-kept-none hs layer header w h = sym (set-over hs layer header (omega arith))
+pub kept-none : (kept : List ℕ) (layer header : ℕ) → 32 ≤ layer → kept ≡ keptIn kept layer header
+kept-none kept layer header h = rw (le-ltb layer 32 h)
 
 -- ---- the headers of layers kept one after the other, from number n on
 abbrev pub keep : (n : ℕ) → List ℕ → List Layer → List ℕ
-keep n hs [] = hs
-keep n hs (l ∷ ls) = keep (suc n) (set hs n (l .header)) ls
+keep n kept [] = kept
+keep n kept (l ∷ ls) = keep (suc n) (keptIn kept n (l .header)) ls
+
+keep-over : (n : ℕ) (kept : List ℕ) (ls : List Layer) → 32 ≤ n → keep n kept ls ≡ kept
+keep-over n kept [] h = refl
+keep-over n kept (l ∷ ls) h = ap (λ (x : List ℕ). keep (suc n) x ls) (sym (kept-none kept n (l .header) h)) ∙ keep-over (suc n) kept ls (omega arith)
 
 -- behind those that are kept
-keep-behind : (P : List ℕ) (room : ℕ) (ls : List Layer) → keep (length P) (P ++ replicate room 0) ls ≡ P ++ firstHeaders room ls
-keep-behind P zero [] = refl
-keep-behind P (suc room) [] = ap (λ (x : List ℕ). P ++ x) (zeros (suc room))
+keep-behind : (P : List ℕ) (room : ℕ) (ls : List Layer) → length P + room ≡ 32 → keep (length P) (P ++ replicate room 0) ls ≡ P ++ firstHeaders room ls
+keep-behind P room [] e = ap (λ (x : List ℕ). P ++ x) (zeros room)
   where
     zeros : (n : ℕ) → replicate n 0 ≡ firstHeaders n []
     zeros zero = refl
     zeros (suc n) = ap (λ (x : List ℕ). 0 ∷ x) (zeros n)
-keep-behind P zero (l ∷ ls) = ap (λ (x : List ℕ). keep (suc (length P)) x ls) (set-over (P ++ []) (length P) (l .header) (rw (append-nil P) (omega arith))) ∙ over (suc (length P)) (P ++ []) ls (rw (append-nil P) (omega arith))
-  where
-    over : (n : ℕ) (hs : List ℕ) (ls : List Layer) → length hs ≤ n → keep n hs ls ≡ hs
-    over n hs [] h = refl
-    over n hs (l ∷ ls) h = ap (λ (x : List ℕ). keep (suc n) x ls) (set-over hs n (l .header) h) ∙ over (suc n) hs ls (omega arith)
-keep-behind P (suc room) (l ∷ ls) =
-    ap (λ (x : List ℕ). keep (suc (length P)) x ls) (set-at P 0 (replicate room 0) (l .header) (length P) refl ∙ sym (append-assoc P (l .header ∷ []) (replicate room 0)))
+keep-behind P zero (l ∷ ls) e = keep-over (length P) (P ++ []) (l ∷ ls) (omega arith)
+keep-behind P (suc room) (l ∷ ls) e =
+    ap (λ (x : List ℕ). keep (suc (length P)) x ls) (sym (kept-there (P ++ (0 ∷ replicate room 0)) (length P) (l .header) (omega arith)) ∙ set-at P 0 (replicate room 0) (l .header) (length P) refl ∙ sym (append-assoc P (l .header ∷ []) (replicate room 0)))
     ∙ ap (λ (n : ℕ). keep n ((P ++ (l .header ∷ [])) ++ replicate room 0) ls) (let q : suc (length P) ≡ length (P ++ (l .header ∷ [])) = omega (arith, length-append P (l .header ∷ [])) in q)
-    ∙ keep-behind (P ++ (l .header ∷ [])) room ls
+    ∙ keep-behind (P ++ (l .header ∷ [])) room ls (omega (arith, length-append P (l .header ∷ [])))
     ∙ append-assoc P (l .header ∷ []) (firstHeaders room ls)
 
 -- the walk of all layers that began at record k has come to record `at`
@@ -84,7 +86,7 @@ layering file x k directory e s extent-of h of = rw of (record {
   seen-then = record { few = omega arith; nine = refl };
   count = omega arith;
   first-is = refl;
-  kept = keep-behind [] 32 (layersAt file x k);
+  kept = keep-behind [] 32 (layersAt file x k) (omega arith);
 })
 
 -- ---- at open level 0 nothing but the header of a layer passes
@@ -142,7 +144,7 @@ module _ (file : List ℕ) (x : Extent) (k : ℕ) (directory : List (List ℕ)) 
       pub layer-further : x .records - c .next < x .records - at
       layer-further = omega (arith, child .further z, child .within z)
 
-      pub layer-goes : (low′ own unlisted′ : ℕ) → own ≡ unless (listsHeader e directory layers (at + 1)) (suc layers) → unlisted′ ≡ first unlisted own → low′ ≡ first low (c .low) → (more : List ℕ) → more ≡ set first-layers layers (at + 1) → Layering file x k directory e (c .next) low′ (c .seen) (layers + 1) unlisted′ more
+      pub layer-goes : (low′ own unlisted′ : ℕ) → own ≡ unless (listsHeader e directory layers (at + 1)) (suc layers) → unlisted′ ≡ first unlisted own → low′ ≡ first low (c .low) → (more : List ℕ) → more ≡ keptIn first-layers layers (at + 1) → Layering file x k directory e (c .next) low′ (c .seen) (layers + 1) unlisted′ more
       layer-goes low′ own unlisted′ of un first-low more more-is =
           let f = child .further z in
           rw (first-low, un) (record {
@@ -154,7 +156,7 @@ module _ (file : List ℕ) (x : Extent) (k : ℕ) (directory : List (List ℕ)) 
             seen-then = child .seen-then z;
             count = omega (arith, g .count, ap length (child .layers z refl));
             first-is = sym (first-first unlisted own _) ∙ ap (first unlisted) (ap (λ (n : ℕ). first n (firstUnlisted e directory (layers + 1) (layersAt file x (c .next)))) (of ∙ ap (λ (n : ℕ). unless (listsHeader e directory layers n) (suc layers)) (add-one at)) ∙ ap (λ (n : ℕ). first (unless (listsHeader e directory layers (suc at)) (suc layers)) (firstUnlisted e directory n (layersAt file x (c .next)))) (add-one layers) ∙ sym (ap (firstUnlisted e directory layers) (child .layers z refl))) ∙ g .first-is;
-            kept = ap₂ (λ (n : ℕ) (hs : List ℕ). keep n hs (layersAt file x (c .next))) (add-one layers) (more-is ∙ ap (set first-layers layers) (add-one at)) ∙ sym (ap (keep layers first-layers) (child .layers z refl)) ∙ g .kept;
+            kept = ap₂ (λ (n : ℕ) (hs : List ℕ). keep n hs (layersAt file x (c .next))) (add-one layers) (more-is ∙ ap (keptIn first-layers layers) (add-one at)) ∙ sym (ap (keep layers first-layers) (child .layers z refl)) ∙ g .kept;
           })
 
   -- the end
@@ -185,6 +187,9 @@ pub no-listing : (file : List ℕ) (x : Extent) (k : ℕ) (directory : List (Lis
 no-listing file x k directory e w number ne q z = absurd (ne (sym q ∙ z))
 
 -- ---- `unlisted`
+pub short-lists-none : (e : Edition) (directory : List ℕ) (layer header : ℕ) → length directory < 84 → layer + 1 ≡ unless (listsHeader e (recordsOf Plain directory) layer header) (suc layer)
+short-lists-none e directory layer header h = add-one layer ∙ sym (ap (λ (t : Bool). unless t (suc layer)) (ap (λ (rs : List (List ℕ)). listsHeader e rs layer header) (plain-records directory ∙ ap (λ (n : ℕ). chunks n directory) (let q : length directory / 84 ≡ 0 = omega arith in q)) ∙ nothing-lists e layer header))
+
 pub listed-none : (t own : Bool) (n : ℕ) → t ≡ own → t ≡ true → 0 ≡ unless own n
 listed-none t own n e h = rw (← e, h)
 

@@ -186,6 +186,10 @@ pub record WholeBody (file : List ℕ) (x : Extent) (k : ℕ) (w : WalkedLayers)
   pub sees : w .number ≡ 0 → SeesTo file x k (seenNone k) (x .records) (w .seen)
   pub seen-then : w .number ≡ 0 → SeenUpTo (x .records) (w .seen)
 
+-- the header of layer n, counted from 0, kept where there is room for it
+abbrev pub keptIn : List ℕ → (n header : ℕ) → List ℕ
+keptIn kept n header = cond (ltb n 32) (set kept n header) kept
+
 -- and of the layers against the records of a directory
 pub record Listing (file : List ℕ) (x : Extent) (k : ℕ) (directory : List (List ℕ)) (e : Edition) (layers unlisted : ℕ) (first-layers : List ℕ) : Type 0 where
   pub count : layers ≡ length (layersAt file x k)

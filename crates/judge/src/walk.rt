@@ -4,19 +4,19 @@ use super::FirstLayers;
 use super::KEPT;
 use super::body_records;
 use super::body_records::Extent;
+use files::RECORD;
 use format_directory::Edition;
 use records::Entry;
 use records::Tally;
 ghost use mathlib.Core.Path.{_≡_};
 ghost use Prim.Native.Nat.{suc, _<_, _≤_};
-ghost use lib.ListN.{set};
 ghost use Rattle.format.specs.Basics.{first, unless};
 ghost use Rattle.files.specs.declared.Stride.the-variants.{Plain};
 ghost use Rattle.files.specs.Records.{recordsOf};
 ghost use Rattle.directory_columns.specs.Numbers.{listsHeader};
 ghost use Rattle.records.specs.Entry.{toData};
 ghost use Rattle.judge.specs.Walks.{ExtentOf, lastBefore, seenNone, withHeader, SeenUpTo, passedOf, passedGroupOf, passedBodyOf};
-ghost use Rattle.judge.specs.Walks.{Item, HeaderAt, Child, Body, WholeBody, Listing, passedLayersOf};
+ghost use Rattle.judge.specs.Walks.{Item, HeaderAt, Child, Body, WholeBody, Listing, keptIn, passedLayersOf};
 
 // What a walk has seen so far: how many items; and of what stands before the place the last header or item, and the last header of each level,
 // by their numbers in the file.
@@ -170,15 +170,13 @@ fn passed_layers(
     }
 }
 
-// The header of a layer, counted from 0, kept where there is room for it.
-fn kept(first_layers: FirstLayers, layer: usize, header: usize) -> FirstLayers
-    ensures { λ r. ⌜ r ≡ set «first_layers» layer header ⌝ }
+// Keeps the header of a layer, counted from 0, where there is room for it.
+fn keep(first_layers: &mut FirstLayers, layer: usize, header: usize)
+    ensures { λ _. ⌜ now («first_layers» .exit) ≡ keptIn (now («first_layers» .entry)) layer header ⌝ }
 {
-    let mut more = first_layers;
     if layer < KEPT {
-        more[layer] = header;
+        first_layers[layer] = header;
     }
-    more
 }
 
 // The first of two numbers that is not 0; 0 is none.
@@ -301,11 +299,14 @@ fn walk_body(file: &[u8], extent: Extent, k: usize, open_level: usize, given: Se
     passed_body(at, low, tally, seen)
 }
 
-// The number of a layer, counted from 0, where a directory does not list it with its header; else 0.
+// The number of a layer, counted from 1, where a directory does not list it with its header; else 0. What is shorter than a record lists nothing.
 fn unlisted(directory: &[u8], edition: Edition, layer: usize, header: usize) -> usize
     requires { ⌜ layer < header ⌝ }
     ensures { λ r. ⌜ r ≡ unless (listsHeader edition (recordsOf Plain (now (directory .entry))) layer header) (suc layer) ⌝ }
 {
+    if directory.len() < RECORD {
+        return layer + 1;
+    }
     if directory_columns::is_listed(directory, edition, layer, header) {
         0
     } else {
@@ -341,8 +342,7 @@ fn walk_layers(
             return failed_layers(layer.number, layer.at, seen);
         }
         wrong = first_of(wrong, unlisted(directory, edition, layers, at + 1));
-        let more = kept(first_layers, layers, at + 1);
-        first_layers = more;
+        keep(&mut first_layers, layers, at + 1);
         layers += 1;
         at = layer.next;
         low = first_of(low, layer.low);

@@ -53,14 +53,14 @@ unlisted-requires c κs = search layer-below
 first-of-requires : tie.Need-first-of-requires Inv-loop μ-loop
 first-of-requires c κs = search needs
 
-add-kept : tie.Need-add-kept Inv-loop μ-loop
-add-kept c = search needs
+add-keep : tie.Need-add-keep Inv-loop μ-loop
+add-keep c = search needs
 
-kept-requires : tie.Need-kept-requires Inv-loop μ-loop
-kept-requires c κs = search needs
+keep-requires : tie.Need-keep-requires Inv-loop μ-loop
+keep-requires c κs = search needs
 
 add-layers : tie.Need-add-layers Inv-loop μ-loop
-add-layers c = layers-fit _ _ _ _ _ _ _ _ _ _ _ (c .before .before .before .before .before .before .before .before .before .before .before .loop .inv) (search needs) (omega (arith, c .before .before .before .before .before .before .before .before .before .before .before .before .before .before .before .good))
+add-layers c = layers-fit _ _ _ _ _ _ _ _ _ _ _ (c .before .before .before .before .before .before .before .before .before .before .before .before .loop .inv) (search needs) (omega (arith, c .before .before .before .before .before .before .before .before .before .before .before .before .before .before .before .before .good))
 
 first-of-requires-2 : tie.Need-first-of-requires-2 Inv-loop μ-loop
 first-of-requires-2 c κs = search needs
@@ -70,9 +70,9 @@ loop-less c = search layer-further
 
 loop-again : tie.Need-loop-again Inv-loop μ-loop
 loop-again c =
-    let begun = c .before .before .before .before .before .before .before .before .before .before .before .before .before in
-    let walked = c .before .before .before .before .before .before .before in
-    layer-goes _ _ _ _ _ _ _ _ _ _ _ (begun .loop .inv) _ (walked .walk-group .ensures) (search needs) _ _ _ (c .before .before .before .before .unlisted .ensures) (c .before .before .before .first-of .ensures) (c .before .first-of2 .ensures) _ (c .before .before .kept .ensures)
+    let begun = c .before .before .before .before .before .before .before .before .before .before .before .before .before .before in
+    let walked = c .before .before .before .before .before .before .before .before in
+    layer-goes _ _ _ _ _ _ _ _ _ _ _ (begun .loop .inv) _ (walked .walk-group .ensures) (c .before .before .before .before .before .before .if3 .left) _ _ _ (c .before .before .before .before .before .unlisted .ensures) (c .before .before .before .before .first-of .ensures) (c .before .first-of2 .ensures) _ (c .before .before .keep .ensures)
 
 passed-layers-requires : tie.Need-passed-layers-requires Inv-loop μ-loop
 passed-layers-requires c κs = search needs
@@ -99,8 +99,8 @@ walk-layers-spec =
     add-unlisted
     unlisted-requires
     first-of-requires
-    add-kept
-    kept-requires
+    add-keep
+    keep-requires
     add-layers
     first-of-requires-2
     loop-less
