@@ -32,7 +32,7 @@ use Rattle.files.specs.Records.{strideOf}
 use Rattle.files.proofs.Records.{record-wide, record-inside}
 use Rattle.records.specs.declared.outlines.Outline.{Outline}
 use Rattle.records.specs.Outline.{outlineOf}
-use Rattle.records.proofs.Outlined.{outline-head, outline-level, outline-data-records, outline-data-records-most}
+use Rattle.records.proofs.Outlined.{outline-head, outline-layer, outline-data-records, outline-data-records-most}
 use Rattle.format_directory.specs.declared.Edition.{Edition}
 use Rattle.format_directory.specs.declared.Edition.the-variants.{One}
 use Rattle.judge.specs.Listed.{firstHeaders}
@@ -90,8 +90,9 @@ module _ (file : List ℕ) where
     head-is : isHead (v .kind) ≡ eqb (o .kind) 0
     head-is = outline-head (getD rs k []) wide ∙ ap (λ (x : Outline). eqb (x .kind) 0) (sym is)
 
-    level-is : v .level ≡ o .level
-    level-is = sym (ap (λ (x : Outline). x .level) is ∙ outline-level (getD rs k []) wide)
+    layer-is : isHeaderAt 1 v ≡ isLayer o
+    unfolding isLayer
+    layer-is = outline-layer (getD rs k []) wide ∙ ap (λ (x : Outline). eqb (x .kind) 0 && eqb (x .level) 1) (sym is)
 
     data-is : v .dataRecords ≡ o .«data_records»
     data-is = sym (ap (λ (x : Outline). x .«data_records») is ∙ outline-data-records (getD rs k []) wide)
@@ -101,18 +102,17 @@ module _ (file : List ℕ) where
 
     -- it is the header of a layer
     layer-found : isLayer o ≡ true → layersIn file k ≡ record { header = suc k; body = layerBody 0 (viewsIn file (k + 1)) } ∷ layersIn file (k + 1)
-    unfolding isLayer
-    layer-found q = let p = and-true (eqb (o .kind) 0) (eqb (o .level) 1) q in rw (views-more k here, add-one k) (rw (head-is, level-is, eqb-true (o .kind) 0 (p .0), eqb-true (o .level) 1 (p .1)))
+    layer-found q = let p = and-true (isHead (v .kind)) (eqb (v .level) 1) (layer-is ∙ q) in rw (views-more k here, add-one k) (rw (p .0, p .1))
 
     -- it is not: the layers behind it and its data
     due-is : dueAfter 0 v ≡ cond (eqb (o .kind) 0) 0 (o .«data_records»)
     due-is = ap₂ (λ (t : Bool) (n : ℕ). cond t 0 n) head-is data-is
 
     layer-none : isLayer o ≡ false → layersIn file k ≡ layersIn file (behindEntry o k)
-    unfolding behindEntry isLayer
+    unfolding behindEntry
     layer-none q =
         ap (layersFrom 0 (suc k)) (views-more k here)
-        ∙ ap (λ (t : Bool). cond t (record { header = suc k; body = layerBody 0 (viewsIn file (suc k)) } ∷ []) [] ++ layersFrom (dueAfter 0 v) (suc (suc k)) (viewsIn file (suc k))) (ap₂ (λ (a : Bool) (b : ℕ). a && eqb b 1) head-is level-is ∙ q)
+        ∙ ap (λ (t : Bool). cond t (record { header = suc k; body = layerBody 0 (viewsIn file (suc k)) } ∷ []) [] ++ layersFrom (dueAfter 0 v) (suc (suc k)) (viewsIn file (suc k))) (layer-is ∙ q)
         ∙ skip (dueAfter 0 v) (suc (suc k)) (viewsIn file (suc k))
         ∙ ap (layersFrom 0 (suc (suc k) + dueAfter 0 v)) (views-later (suc k) (dueAfter 0 v))
         ∙ ap (λ (n : ℕ). layersFrom 0 n (viewsIn file (suc k + dueAfter 0 v))) (let x : suc (suc k) + dueAfter 0 v ≡ suc (suc k + dueAfter 0 v) = omega arith in x)

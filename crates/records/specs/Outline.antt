@@ -4,12 +4,12 @@ use mathlib.Core.List.{List}
 use Prim.Native.Nat.{ℕ}
 use lib.Dec.{eqb}
 use lib.ListN.{length}
-use Rattle.format.specs.Record.{countIndex, View, view}
+use Rattle.format.specs.Record.{isHead, countIndex, View, view}
 use Rattle.records.specs.declared.outlines.Outline.{Outline}
 
--- its kind by which a header counts it, its level, and how many data records it states; no column is judged
+-- its kind by which a header counts it, of a header its level, and how many data records it states; no column is judged
 unfoldable pub outlineIn : View → Outline
-outlineIn v = record { kind = countIndex (v .kind); level = v .level; «data_records» = v .dataRecords }
+outlineIn v = record { kind = countIndex (v .kind); level = cond (isHead (v .kind)) (v .level) 0; «data_records» = v .dataRecords }
 
 -- neither header nor item: no count of a header has this kind
 abbrev pub noOutline : Outline

@@ -83,7 +83,7 @@ pub fn entry(record: &[u8]) -> Entry
     }
 }
 
-// The kind, level and data records of a header or an item, with no fault looked for: where its record is known to have none. A malformed or
+// The kind and data records of a header or an item, and a header's level, with no fault looked for: where its record is known to have none. A malformed or
 // negative column counts as 0.
 pub fn outline(record: &[u8]) -> Outline
     ensures { λ r. ⌜ r ≡ outlineOf (now («record» .entry)) ⌝ }

@@ -13,7 +13,8 @@ use layouts::GridHeader;
 use layouts::Header;
 use layouts::NetHeader;
 
-// Kind is 0 for a header, 1 to 8 for E1 to E8, 9 for grid and net, 10 for what is neither header nor item.
+// Kind is 0 for a header, 1 to 8 for E1 to E8, 9 for grid and net, 10 for what is neither header nor item. The level is a header's; of an item it is not
+// read, and 0.
 pub struct Outline {
     pub kind: usize,
     pub level: usize,
@@ -52,11 +53,10 @@ pub(crate) fn element_outline(record: &[u8], number: usize) -> Outline
     requires { ⌜ (length (now «record») ≡ 84) × (1 ≤ number) × (number ≤ 8) ⌝ }
     ensures { λ r. ⌜ r ≡ outlineIn (elementView (elementType number) (now («record» .entry))) ⌝ }
 {
-    let level = reading::plain_number(record, Element::LEVEL_START, Element::LEVEL_WIDTH);
     let records = reading::plain_number(record, Element::RECORDS_START, Element::RECORDS_WIDTH);
     Outline {
         kind: number,
-        level,
+        level: 0,
         data_records: records,
     }
 }
@@ -76,7 +76,6 @@ pub(crate) fn grid_outline(record: &[u8]) -> Outline
     requires { ⌜ length (now «record») ≡ 84 ⌝ }
     ensures { λ r. ⌜ r ≡ outlineIn (gridView (now («record» .entry))) ⌝ }
 {
-    let level = reading::plain_number(record, GridHeader::LEVEL_START, GridHeader::LEVEL_WIDTH);
     let records = reading::plain_number(
         record,
         GridHeader::RECORDS_START,
@@ -86,7 +85,7 @@ pub(crate) fn grid_outline(record: &[u8]) -> Outline
     let states = grid_records(repeat, records);
     Outline {
         kind: GRID_OR_NET,
-        level,
+        level: 0,
         data_records: states,
     }
 }
@@ -95,11 +94,10 @@ pub(crate) fn net_outline(record: &[u8]) -> Outline
     requires { ⌜ length (now «record») ≡ 84 ⌝ }
     ensures { λ r. ⌜ r ≡ outlineIn (netView (now («record» .entry))) ⌝ }
 {
-    let level = reading::plain_number(record, NetHeader::LEVEL_START, NetHeader::LEVEL_WIDTH);
     let records = reading::plain_number(record, NetHeader::RECORDS_START, NetHeader::RECORDS_WIDTH);
     Outline {
         kind: GRID_OR_NET,
-        level,
+        level: 0,
         data_records: records,
     }
 }

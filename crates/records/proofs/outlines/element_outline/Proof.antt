@@ -1,4 +1,4 @@
--- `records::outlines::element_outline` meets its contract: its level and its records. Assumes nothing.
+-- `records::outlines::element_outline` meets its contract: its records. Assumes nothing.
 use Rattle.records.proofs.Outlined.{element-outlined}
 use borrow.Author.Needs.{needs}
 use Rattle.records.proofs.outlines.element_outline.Statement.{statement}
@@ -7,11 +7,8 @@ use Rattle.records.proofs.outlines.element_outline.Tie as tie
 plain-number-requires : tie.Need-plain-number-requires
 plain-number-requires c κs = search needs
 
-plain-number-requires-2 : tie.Need-plain-number-requires-2
-plain-number-requires-2 c κs = search needs
-
 returns : tie.Need-returns
 returns c = search element-outlined
 
 pub element-outline-spec : {M : Type 1} → statement M
-element-outline-spec = tie.close (tie.spec plain-number-requires plain-number-requires-2 returns)
+element-outline-spec = tie.close (tie.spec plain-number-requires returns)

@@ -1,4 +1,4 @@
--- `records::outlines::grid_outline` meets its contract: its level, and its records by both columns. Assumes nothing.
+-- `records::outlines::grid_outline` meets its contract: its records, by both columns. Assumes nothing.
 use Rattle.records.proofs.Numbers.{one-digit, four-digits}
 use Rattle.records.proofs.Outlined.{grid-outlined}
 use borrow.Author.Needs.{needs}
@@ -11,9 +11,6 @@ plain-number-requires c κs = search needs
 plain-number-requires-2 : tie.Need-plain-number-requires-2
 plain-number-requires-2 c κs = search needs
 
-plain-number-requires-3 : tie.Need-plain-number-requires-3
-plain-number-requires-3 c κs = search needs
-
 grid-records-requires : tie.Need-grid-records-requires
 grid-records-requires c κs = search (one-digit, four-digits)
 
@@ -23,4 +20,4 @@ returns c = search grid-outlined
 pub grid-outline-spec : {M : Type 1} → statement M
 grid-outline-spec =
     tie.close
-    (tie.spec plain-number-requires plain-number-requires-2 plain-number-requires-3 grid-records-requires returns)
+    (tie.spec plain-number-requires plain-number-requires-2 grid-records-requires returns)
