@@ -202,7 +202,7 @@ jump used buffer n =
     afterJudging (judgeDirectory used buffer) (inCount (layerCount (lastRecord used buffer)) n (listedIn One (directoryIn used buffer) n 0))
 
 -- what "counting from the front gives": layer n of a sheet, and the record number of its header. That `jump` answers this is `jump-counts`
--- in proofs/Claims.antt
+-- of proofs/DirectoryJudged; `NthHeader` of DirectoryChecks says it without these layers
 abbrev pub noLayer : Layer
 noLayer = record { header = 0; body = [] }
 

@@ -1,5 +1,5 @@
--- Order 5 once more, column by column and in the order of checks: by none of the definitions that the calls use. That the calls answer so is
--- proofs/Claims.antt. Assumes nothing.
+-- Order 5 once more, column by column and in the order of checks: by definitions of document 01 and by none of those that Directory adds. That the calls
+-- answer so is proofs/Claims.antt. Assumes nothing.
 use mathlib.Core.Path.{_≡_}
 use mathlib.Core.Bool.{true}
 use mathlib.Core.Logic.{_⊎_, _≢_, _↔_}

@@ -1,4 +1,4 @@
--- Examples of order 5, computed: the sheet of Examples, and sheets of 0, 11, 12 and 22 empty layers, each with its directory.
+-- Examples of order 5, computed: the sheet of Examples, sheets of 0, 11, 12 and 22 empty layers, and one with a group, each with its directory.
 use mathlib.Core.Path.{_≡_, refl}
 use mathlib.Core.List.{List, [], _∷_, _++_}
 use Prim.Native.Nat.{ℕ}
@@ -14,6 +14,9 @@ use Rattle.format.specs.Sheet.{wholesOf, fractionsOf, partLength, sheetFault, s
 use Rattle.format.specs.Judge.{Counts, accepted, judge, judgeRecords, judgeSheet}
 use Rattle.format_directory.specs.declared.Edition.{Edition}
 use Rattle.format_directory.specs.declared.Edition.the-variants.{One}
+use Rattle.format_directory.specs.declared.Jumped.{Jumped}
+use Rattle.format_directory.specs.declared.Jumped.the-variants as Jumped
+use Rattle.format_directory.specs.Answers.{jumpedAnswer}
 use Rattle.format_directory.specs.Directory.{layersOf, row, closing, directoryOf, lastRecord, numberIn, isWritten, closingOk, judgeFrom, judgeEdition, judgeDirectory, appendDirectory, sheetIn, directoryIn, jump}
 use Rattle.format.specs.Examples.{example, wrong}
 
@@ -55,6 +58,24 @@ twelve = sheet "  -1234   5678   -934   5978        0     12  1   -934   5678  -
 abbrev pub twice-eleven : List ℕ
 twice-eleven = sheet "  -1234   5678   -934   5978        0     22  1   -934   5678  -1234   5978         " 22
 
+-- a sheet of two layers: a group in the first, in the group an attribute whose free data reads like the header of a layer; the second is empty
+abbrev pub grouped : List ℕ
+grouped =
+    sheet "  -1234   5678   -934   5978        1      5  1   -934   5678  -1234   5978         " 0 ++
+    rows (
+    "H 2100 0   0   0 1    1    1    0    0    0    0    0    0    0    002408         0 " ∷
+    "H 2100 0   0   0 2    1    0    0    0    0    0    0    0    0    102408         0 " ∷
+    "E82101 0   0   1 3 05 00 00   1   1      0      0        0                         1" ∷
+    emptyLayer ∷
+    emptyLayer ∷ []
+    )
+
+abbrev pub z-6-10 : String
+z-6-10 = "Z       6     10                                                                    "
+
+abbrev pub ze-11 : String
+ze-11 = "ZE     11      2                                                                    "
+
 -- their directories: "up to eleven" numbers in a record
 abbrev pub z-6-to-16 : String
 z-6-to-16 = "Z       6      7      8      9     10     11     12     13     14     15     16     "
@@ -83,6 +104,7 @@ lent n = replicate n 126
 
 -- ---- One table, one claim
 pub data Example : Type 0 where
+  answers : Jumped → Answer ℕ → Example
   judges : (used : ℕ) → (buffer : List ℕ) → Answer Counts → Example
   plainly : (used : ℕ) → (buffer : List ℕ) → Answer Counts → Example
   appends : (e : Edition) → (used : ℕ) → (buffer : List ℕ) → Answer ℕ → (after : List ℕ) → Example
@@ -96,6 +118,12 @@ table =
     appends One 1344 (eleven ++ lent 168) (given 1512) (eleven ++ rows (z-6-to-16 ∷ ze-17 ∷ [])) ∷
     appends One 1428 (twelve ++ lent 252) (given 1680) (twelve ++ rows (z-6-to-16 ∷ z-17 ∷ ze-18 ∷ [])) ∷
     appends One 2268 (twice-eleven ++ lent 252) (given 2520) (twice-eleven ++ rows (z-6-to-16 ∷ z-17-to-27 ∷ ze-28 ∷ [])) ∷
+    -- a group is no layer, nor is a data record that reads like a header
+    appends One 840 (grouped ++ lent 168) (given 1008) (grouped ++ rows (z-6-10 ∷ ze-11 ∷ [])) ∷
+    judges 1008 (grouped ++ rows (z-6-10 ∷ ze-11 ∷ [])) (accepted 10 1) ∷
+    judges 1008 (grouped ++ rows ("Z       6      7     10                                                             " ∷ "ZE     11      3                                                                    " ∷ [])) (refused 19 11) ∷
+    judges 1008 (grouped ++ rows ("Z       6      9     10                                                             " ∷ "ZE     11      3                                                                    " ∷ [])) (refused 19 11) ∷
+    jumps 1008 (grouped ++ rows (z-6-10 ∷ ze-11 ∷ [])) 2 (given 10) ∷
     -- a short buffer, and a sheet that is not accepted
     appends One 1428 (twelve ++ lent 251) (refused 15 0) (twelve ++ lent 251) ∷
     appends One 756 (wrong ++ lent 170) (refused 10 6) (wrong ++ lent 170) ∷
@@ -138,9 +166,13 @@ table =
     jumps 1680 (twelve ++ rows (z-6-to-16 ∷ z-17 ∷ ze-18 ∷ [])) 13 (refused 17 0) ∷
     jumps 924 (behind z-6 ze-10) 0 (refused 17 0) ∷
     jumps 504 (none ++ bytes ze-6) 1 (refused 17 0) ∷
-    jumps 840 (behind z-6 ze-10) 1 (refused 19 10) ∷ []
+    jumps 840 (behind z-6 ze-10) 1 (refused 19 10) ∷
+    -- what the code's answer says
+    answers (Jumped.Header 16) (given 16) ∷
+    answers (Jumped.Refused 19 10) (refused 19 10) ∷ []
 
 abbrev pub Says : Example → Type 0
+Says (answers jumped answer) = jumpedAnswer jumped ≡ answer
 Says (judges used buffer answer) = judgeDirectory used buffer ≡ answer
 Says (plainly used buffer answer) = judgeSheet used buffer ≡ answer
 Says (appends e used buffer answer after) = appendDirectory e used buffer ≡ record { answer = answer; bytes = after }
@@ -151,5 +183,5 @@ Every [] = Unit {0}
 Every (e ∷ es) = Says e × Every es
 
 pub examples : Every table
-unfolding bytes rows begins strip isDigit allDigits valueOf isNumber negative positive signed columnOf digitsIn digits textOf written fractionOk column find integerAt numberAt allFormed allInside columnFault sheetA sheetB sheetC sheetD sheetE sheetF header element gridHeader netHeader data3D data2D dataNote dataAttribute dataGrid dataNet typeOf countName dataColumns directionOk dataFault elementRecords elementRule gridStates gridNeeds netNeeds headerView elementView gridView netView otherView view wholesOf fractionsOf partLength sheetFault statedElements statedRecords judge judgeRecords judgeSheet layersOf row closing directoryOf lastRecord numberIn isWritten closingOk judgeFrom judgeEdition judgeDirectory appendDirectory sheetIn directoryIn jump
-examples = (refl, (refl, (refl, (refl, (refl, (refl, (refl, (refl, (refl, (refl, (refl, (refl, (refl, (refl, (refl, (refl, (refl, (refl, (refl, (refl, (refl, (refl, (refl, (refl, (refl, (refl, (refl, (refl, (refl, (refl, (refl, (refl, (refl, (refl, (refl, (refl, (refl, (refl, (refl, (refl, tt))))))))))))))))))))))))))))))))))))))))
+unfolding bytes rows begins strip isDigit allDigits valueOf isNumber negative positive signed columnOf digitsIn digits textOf written fractionOk column find integerAt numberAt allFormed allInside columnFault sheetA sheetB sheetC sheetD sheetE sheetF header element gridHeader netHeader data3D data2D dataNote dataAttribute dataGrid dataNet typeOf countName dataColumns directionOk dataFault elementRecords elementRule gridStates gridNeeds netNeeds headerView elementView gridView netView otherView view wholesOf fractionsOf partLength sheetFault statedElements statedRecords judge judgeRecords judgeSheet layersOf row closing directoryOf lastRecord numberIn isWritten closingOk judgeFrom judgeEdition judgeDirectory appendDirectory sheetIn directoryIn jump jumpedAnswer
+examples = (refl, (refl, (refl, (refl, (refl, (refl, (refl, (refl, (refl, (refl, (refl, (refl, (refl, (refl, (refl, (refl, (refl, (refl, (refl, (refl, (refl, (refl, (refl, (refl, (refl, (refl, (refl, (refl, (refl, (refl, (refl, (refl, (refl, (refl, (refl, (refl, (refl, (refl, (refl, (refl, (refl, (refl, (refl, (refl, (refl, (refl, (refl, tt)))))))))))))))))))))))))))))))))))))))))))))))

@@ -148,6 +148,11 @@ impl Arguments {
         if only_reads && self.writes() && !self.help {
             return Err(Failure::Usage("-o, --force and --no-lock go with --append or --remove".to_string()));
         }
+        if self.directory == Some(false) && matches!(self.action, Some(Action::Remove | Action::Check)) && !self.help {
+            return Err(Failure::Usage(
+                "--no-directory does not go with --remove or --check, which are about the directory".to_string(),
+            ));
+        }
         if self.force && self.output.is_none() && !self.help {
             return Err(Failure::Usage("--force goes with -o OTHER: it lets the result replace another file".to_string()));
         }

@@ -26,8 +26,10 @@ pub fn run(arguments: &Arguments, out: &mut impl Write) -> Done {
 
 /// Prints the judgement, and a line for each layer.
 fn show(arguments: &Arguments, out: &mut impl Write) -> Done {
-    let [path] = arguments.exactly("directory FILE [--append | --remove | --check] [--lines | --plain]")?;
+    let [path] =
+        arguments.exactly("directory FILE [--append | --remove | --check] [--lines | --plain] [--directory | --no-directory]")?;
     let bytes = files::read(path)?;
+    files::whole(path, &bytes)?;
     let asked = Asked::of(arguments, path, &bytes);
     let counts = asked.reading.judge(&bytes).map_err(|refusal| explain::directory(&asked, refusal))?;
     let plain = asked.plain()?;
@@ -94,8 +96,10 @@ pub fn naming(header: &[u8]) -> String {
 
 /// Appends a directory to a sheet that has none.
 fn append(arguments: &Arguments, out: &mut impl Write) -> Done {
-    let [path] = arguments.exactly("directory FILE --append [-o OTHER [--force]] [--no-lock] [--lines | --plain]")?;
+    let [path] =
+        arguments.exactly("directory FILE --append [-o OTHER [--force]] [--no-lock] [--lines | --plain] [--no-directory]")?;
     let job = Job::open(arguments, path, target(arguments, path)?)?;
+    files::whole(path, &job.bytes)?;
     let asked = Asked::of(arguments, path, &job.bytes);
     let sheet = asked.sheet()?;
     if let Some(layers) = asked.layers() {
@@ -114,6 +118,7 @@ fn append(arguments: &Arguments, out: &mut impl Write) -> Done {
 fn remove(arguments: &Arguments, out: &mut impl Write) -> Done {
     let [path] = arguments.exactly("directory FILE --remove [-o OTHER [--force]] [--no-lock] [--lines | --plain]")?;
     let job = Job::open(arguments, path, target(arguments, path)?)?;
+    files::whole(path, &job.bytes)?;
     let asked = Asked::of(arguments, path, &job.bytes);
     let plain = asked.plain()?;
     let sheet = sheet_before_directory(&plain).filter(|sheet| sheet.len() < plain.len());

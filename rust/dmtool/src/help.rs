@@ -212,7 +212,7 @@ Exit status: 0 done, also where the file has that form already; 1 refused (1: th
 
 const DIRECTORY: &str = concat!(
     "\
-Usage: dmtool directory FILE [--append | --remove] [-o OTHER [--force]] [--no-lock] [--lines | --plain]
+Usage: dmtool directory FILE [--append | --remove] [-o OTHER [--force]] [--no-lock] [--lines | --plain] [--directory | --no-directory]
        dmtool directory --check FILE... [--lines | --plain]
 
 A sheet may have a directory of its layers behind its last record: records that start \"Z \", each with the record numbers of up to eleven
@@ -225,6 +225,8 @@ Without --append, --remove or --check prints the judgement, and a line for each 
   --remove     takes the directory off, right or wrong, where the sheet before it is accepted and nothing but records that start \"Z \" or
                \"ZE\" stands behind that
   --check      judges each file with its directory and prints one line for it, as 'dmtool judge --directory' does
+  --directory  reads FILE with a directory, whatever it seems to be
+  --no-directory  reads FILE without: a sheet whose last record is text that looks like the end of a directory gets one so by --append
 ",
     replacing!(),
     "

@@ -12,7 +12,8 @@ use zvaigulta::{explain, Form, Mended, Reading, Reason, Refusal};
 /// Judges every file of the list, whatever became of those before it. The exit status is the worst of theirs.
 pub fn run(arguments: &Arguments, out: &mut impl Write) -> Done {
     if arguments.words.is_empty() {
-        return Err(Failure::Usage("judge needs a FILE, or - for standard input".to_string()));
+        let name = if arguments.action.is_some() { "directory --check" } else { "judge" };
+        return Err(Failure::Usage(format!("{name} needs a FILE, or - for standard input")));
     }
     let all = arguments.words.len();
     let mut progress = progress::for_files(all);
@@ -39,6 +40,9 @@ pub fn run(arguments: &Arguments, out: &mut impl Write) -> Done {
 fn one(arguments: &Arguments, path: &OsStr, buffer: &mut Vec<u8>, out: &mut impl Write) -> Done {
     files::read_into(path, buffer)?;
     let reading = arguments.reading_of(buffer);
+    if reading.directory {
+        files::whole(path, buffer)?;
+    }
     let (line, status) = match reading.judge(buffer) {
         Ok(counts) => (as_read(reading, reading.layers(buffer), counts), FINE),
         Err(refusal) => {

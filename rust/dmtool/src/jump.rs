@@ -14,6 +14,7 @@ pub fn run(arguments: &Arguments, out: &mut impl Write) -> Done {
     let [path, layer] = arguments.exactly("jump FILE LAYER [--lines | --plain]")?;
     let layer = number(layer, "LAYER", "the number of a layer")?;
     let bytes = files::read(path)?;
+    files::whole(path, &bytes)?;
     let reading = Reading { directory: true, ..arguments.reading_of(&bytes) };
     let asked = Asked { path, reading, bytes: &bytes };
     let plain = asked.plain()?;

@@ -42,7 +42,7 @@ fn run(name: &str, words: &[OsString], out: &mut impl Write) -> Done {
     let taken = Taken {
         output: ["insert", "remove", "normal", "convert", "directory"].contains(&name),
         form: name != "batch",
-        directory: ["judge", "explain", "show", "insert", "remove", "up", "normal"].contains(&name),
+        directory: ["judge", "explain", "show", "insert", "remove", "up", "normal", "directory"].contains(&name),
         convert: name == "convert",
         action: name == "directory",
     };

@@ -435,6 +435,19 @@ fn text_that_starts_like_an_end() {
     assert_eq!(f.run(&["judge", "town.dm"]).text(), "town.dm: accepted 11 records 2 items (directory of 1 layer)\n");
     assert_eq!(f.run(&["remove", "town.dm", "10"]).status, Some(0));
     assert!(f.get("town.dm") == filed(&good()));
+    // Of the very form of an end it is taken for one unless the tool is told otherwise.
+    item.truncate(RECORD);
+    item.extend(format!("{:84}", "ZE      7      2").into_bytes());
+    f.put("town.dm", &good()).put("zebra.dm", &item);
+    assert_eq!(f.run(&["insert", "town.dm", "end", "zebra.dm"]).status, Some(0));
+    let sheet = f.get("town.dm");
+    let ran = f.run(&["directory", "town.dm", "--append"]);
+    assert!(ran.status == Some(1) && ran.err.contains("--no-directory") && f.get("town.dm") == sheet, "{}", ran.err);
+    let shown = f.run(&["directory", "town.dm", "--no-directory"]);
+    assert!(shown.status == Some(0) && shown.text().starts_with("town.dm: accepted 11 records 2 items\n"), "{}", shown.text());
+    assert_eq!(f.run(&["directory", "town.dm", "--append", "--no-directory"]).status, Some(0));
+    assert!(f.get("town.dm") == filed(&sheet));
+    assert_eq!(f.run(&["judge", "town.dm"]).text(), "town.dm: accepted 11 records 2 items (directory of 1 layer)\n");
 }
 
 #[test]
@@ -521,7 +534,27 @@ fn longer_than_the_largest() {
     f.put("long.dm", &end.repeat(500_000));
     let ran = f.run(&["judge", "long.dm"]);
     assert_eq!(ran.text(), "long.dm: refused 1: the file has more than 200,000 records of 84 bytes\n");
-    assert_eq!(f.run(&["directory", "long.dm", "--remove"]).status, Some(1));
+    // A sheet, a directory and more behind it than is read: nothing is cut off, nothing is said of what was not read.
+    let more = [&good()[..], &format!("{:84}", "Z       6").into_bytes().repeat(300_000), &end].concat();
+    f.put("behind.dm", &more);
+    for words in [
+        &["directory", "behind.dm"][..],
+        &["directory", "behind.dm", "--append"],
+        &["directory", "behind.dm", "--remove"],
+        &["directory", "behind.dm", "--remove", "-o", "other.dm"],
+        &["directory", "behind.dm", "--check"],
+        &["judge", "behind.dm", "--directory"],
+        &["jump", "behind.dm", "1"],
+    ] {
+        let ran = f.run(words);
+        assert_eq!((ran.status, ran.text()), (Some(2), String::new()), "{words:?}");
+        assert!(
+            ran.err.contains("behind.dm: it is longer than the largest sheet with its directory, 218183 records"),
+            "{}",
+            ran.err
+        );
+    }
+    assert!(f.get("behind.dm") == more && !f.names().contains(&"other.dm".to_string()));
 }
 
 /// Killed at any moment while a directory is appended or taken off: the old file or the new one.
@@ -617,8 +650,8 @@ fn wrong_words() {
         &["directory", "town.dm", "--check", "--no-lock"],
         &["directory", "town.dm", "--append", "--force"],
         &["directory", "-", "--append"],
-        &["directory", "town.dm", "--directory"],
-        &["directory", "town.dm", "--no-directory", "--append"],
+        &["directory", "town.dm", "--no-directory", "--remove"],
+        &["directory", "town.dm", "--no-directory", "--check"],
         &["judge", "town.dm", "--directory", "--no-directory"],
         &["judge", "town.dm", "--append"],
         &["convert", "town.dm", "--to", "lines", "--directory"],
