@@ -340,7 +340,7 @@ pub fn write_at(record: &mut [u8], start: usize, width: usize, value: i64) -> bo
     }
     let c = choose(width, value);
     match c {
-        Choice::Refuse => false,
+        Choice::Refuse => false, // Nothing is written.
         Choice::Write(first) => {
             fill(&mut record[start..start + width], first);
             true
