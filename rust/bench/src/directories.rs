@@ -6,10 +6,11 @@ use reference::RECORD;
 use std::hint::black_box;
 use zvaigulta::{append_directory, judge_directory, judge_sheet, jump, MOST_RECORDS};
 
-const SHEETS: [(&str, Make); 6] = [
+const SHEETS: [(&str, Make); 7] = [
     ("grids", files::grids),
     ("mixed", files::mixed),
     ("elements", files::elements),
+    ("hundred", files::hundred),
     ("points", files::points),
     ("tens", files::tens),
     ("layers", files::empty_layers),

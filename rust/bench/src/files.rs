@@ -20,8 +20,11 @@ pub fn grids(records: usize, _seed: u64) -> Vec<u8> {
     sheets::sheet_of(&mut Random(3), body, count)
 }
 
-/// Layers of at most 20,000 items each, drawn until there are so many records.
-fn layers(records: usize, seed: u64, mut draw: impl FnMut(&mut Random) -> (usize, Vec<Vec<u8>>)) -> Vec<u8> {
+/// Items of a layer, at most: its header counts them in five digits.
+const LARGE: usize = 20_000;
+
+/// Layers of at most `most` items each, drawn until there are so many records.
+fn layers(records: usize, seed: u64, most: usize, mut draw: impl FnMut(&mut Random) -> (usize, Vec<Vec<u8>>)) -> Vec<u8> {
     let mut r = Random(seed);
     let mut body: Vec<Vec<u8>> = Vec::new();
     let mut items = 0;
@@ -29,7 +32,7 @@ fn layers(records: usize, seed: u64, mut draw: impl FnMut(&mut Random) -> (usize
         let header = body.len();
         body.push(Vec::new());
         let mut counts = [0; 10];
-        while body.len() < records && counts.iter().sum::<usize>() < 20_000 {
+        while body.len() < records && counts.iter().sum::<usize>() < most {
             let (kind, item) = draw(&mut r);
             counts[kind] += 1;
             body.extend(item);
@@ -41,12 +44,19 @@ fn layers(records: usize, seed: u64, mut draw: impl FnMut(&mut Random) -> (usize
     sheets::sheet_of(&mut Random(3), body, items)
 }
 
+fn small_element(r: &mut Random) -> (usize, Vec<Vec<u8>>) {
+    let kind = 1 + r.below(8);
+    (kind, sheets::item(r, kind, 2))
+}
+
 /// Small elements of all eight types.
 pub fn elements(records: usize, seed: u64) -> Vec<u8> {
-    layers(records, seed, |r| {
-        let kind = 1 + r.below(8);
-        (kind, sheets::item(r, kind, 2))
-    })
+    layers(records, seed, LARGE, small_element)
+}
+
+/// The same in about a hundred layers, as a sheet has them that keeps a layer for each class.
+pub fn hundred(records: usize, seed: u64) -> Vec<u8> {
+    layers(records, seed, records / 285 + 1, small_element)
 }
 
 /// Points of one record each: every record but the layers' headers is an item, and a walk that passes over items' data passes over none.
@@ -75,12 +85,11 @@ pub fn index(c_records: usize, seed: u64) -> Vec<u8> {
 
 /// A sheet as offices have them: lines of up to 400 points, and small elements between them.
 pub fn mixed(records: usize, seed: u64) -> Vec<u8> {
-    layers(records, seed, |r| {
+    layers(records, seed, LARGE, |r| {
         if r.once_in(2) {
             let points = 1 + r.below(400);
             return (2, sheets::line(r, points));
         }
-        let kind = 1 + r.below(8);
-        (kind, sheets::item(r, kind, 2))
+        small_element(r)
     })
 }
