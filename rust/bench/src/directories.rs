@@ -70,19 +70,22 @@ impl Measured {
         Measured { name, listed, copy, plain, directory, copied, appended, jumped }
     }
 
-    /// Each call in turn. An append writes the same directory where it stands.
-    fn round(&mut self) {
-        let Measured { listed, copy, .. } = self;
-        let (sheet, used, turns) = (listed.sheet, listed.used(), turns(listed.sheet));
-        let Listed { file, layers, .. } = listed;
-        self.plain = self.plain.min(least(turns, || judge_sheet(black_box(file), sheet).expect("accepted")));
-        self.directory = self.directory.min(least(turns, || judge_directory(black_box(file), used).expect("accepted")));
-        self.jumped = self.jumped.min(least(turns, || jump(black_box(file), used, *layers).expect("a layer")));
-        self.appended = self.appended.min(least(turns, || append_directory(black_box(&mut *file), sheet).expect("room")));
-        self.copied = self.copied.min(least(turns, || {
+    /// Every call once, so that each finds the caches and the branch predictor as the others do. An append writes the same directory where it stands.
+    fn turn(&mut self) {
+        let Measured { listed: Listed { file, sheet, layers }, copy, .. } = self;
+        let (sheet, used) = (*sheet, file.len());
+        self.plain = self.plain.min(least(1, || judge_sheet(black_box(file), sheet).expect("accepted")));
+        self.directory = self.directory.min(least(1, || judge_directory(black_box(file), used).expect("accepted")));
+        self.jumped = self.jumped.min(least(1, || jump(black_box(file), used, *layers).expect("a layer")));
+        self.appended = self.appended.min(least(1, || append_directory(black_box(&mut *file), sheet).expect("room")));
+        self.copied = self.copied.min(least(1, || {
             copy.copy_from_slice(black_box(&file[sheet..]));
             black_box(&mut *copy);
         }));
+    }
+
+    fn round(&mut self) {
+        (0..turns(self.listed.sheet)).for_each(|_| self.turn());
     }
 
     fn print(&self) {
