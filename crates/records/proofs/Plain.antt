@@ -109,3 +109,45 @@ module _ (l : List ℕ) (start width n : ℕ) (blank plain : Bool) (i : ℕ) (k 
       go true false s e = absurd (false≢true e)
       go false false s e = absurd (false≢true e)
       go false true s e = read (sym (ap (saysAfter false n) all) ∙ s refl)
+
+-- ---- `short_number`: spaces before the last byte, and a digit there
+pub record Blank (l : List ℕ) (start width before : ℕ) (blank : Bool) (i : ℕ) : Type 0 where
+  pub one-less : before + 1 ≡ width
+  pub up-to : i ≤ before
+  pub kept : blank ≡ true → Kept l start width 0 true true i
+
+pub blank-first : (l : List ℕ) (start width before : ℕ) → 1 ≤ width → before ≡ width - 1 → Blank l start width before true 0
+blank-first l start width before h e = record { one-less = omega arith; up-to = omega arith; kept = λ t. kept-first l start width }
+
+module _ (l : List ℕ) (start width before : ℕ) (blank : Bool) (i : ℕ) (k : Blank l start width before blank i) (whole : length l ≡ 84) (room : start + width ≤ 84) (narrow : width ≤ 7) where
+  pub blank-more : i < before → Blank l start width before (blank && eqb (getD l (start + i) 0) 32) (i + 1)
+  blank-more h = record { one-less = k .one-less; up-to = omega arith; kept = more }
+    where
+      more : blank && eqb (getD l (start + i) 0) 32 ≡ true → Kept l start width 0 true true (i + 1)
+      more e =
+          let t = and-true blank (eqb (getD l (start + i) 0) 32) e in
+          rw (eqb-true (getD l (start + i) 0) 32 (t .1)) at (kept-more l start width 0 true true i (k .kept (t .0)) whole room narrow (omega (arith, k .one-less)))
+
+  module _ (h : before ≤ i) where
+    at-last : i ≡ before
+    at-last = omega (arith, k .up-to)
+
+    digit-says : (x : ℕ) → x ≡ getD l (start + before) 0 → blank ≡ true → leb 48 x && leb x 57 ≡ true → x % 16 ≡ numberIn l start width
+    digit-says x e t d = (let z : x % 16 ≡ 0 * 10 + x % 16 = omega arith in z) ∙ plainly l start width (0 * 10 + x % 16) false true (before + 1) all whole room narrow (omega (arith, k .one-less)) refl
+      where
+        no-space : (q : Bool) → eqb x 32 ≡ q → eqb x 32 ≡ false
+        no-space true q = absurd (false≢true (rw (eqb-true x 32 q) at d))
+        no-space false q = q
+
+        all : Kept l start width (0 * 10 + x % 16) false true (before + 1)
+        all = simp (d, no-space (eqb x 32) refl) at (rw (← e) at (rw at-last at (kept-more l start width 0 true true i (k .kept t) whole room narrow (omega (arith, k .one-less)))))
+
+    pub last-zero : blank && eqb (getD l (start + before) 0) 48 ≡ true → 0 ≡ numberIn l start width
+    last-zero e =
+        let t = and-true blank (eqb (getD l (start + before) 0) 48) e in
+        digit-says 48 (sym (eqb-true (getD l (start + before) 0) 48 (t .1))) (t .0) refl
+
+    pub last-digit : blank && (leb 48 (getD l (start + before) 0) && leb (getD l (start + before) 0) 57) ≡ true → getD l (start + before) 0 % 16 ≡ numberIn l start width
+    last-digit e =
+        let t = and-true blank (leb 48 (getD l (start + before) 0) && leb (getD l (start + before) 0) 57) e in
+        digit-says (getD l (start + before) 0) refl (t .0) (t .1)

@@ -53,7 +53,7 @@ pub(crate) fn element_outline(record: &[u8], number: usize) -> Outline
     requires { ⌜ (length (now «record») ≡ 84) × (1 ≤ number) × (number ≤ 8) ⌝ }
     ensures { λ r. ⌜ r ≡ outlineIn (elementView (elementType number) (now («record» .entry))) ⌝ }
 {
-    let records = reading::plain_number(record, Element::RECORDS_START, Element::RECORDS_WIDTH);
+    let records = reading::short_number(record, Element::RECORDS_START, Element::RECORDS_WIDTH);
     Outline {
         kind: number,
         level: 0,
