@@ -147,7 +147,7 @@ fn append_edition(buffer: &mut [u8], used: usize, edition: Edition) -> Edited
         return Edited::Refused(15, 0);
     }
     let first = listed.first_layers;
-    writing::write_directory(buffer, used, edition, listed.part, listed.layers, first);
+    writing::write_directory(buffer, used, edition, listed.part, listed.layers, &first);
     Edited::Used(new)
 }
 

@@ -102,8 +102,8 @@ fn next_layer(file: &[u8], k: usize) -> usize
 }
 
 // The same, where so many layers stand before record k, and judging kept the headers of the first ones: they are not looked for again.
-fn layer_from(file: &[u8], first: FirstLayers, before: usize, k: usize) -> usize
-    requires { ⌜ Kept (now file) first before k ⌝ }
+fn layer_from(file: &[u8], first: &FirstLayers, before: usize, k: usize) -> usize
+    requires { ⌜ Kept (now file) (now first) before k ⌝ }
     ensures { λ r. ⌜ NextLayer (now (file .entry)) k r ⌝ }
 {
     if judge::KEPT <= before {
@@ -117,8 +117,8 @@ fn layer_from(file: &[u8], first: FirstLayers, before: usize, k: usize) -> usize
 }
 
 // The right record of the layers from record k of the sheet on, before which so many stand: as many as it takes.
-fn row_from(file: &[u8], edition: Edition, k: usize, first: FirstLayers, before: usize) -> Row
-    requires { ⌜ (length (recordsOf Plain (now file)) ≤ 200000) × (before ≤ 200000 * 11) × (Kept (now file) first before k) ⌝ }
+fn row_from(file: &[u8], edition: Edition, k: usize, first: &FirstLayers, before: usize) -> Row
+    requires { ⌜ (length (recordsOf Plain (now file)) ≤ 200000) × (before ≤ 200000 * 11) × (Kept (now file) (now first) before k) ⌝ }
     ensures { λ r. ⌜ RowFrom (now (file .entry)) edition k r ⌝ }
 {
     let each = directory_columns::per_record(edition);
@@ -149,9 +149,9 @@ fn write_rows(
     edition: Edition,
     k: usize,
     rows: usize,
-    first: FirstLayers,
+    first: &FirstLayers,
 )
-    requires { ⌜ (used ≤ 84 * 200000) × (rows ≤ 200000) × (used + 84 * rows ≤ length (now buffer)) × (first ≡ firstHeaders 32 (layersIn (take used (now buffer)) k)) ⌝ }
+    requires { ⌜ (used ≤ 84 * 200000) × (rows ≤ 200000) × (used + 84 * rows ≤ length (now buffer)) × (now first ≡ firstHeaders 32 (layersIn (take used (now buffer)) k)) ⌝ }
     ensures { λ _. ⌜ now (buffer .exit) ≡ rowsPut edition used k rows (now (buffer .entry)) ⌝ }
 {
     let each = directory_columns::per_record(edition);
@@ -186,9 +186,9 @@ pub(crate) fn write_directory(
     edition: Edition,
     part: usize,
     layers: usize,
-    first: FirstLayers,
+    first: &FirstLayers,
 )
-    requires { ⌜ (used ≤ 84 * 200000) × (layers ≤ 200000) × (layers ≡ length (layersIn (take used (now buffer)) part)) × (first ≡ firstHeaders 32 (layersIn (take used (now buffer)) part)) × (used + 84 * (roundUp layers (perRecord edition) + 1) ≤ length (now buffer)) ⌝ }
+    requires { ⌜ (used ≤ 84 * 200000) × (layers ≤ 200000) × (layers ≡ length (layersIn (take used (now buffer)) part)) × (now first ≡ firstHeaders 32 (layersIn (take used (now buffer)) part)) × (used + 84 * (roundUp layers (perRecord edition) + 1) ≤ length (now buffer)) ⌝ }
     ensures { λ _. ⌜ now (buffer .exit) ≡ directoryPut edition used part (now (buffer .entry)) ⌝ }
 {
     let rows = directory_columns::rows(edition, layers);

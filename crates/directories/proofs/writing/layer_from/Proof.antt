@@ -13,8 +13,8 @@ returns c = search needs
 mul-header : tie.Need-mul-header
 mul-header c = search needs
 
-array-read-header : tie.Need-array-read-header
-array-read-header c = search needs
+element-copy-out-header : tie.Need-element-copy-out-header
+element-copy-out-header c = search needs
 
 count-requires : tie.Need-count-requires
 count-requires c κs = search needs
@@ -35,7 +35,7 @@ layer-from-spec =
     next-layer-requires
     returns
     mul-header
-    array-read-header
+    element-copy-out-header
     count-requires
     returns-2
     sub-result
