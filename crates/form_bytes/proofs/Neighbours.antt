@@ -14,7 +14,7 @@ use lib.ListN.{length}
 use Rattle.format.specs.declared.Column.the-variants.{Value}
 use Rattle.format.specs.Column.{strip, isDigit, allDigits, valueOf, isNumber, negative, positive, signed, columnOf, formed, integer}
 use Rattle.format.specs.Layout.{spaces}
-use Rattle.format.proofs.Basics.{and-true, true-and}
+use Rattle.format.proofs.Basics.{and-true, true-and, or-cases}
 use Rattle.format.proofs.Columns.{Byte, v-space, v-minus, v-digit, v-other, byte}
 use Rattle.form_bytes.specs.Doubt.{leastAt, mostAt, isFirst, isSpaced, isSigned, surelyRight}
 
@@ -87,10 +87,6 @@ pub data Seen (k p b : ℕ) : Type 0 where
   t-digit : leb (leastAt k) b ≡ true → leb b (mostAt k) ≡ true → eqb p 45 && eqb b 48 ≡ false → Seen k p b
   t-space : b ≡ 32 → isSpaced k ≡ true → eqb p 32 || isFirst k ≡ true → Seen k p b
   t-minus : b ≡ 45 → isSigned k ≡ true → eqb p 32 || isFirst k ≡ true → Seen k p b
-
-or-cases : (a b : Bool) → a || b ≡ true → (a ≡ true) ⊎ (b ≡ true)
-or-cases true b h = inl refl
-or-cases false b h = inr h
 
 pub told : (k p b : ℕ) → eqb k 46 ≡ false → surelyRight k p b ≡ true → Seen k p b
 unfolding surelyRight

@@ -1,6 +1,7 @@
 -- Small laws of tests, of signed numbers and of fault numbers. Assumes nothing.
 use mathlib.Core.Path.{_≡_, refl, sym, _∙_}
 use mathlib.Core.Bool.{Bool, true, false, _&&_, _||_, false≢true}
+use mathlib.Core.Logic.{_⊎_, inl, inr}
 use Prim.Native.Nat.{ℕ, zero, suc, _≤_}
 use native.Mathlib.Omega.{arith}
 use lib.Dec.{leb}
@@ -14,6 +15,11 @@ and-true false b e = absurd (false≢true e)
 
 pub true-and : (a b : Bool) → a ≡ true → b ≡ true → a && b ≡ true
 true-and a b p q = rw (p, q)
+
+-- one of the two
+pub or-cases : (a b : Bool) → a || b ≡ true → (a ≡ true) ⊎ (b ≡ true)
+or-cases true b e = inl refl
+or-cases false b e = inr e
 
 pub or-false : (a b : Bool) → a || b ≡ false → (a ≡ false) × (b ≡ false)
 or-false true b e = absurd (false≢true (sym e))

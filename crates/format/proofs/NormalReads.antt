@@ -1,6 +1,6 @@
 -- A record in normal form reads as the record does, and is its own normal form. Assumes nothing.
 use mathlib.Core.Path.{_≡_, refl, ap, sym, _∙_}
-use mathlib.Core.Bool.{Bool, true, false, cond, _||_}
+use mathlib.Core.Bool.{Bool, true, false, cond, or-true}
 use mathlib.Core.Logic.{inl, inr}
 use mathlib.Core.List.{List, [], _∷_}
 use Prim.Native.Nat.{ℕ, zero, suc, _+_, _^_, _≤_, _<_}
@@ -69,10 +69,6 @@ pub record Still (what : What) (w : ℕ) (before after : List ℕ) : Type 0 wher
   pub reads : columnOf after ≡ columnOf before
   pub formed : isFormed what before ≡ true → isFormed what after ≡ true
   pub fixed : normalBytes what w after ≡ after
-
-or-true : (t : Bool) → t || true ≡ true
-or-true true = refl
-or-true false = refl
 
 either-way : (t : Bool) (a b : List ℕ) → b ≡ a → cond t a b ≡ a
 either-way true a b e = refl

@@ -11,7 +11,7 @@ use lib.Seq.{length-take-le}
 use borrow.Author.Tests.{eqb-true, eq-eqb, leb-true, le-leb}
 use Rattle.format.specs.Basics.{Answer, given, refused, member, chunks}
 use Rattle.format.specs.Judge.{Counts, fileOf, judgeSheet}
-use Rattle.format.proofs.Basics.{and-true, true-and}
+use Rattle.format.proofs.Basics.{and-true, true-and, or-cases}
 use Rattle.format.proofs.AcceptedSheet.{counted-are}
 use Rattle.format_directory.specs.declared.Edition.the-variants.{One}
 use Rattle.format_directory.specs.declared.Jumped.{Jumped}
@@ -19,7 +19,7 @@ use Rattle.format_directory.specs.declared.Jumped.the-variants as Jumped
 use Rattle.format_directory.specs.Answers.{jumpedAnswer}
 use Rattle.format_directory.specs.Directory.{Layer, layersOf, lastRecord, pointerIn, layerCount, inCount, afterJudging, listedIn, sheetIn, directoryIn, judgeDirectory, jump, noLayer, layerOf, countedHeader}
 use Rattle.format_directory.specs.DirectoryChecks.{LayerHeader, Rising, NthHeader}
-use Rattle.format_directory.proofs.DirectoryLayers.{headers, or-true, later, headers-rise, only-headers, every-header}
+use Rattle.format_directory.proofs.DirectoryLayers.{headers, later, headers-rise, only-headers, every-header}
 use Rattle.format_directory.proofs.DirectoryJudged.{RightDirectory, accepted-exactly}
 use Rattle.format_directory.proofs.DirectoryJudged as DirectoryJudged
 use Rattle.format_directory.proofs.DirectoryRefused as DirectoryRefused
@@ -38,7 +38,7 @@ record Placed (L : List ℕ) (m : ℕ) : Type 0 where
 
 member-placed : (L : List ℕ) (m : ℕ) → member m L ≡ true → Placed L m
 member-placed [] m e = absurd (false≢true e)
-member-placed (x ∷ L) m e = go (or-true (eqb m x) (member m L) e) (member-placed L m)
+member-placed (x ∷ L) m e = go (or-cases (eqb m x) (member m L) e) (member-placed L m)
   where
     go : (eqb m x ≡ true) ⊎ (member m L ≡ true) → (member m L ≡ true → Placed L m) → Placed (x ∷ L) m
     go (inl q) ih = record { i = 0; inside = omega arith; is = sym (eqb-true m x q) }
@@ -52,7 +52,7 @@ rising-take a (x ∷ L) (suc i) h = (h .0, rising-take (suc x) L i (h .1))
 take-members : (a : ℕ) (L : List ℕ) (i m : ℕ) → Rising a L → i < length L → member m (take i L) ≡ true → (member m L ≡ true) × (m < getD L i 0)
 take-members a [] i m h l e = absurd (omega arith)
 take-members a (x ∷ L) zero m h l e = absurd (false≢true e)
-take-members a (x ∷ L) (suc i) m h l e = go (or-true (eqb m x) (member m (take i L)) e) (take-members (suc x) L i m (h .1) (omega arith))
+take-members a (x ∷ L) (suc i) m h l e = go (or-cases (eqb m x) (member m (take i L)) e) (take-members (suc x) L i m (h .1) (omega arith))
   where
     go : (eqb m x ≡ true) ⊎ (member m (take i L) ≡ true) → (member m (take i L) ≡ true → (member m L ≡ true) × (m < getD L i 0)) → (member m (x ∷ L) ≡ true) × (m < getD L i 0)
     go (inl q) ih = (ap (λ (t : Bool). t || member m L) q, omega (arith, eqb-true m x q, rising-above (suc x) L (h .1) (getD L i 0) (member-get L i (omega arith))))
@@ -61,7 +61,7 @@ take-members a (x ∷ L) (suc i) m h l e = go (or-true (eqb m x) (member m (take
 members-take : (a : ℕ) (L : List ℕ) (i m : ℕ) → Rising a L → i < length L → member m L ≡ true → m < getD L i 0 → member m (take i L) ≡ true
 members-take a [] i m h l e k = absurd (omega arith)
 members-take a (x ∷ L) zero m h l e k = absurd (omega (arith, rising-above x (x ∷ L) (omega arith, h .1) m e))
-members-take a (x ∷ L) (suc i) m h l e k = go (or-true (eqb m x) (member m L) e) (members-take (suc x) L i m (h .1) (omega arith))
+members-take a (x ∷ L) (suc i) m h l e k = go (or-cases (eqb m x) (member m L) e) (members-take (suc x) L i m (h .1) (omega arith))
   where
     go : (eqb m x ≡ true) ⊎ (member m L ≡ true) → (member m L ≡ true → m < getD L i 0 → member m (take i L) ≡ true) → member m (x ∷ take i L) ≡ true
     go (inl q) ih = ap (λ (t : Bool). t || member m (take i L)) q

@@ -15,6 +15,7 @@ use Rattle.format.specs.Judge.{dueAfter, isHeaderAt, fileOf, Counts, afterPart,
 use Rattle.format.specs.Edit.{dueBehind}
 use Rattle.format_directory.specs.Directory.{Layer, layerBody, layersFrom, layersOf}
 use Rattle.format_directory.specs.DirectoryChecks.{Rising, LayerHeader}
+use Rattle.format.proofs.Basics.{or-cases}
 use Rattle.format.proofs.SheetCounts.{theLaws}
 use Rattle.format_directory.proofs.DirectoryRecords.{AllFit}
 
@@ -100,10 +101,6 @@ record Found (n i : ℕ) (rs : List View) (m : ℕ) : Type 0 where
   level : isHeaderAt 1 header ≡ true
   numbered : m ≡ i + length before
 
-pub or-true : (a b : Bool) → a || b ≡ true → (a ≡ true) ⊎ (b ≡ true)
-or-true true b e = inl refl
-or-true false b e = inr e
-
 pub true-or : (a b : Bool) → b ≡ true → a || b ≡ true
 true-or true b e = refl
 true-or false b e = e
@@ -123,7 +120,7 @@ found zero i (r ∷ rs) m e = go (isHeaderAt 1 r) refl e (found (dueAfter 0 r) (
 
     go : (t : Bool) → isHeaderAt 1 r ≡ t → member m (headers (cond t (record { header = i; body = layerBody 0 rs } ∷ []) [] ++ layersFrom (dueAfter 0 r) (suc i) rs)) ≡ true → (member m (headers (layersFrom (dueAfter 0 r) (suc i) rs)) ≡ true → Found (dueAfter 0 r) (suc i) rs m) → Found zero i (r ∷ rs) m
     go false p e ih = further zero i r rs m (ih e)
-    go true p e ih = which (or-true (eqb m i) (member m (headers (layersFrom (dueAfter 0 r) (suc i) rs))) e)
+    go true p e ih = which (or-cases (eqb m i) (member m (headers (layersFrom (dueAfter 0 r) (suc i) rs))) e)
       where
         which : (eqb m i ≡ true) ⊎ (member m (headers (layersFrom (dueAfter 0 r) (suc i) rs)) ≡ true) → Found zero i (r ∷ rs) m
         which (inl q) = record { before = []; header = r; behind = rs; there = refl; noneDue = refl; level = p; numbered = eqb-true m i q ∙ none₁ }

@@ -12,14 +12,14 @@ use borrow.Author.Tests.{eqb-true, eq-eqb, ltb-true, ltb-false, leb-true, lt-ltb
 use Rattle.format.specs.Text.{bytes}
 use Rattle.format.specs.Basics.{given, member, chunks, flat, roundUp}
 use Rattle.format.specs.Judge.{Counts, fileOf, judgeSheet}
-use Rattle.format.proofs.Basics.{and-true, true-and}
+use Rattle.format.proofs.Basics.{and-true, true-and, or-cases}
 use Rattle.format.proofs.AcceptedSheet.{counted-are}
 use Rattle.format.proofs.Lists.{length-chunks}
 use Rattle.format_directory.specs.declared.Edition.the-variants.{One}
 use Rattle.format_directory.specs.Directory.{Layer, layersOf, listedAll, recordOf, row, closing, shared, directoryOf, usedOk, lastRecord, pointerIn, sheetIn, directoryIn, judgeDirectory}
 use Rattle.format_directory.specs.DirectoryChecks.{LayerHeader, Rising, Holds, Full, ListsLayers}
 use Rattle.format_directory.proofs.DirectoryRecords.{length-shared, getD-shared, pointer-closing, directory-is, length-directory, row-at}
-use Rattle.format_directory.proofs.DirectoryLayers.{headers, or-true, true-or, later, headers-rise, only-headers, every-header}
+use Rattle.format_directory.proofs.DirectoryLayers.{headers, true-or, later, headers-rise, only-headers, every-header}
 use Rattle.format_directory.proofs.DirectoryColumns.{holds-record, record-holds}
 use Rattle.format_directory.proofs.DirectoryJudged.{RightDirectory, Accepted, accepted-of, few-layers, accepted-exactly, last-behind}
 
@@ -32,7 +32,7 @@ member-rest n m ns e = true-or (eqb n m) (member n ns) e
 
 pub rising-above : (least : ℕ) (ns : List ℕ) → Rising least ns → (n : ℕ) → member n ns ≡ true → least ≤ n
 rising-above least [] h n e = absurd (false≢true e)
-rising-above least (m ∷ ns) h n e = go (or-true (eqb n m) (member n ns) e) (rising-above (suc m) ns (h .1) n)
+rising-above least (m ∷ ns) h n e = go (or-cases (eqb n m) (member n ns) e) (rising-above (suc m) ns (h .1) n)
   where
     go : (eqb n m ≡ true) ⊎ (member n ns ≡ true) → (member n ns ≡ true → suc m ≤ n) → least ≤ n
     go (inl q) ih = omega (arith, eqb-true n m q, h .0)
@@ -45,7 +45,7 @@ rising-same a b (x ∷ xs) [] h k f g = absurd (false≢true (f x (member-first 
 rising-same a b (x ∷ xs) (y ∷ ys) h k f g = ap₂ (λ (n : ℕ) (ns : List ℕ). n ∷ ns) heads (rising-same (suc x) (suc y) xs ys (h .1) (k .1) forth back)
   where
     below : (p q : ℕ) (qs : List ℕ) → Rising (suc q) qs → member p (q ∷ qs) ≡ true → q ≤ p
-    below p q qs r e = go (or-true (eqb p q) (member p qs) e)
+    below p q qs r e = go (or-cases (eqb p q) (member p qs) e)
       where
         go : (eqb p q ≡ true) ⊎ (member p qs ≡ true) → q ≤ p
         go (inl s) = omega (arith, eqb-true p q s)
@@ -54,19 +54,19 @@ rising-same a b (x ∷ xs) (y ∷ ys) h k f g = ap₂ (λ (n : ℕ) (ns : List �
     heads : x ≡ y
     heads = omega (arith, below x y ys (k .1) (f x (member-first x xs)), below y x xs (h .1) (g y (member-first y ys)))
 
-    forth : (n : ℕ) → member n xs ≡ true → member n ys ≡ true
-    forth n e = go (or-true (eqb n y) (member n ys) (f n (member-rest n x xs e)))
+    -- a member behind the first of one list is behind the first of the other, which is less
+    behind : (p q : ℕ) (ps qs : List ℕ) → p ≡ q → Rising (suc p) ps → (n : ℕ) → member n ps ≡ true → member n (q ∷ qs) ≡ true → member n qs ≡ true
+    behind p q ps qs same r n e there = go (or-cases (eqb n q) (member n qs) there)
       where
-        go : (eqb n y ≡ true) ⊎ (member n ys ≡ true) → member n ys ≡ true
-        go (inl s) = absurd (omega (arith, eqb-true n y s, heads, rising-above (suc x) xs (h .1) n e))
+        go : (eqb n q ≡ true) ⊎ (member n qs ≡ true) → member n qs ≡ true
+        go (inl s) = absurd (omega (arith, eqb-true n q s, same, rising-above (suc p) ps r n e))
         go (inr s) = s
 
+    forth : (n : ℕ) → member n xs ≡ true → member n ys ≡ true
+    forth n e = behind x y xs ys heads (h .1) n e (f n (member-rest n x xs e))
+
     back : (n : ℕ) → member n ys ≡ true → member n xs ≡ true
-    back n e = go (or-true (eqb n x) (member n xs) (g n (member-rest n y ys e)))
-      where
-        go : (eqb n x ≡ true) ⊎ (member n xs ≡ true) → member n xs ≡ true
-        go (inl s) = absurd (omega (arith, eqb-true n x s, heads, rising-above (suc y) ys (k .1) n e))
-        go (inr s) = s
+    back n e = behind y x ys xs (sym heads) (k .1) n e (g n (member-rest n y ys e))
 
 -- ---- the numbers of layers, shared among records
 pub length-headers : (ls : List Layer) → length (headers ls) ≡ length ls

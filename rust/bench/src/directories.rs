@@ -6,13 +6,14 @@ use reference::RECORD;
 use std::hint::black_box;
 use zvaigulta::{append_directory, judge_directory, judge_sheet, jump, MOST_RECORDS};
 
-const SHEETS: [(&str, Make); 7] = [
+const SHEETS: [(&str, Make); 8] = [
     ("grids", files::grids),
     ("mixed", files::mixed),
     ("elements", files::elements),
     ("hundred", files::hundred),
     ("points", files::points),
     ("tens", files::tens),
+    ("attributes", files::attributes),
     ("layers", files::empty_layers),
 ];
 

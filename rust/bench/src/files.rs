@@ -73,6 +73,11 @@ pub fn tens(records: usize, _seed: u64) -> Vec<u8> {
     sheets::sheet_of(&mut Random(3), vec![layer; layers].concat(), 10 * layers)
 }
 
+/// Layers of ten elements with one to three records of attributes: no data is judged faster, so a second pass over such items weighs most.
+pub fn attributes(records: usize, seed: u64) -> Vec<u8> {
+    layers(records, seed, 10, |r| (8, sheets::item(r, 8, 2)))
+}
+
 /// Nothing but empty layers: no sheet has more of them, and none a longer directory beside its records.
 pub fn empty_layers(records: usize, _seed: u64) -> Vec<u8> {
     sheets::sheet_of(&mut Random(3), vec![sheets::layer(&[]); records], 0)

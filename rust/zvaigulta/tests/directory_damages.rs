@@ -182,6 +182,25 @@ const ENDS: &[Damage] = &[
         &[(31, "type")],
     ),
     (
+        "two files with their directories",
+        || file().repeat(2),
+        (19, 31),
+        &[
+            "behind the directory of layers, which ends at record 30: 30 records; without that the file is accepted; \
+             record 31 starts a sheet of its own: divide the file before it",
+            "not: a directory stands behind a directory",
+            NO_COMMAND,
+        ],
+        &[(31, "type")],
+    ),
+    (
+        "a sheet, and another with its directory",
+        || [sheet(), file()].concat(),
+        (19, 29),
+        &["record 29 starts a sheet of its own: divide the file before it", NO_COMMAND],
+        &[(29, "type")],
+    ),
+    (
         "a directory behind a directory, and points at itself",
         || with([file(), records(file(), 29, 30)].concat(), 32, 2, "     31"),
         (4, 29),
@@ -470,7 +489,7 @@ const SHEETS: &[Damage] = &[
         "a sheet behind a sheet",
         || [sheet(), file()].concat(),
         (19, 29),
-        &["record 29 behind the sheet starts \"M \", as no record of a directory does", NO_COMMAND],
+        &["record 29 starts a sheet of its own: divide the file before it", NO_COMMAND],
         &[(29, "type")],
     ),
     (
@@ -563,7 +582,8 @@ const UNREAD: &[Damage] = &[
         "another sheet behind it",
         || [file(), sheet()].concat(),
         (4, 29),
-        &["behind the directory of layers, which ends at record 30: 28 records; without that the file is accepted"],
+        &["behind the directory of layers, which ends at record 30: 28 records; without that the file is accepted; \
+             record 31 starts a sheet of its own: divide the file before it"],
         &[(29, "type")],
     ),
     (

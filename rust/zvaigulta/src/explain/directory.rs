@@ -162,12 +162,13 @@ impl<'a> Directory<'a> {
         told.add_faults(inner.faults);
     }
 
-    /// The columns that are not as they should be.
+    /// The columns that are not as they should be; of another file behind this one no more than its first record.
     fn faults(&self) -> Vec<Fault> {
         if self.numbers().is_empty() {
             return self.last_alone();
         }
-        self.numbers().flat_map(|number| self.faults_of(number)).collect()
+        let last = self.another_file().unwrap_or(self.records);
+        (self.before + 1..=last).flat_map(|number| self.faults_of(number)).collect()
     }
 
     /// The last record of a file that has no directory.

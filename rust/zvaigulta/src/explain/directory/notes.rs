@@ -2,7 +2,7 @@
 
 use super::{letters, Directory};
 use crate::directory::{is_end, is_row};
-use crate::explain::form;
+use crate::explain::{form, near};
 use crate::layout::DIRECTORY_END;
 use crate::outline::{directory_layout, record, Outline};
 use crate::text::number_of;
@@ -20,6 +20,9 @@ impl Directory<'_> {
     pub fn notes(&self) -> Vec<String> {
         if let Some(none) = self.no_directory() {
             return vec![none];
+        }
+        if let Some(behind) = self.put_behind() {
+            return vec![behind];
         }
         let seen = match self.behind_another() {
             Some(behind) => vec![Some(behind)],
@@ -43,6 +46,19 @@ impl Directory<'_> {
             (true, false) => format!("the sheet has no directory, its last record is {name}: {APPEND}"),
             (false, _) => "no directory stands behind the sheet".to_string(),
         })
+    }
+
+    /// The record behind the sheet, or behind its directory, with which another file begins.
+    pub fn another_file(&self) -> Option<usize> {
+        self.other().filter(|other| self.sheet.is_some() && near::file_start(self.bytes, *other).is_some())
+    }
+
+    fn put_behind(&self) -> Option<String> {
+        let first = self.another_file()?;
+        if is_end(record(self.bytes, first - 1)) {
+            return Some(self.behind(first - 1));
+        }
+        near::file_start(self.bytes, first)
     }
 
     /// That the last record is not there.
@@ -190,7 +206,8 @@ impl Directory<'_> {
             true => format!("nothing but {}", form::named(rest)),
             false => number_of(rest.len().div_ceil(RECORD_BYTES) as u64, "record"),
         };
-        format!("behind the directory of layers, which ends at record {end}: {what}; {}", form::without(file))
+        let starts = near::file_start(self.bytes, end + 1).map_or(String::new(), |starts| format!("; {starts}"));
+        format!("behind the directory of layers, which ends at record {end}: {what}; {}{starts}", form::without(file))
     }
 }
 
