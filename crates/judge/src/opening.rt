@@ -15,7 +15,8 @@ ghost use Prim.Native.Nat.{_-_, _≤_};
 ghost use Rattle.files.specs.declared.Stride.the-variants.{Plain};
 ghost use Rattle.files.specs.Records.{recordsOf};
 ghost use Rattle.judge.specs.Sheet.{refusedSheet, recordsSheet};
-ghost use Rattle.judge.specs.Walks.{ExtentOf, dueOfEntry, openOfEntry, placeIn, sheetWith, Stands, standingSheet, WholeBody, wrongSheetOf, bodySheet, BodyAgainst, OpenedAgainst};
+ghost use Rattle.judge.specs.Walks.{ExtentOf, dueOfEntry, openOfEntry, placeIn, sheetWith, Stands, standingSheet};
+ghost use Rattle.judge.specs.Walks.{WholeBody, wrongSheetOf, bodySheet, BodyAgainst, OpenedAgainst};
 
 // Record 2 where the sheet's two counts differ from those found, else 0.
 fn wrong_sheet(part: SheetPart, items: usize, records: usize) -> usize
