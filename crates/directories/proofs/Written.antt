@@ -20,7 +20,7 @@ use Rattle.format.specs.Layout.{splice}
 use Rattle.format.specs.Record.{View, view, isHead, countIndex}
 use Rattle.format.specs.Judge.{dueOf, dueAfter, isHeaderAt}
 use Rattle.format.proofs.Basics.{and-true}
-use Rattle.format.proofs.Columns.{length-written}
+use Rattle.format.proofs.Columns.{length-written, length-splice}
 use Rattle.format.proofs.Lists.{Wide, flat-append, length-flat}
 use Rattle.columns.specs.InRecord.{writeAt}
 use Rattle.columns.proofs.Laws.{number-written}
@@ -385,6 +385,16 @@ module _ (file : List ℕ) (k each : ℕ) (bytes₀ bytes : List ℕ) (at i : �
               ∙ number-added (letters One) (listedAll One (take i ls)) (two-letters One) (suc header) (omega (arith, headers-long, each-is))
               ∙ ap (recordOf (letters One)) (sym (headers-more (take i ls)))
               ∙ ap (λ (x : List Layer). recordOf (letters One) (listedAll One x)) (sym taken-more)
+
+      module _ (each-few : each ≤ 11) (few : count ≤ 200000) (long : length bytes ≡ 84) (l′ : List ℕ) (done : Bool) (e : record { done = done; bytes = l′ } ≡ writeAt (take 84 bytes) (2 + 7 * i) 7 (toZ w64 (ofZ w64 (pos (header + 1))))) (h : i < each) where
+        put : l′ ++ drop 84 bytes ≡ splice (2 + 7 * i) 7 (written 7 (pos (header + 1))) bytes
+        put = number-put bytes l′ i (header + 1) done long (omega arith) (omega arith) e
+
+        pub layer-put : Filling file k each bytes₀ (l′ ++ drop 84 bytes) (header + 1) (i + 1)
+        layer-put = layer-added h (l′ ++ drop 84 bytes) put
+
+        pub still-long : length (l′ ++ drop 84 bytes) ≡ 84
+        still-long = ap length put ∙ length-splice (2 + 7 * i) 7 (written 7 (pos (header + 1))) bytes (length-written 7 (pos (header + 1))) (omega arith) ∙ long
 
     -- no layer is left
     module _ (over : count ≤ header) where

@@ -134,8 +134,14 @@ fn row_from(file: &[u8], edition: Edition, k: usize, first: &FirstLayers, before
                 next: header,
             };
         }
-        let more = with_number(bytes, i, header + 1);
-        bytes = more;
+        let start = 0;
+        let end = RECORD;
+        columns::write_at(
+            &mut bytes[start..end],
+            LETTERS + WIDTH * i,
+            WIDTH,
+            (header + 1) as i64,
+        );
         at = header + 1;
         i += 1;
     }
