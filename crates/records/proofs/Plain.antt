@@ -1,6 +1,7 @@
 -- A column of spaces, then digits, read with no branch: `plain_number` in the code's own words. Assumes nothing.
 use mathlib.Core.Path.{_≡_, refl, ap, sym, _∙_}
-use mathlib.Core.Bool.{Bool, true, false, cond, not, _&&_, _||_, false≢true}
+use mathlib.Core.Bool.{Bool, true, false, cond, not, _&&_, _||_, and-false, false≢true}
+use mathlib.Core.Logic.{_⊎_, inl, inr}
 use mathlib.Core.List.{List, [], _∷_}
 use Prim.Native.Nat.{ℕ, suc, _+_, _-_, _*_, _%_, _^_, _≤_, _<_}
 use native.Mathlib.Nat.{pow-suc, one-le-pow, pow-le-pow-right}
@@ -17,7 +18,7 @@ use Rattle.format.specs.declared.Column.{Column}
 use Rattle.format.specs.declared.Column.the-variants.{Value, Malformed}
 use Rattle.format.specs.Column.{strip, isDigit, allDigits, valueOf, isNumber, positive, signed, columnOf, numberOf}
 use Rattle.format.specs.Layout.{column}
-use Rattle.format.proofs.Basics.{and-true}
+use Rattle.format.proofs.Basics.{and-true, or-cases}
 use Rattle.format.proofs.Columns.{Byte, v-space, v-minus, v-digit, v-other, byte, length-column}
 use Rattle.columns.specs.InRecord.{numberIn}
 use Rattle.columns.proofs.Laws.{column-at-inside}
@@ -110,29 +111,34 @@ module _ (l : List ℕ) (start width n : ℕ) (blank plain : Bool) (i : ℕ) (k 
       go false false s e = absurd (false≢true e)
       go false true s e = read (sym (ap (saysAfter false n) all) ∙ s refl)
 
--- ---- `short_number`: spaces before the last byte, and a digit there
-pub record Blank (l : List ℕ) (start width before : ℕ) (blank : Bool) (i : ℕ) : Type 0 where
+-- ---- `short_number`: spaces, then zeros before the last byte, and a digit there
+pub record Short (l : List ℕ) (start width before : ℕ) (blank nothing : Bool) (i : ℕ) : Type 0 where
   pub one-less : before + 1 ≡ width
   pub up-to : i ≤ before
-  pub kept : blank ≡ true → Kept l start width 0 true true i
+  pub kept : nothing ≡ true → Kept l start width 0 blank true i
 
-pub blank-first : (l : List ℕ) (start width before : ℕ) → 1 ≤ width → before ≡ width - 1 → Blank l start width before true 0
-blank-first l start width before h e = record { one-less = omega arith; up-to = omega arith; kept = λ t. kept-first l start width }
+pub short-first : (l : List ℕ) (start width before : ℕ) → 1 ≤ width → before ≡ width - 1 → Short l start width before true true 0
+short-first l start width before h e = record { one-less = omega arith; up-to = omega arith; kept = λ t. kept-first l start width }
 
-module _ (l : List ℕ) (start width before : ℕ) (blank : Bool) (i : ℕ) (k : Blank l start width before blank i) (whole : length l ≡ 84) (room : start + width ≤ 84) (narrow : width ≤ 7) where
-  pub blank-more : i < before → Blank l start width before (blank && eqb (getD l (start + i) 0) 32) (i + 1)
-  blank-more h = record { one-less = k .one-less; up-to = omega arith; kept = more }
+module _ (l : List ℕ) (start width before : ℕ) (blank nothing : Bool) (i : ℕ) (k : Short l start width before blank nothing i) (whole : length l ≡ 84) (room : start + width ≤ 84) (narrow : width ≤ 7) where
+  pub short-more : i < before → Short l start width before (blank && eqb (getD l (start + i) 0) 32) (nothing && (eqb (getD l (start + i) 0) 48 || (blank && eqb (getD l (start + i) 0) 32))) (i + 1)
+  short-more h = record { one-less = k .one-less; up-to = omega arith; kept = more }
     where
-      more : blank && eqb (getD l (start + i) 0) 32 ≡ true → Kept l start width 0 true true (i + 1)
+      -- a zero, or one more space
+      still : (x : ℕ) → (eqb x 48 ≡ true) ⊎ (blank && eqb x 32 ≡ true) → Kept l start width (0 * 10 + x % 16) (blank && eqb x 32) (true && isPlain blank x) (i + 1) → Kept l start width 0 (blank && eqb x 32) true (i + 1)
+      still x (inl q) g = rw (eqb-true x 48 q) (rw (eqb-true x 48 q) at g)
+      still x (inr q) g = let t = and-true blank (eqb x 32) q in rw (t .0, eqb-true x 32 (t .1)) (rw (t .0, eqb-true x 32 (t .1)) at g)
+
+      more : nothing && (eqb (getD l (start + i) 0) 48 || (blank && eqb (getD l (start + i) 0) 32)) ≡ true → Kept l start width 0 (blank && eqb (getD l (start + i) 0) 32) true (i + 1)
       more e =
-          let t = and-true blank (eqb (getD l (start + i) 0) 32) e in
-          rw (eqb-true (getD l (start + i) 0) 32 (t .1)) at (kept-more l start width 0 true true i (k .kept (t .0)) whole room narrow (omega (arith, k .one-less)))
+          let t = and-true nothing (eqb (getD l (start + i) 0) 48 || (blank && eqb (getD l (start + i) 0) 32)) e in
+          still (getD l (start + i) 0) (or-cases (eqb (getD l (start + i) 0) 48) (blank && eqb (getD l (start + i) 0) 32) (t .1)) (kept-more l start width 0 blank true i (k .kept (t .0)) whole room narrow (omega (arith, k .one-less)))
 
   module _ (h : before ≤ i) where
     at-last : i ≡ before
     at-last = omega (arith, k .up-to)
 
-    digit-says : (x : ℕ) → x ≡ getD l (start + before) 0 → blank ≡ true → leb 48 x && leb x 57 ≡ true → x % 16 ≡ numberIn l start width
+    digit-says : (x : ℕ) → x ≡ getD l (start + before) 0 → nothing ≡ true → leb 48 x && leb x 57 ≡ true → x % 16 ≡ numberIn l start width
     digit-says x e t d = (let z : x % 16 ≡ 0 * 10 + x % 16 = omega arith in z) ∙ plainly l start width (0 * 10 + x % 16) false true (before + 1) all whole room narrow (omega (arith, k .one-less)) refl
       where
         no-space : (q : Bool) → eqb x 32 ≡ q → eqb x 32 ≡ false
@@ -140,14 +146,14 @@ module _ (l : List ℕ) (start width before : ℕ) (blank : Bool) (i : ℕ) (k :
         no-space false q = q
 
         all : Kept l start width (0 * 10 + x % 16) false true (before + 1)
-        all = simp (d, no-space (eqb x 32) refl) at (rw (← e) at (rw at-last at (kept-more l start width 0 true true i (k .kept t) whole room narrow (omega (arith, k .one-less)))))
+        all = simp (d, no-space (eqb x 32) refl, and-false) at (rw (← e) at (rw at-last at (kept-more l start width 0 blank true i (k .kept t) whole room narrow (omega (arith, k .one-less)))))
 
-    pub last-zero : blank && eqb (getD l (start + before) 0) 48 ≡ true → 0 ≡ numberIn l start width
+    pub last-zero : nothing && eqb (getD l (start + before) 0) 48 ≡ true → 0 ≡ numberIn l start width
     last-zero e =
-        let t = and-true blank (eqb (getD l (start + before) 0) 48) e in
+        let t = and-true nothing (eqb (getD l (start + before) 0) 48) e in
         digit-says 48 (sym (eqb-true (getD l (start + before) 0) 48 (t .1))) (t .0) refl
 
-    pub last-digit : blank && (leb 48 (getD l (start + before) 0) && leb (getD l (start + before) 0) 57) ≡ true → getD l (start + before) 0 % 16 ≡ numberIn l start width
+    pub last-digit : nothing && (leb 48 (getD l (start + before) 0) && leb (getD l (start + before) 0) 57) ≡ true → getD l (start + before) 0 % 16 ≡ numberIn l start width
     last-digit e =
-        let t = and-true blank (leb 48 (getD l (start + before) 0) && leb (getD l (start + before) 0) 57) e in
+        let t = and-true nothing (leb 48 (getD l (start + before) 0) && leb (getD l (start + before) 0) 57) e in
         digit-says (getD l (start + before) 0) refl (t .0) (t .1)

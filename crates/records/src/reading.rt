@@ -45,24 +45,28 @@ pub(crate) fn plain_number(record: &[u8], start: usize, width: usize) -> usize
     columns::number_at(record, start, width)
 }
 
-// The number of a column that has one digit as a rule, and most often 0: the processor foretells both, so that a walk which needs the number to find the
-// next record does not wait for it. Any other column is read by `plain_number`.
+// The number of a column that has one digit as a rule, behind spaces or zeros, and most often 0: the processor foretells both, so that a walk which needs
+// the number to find the next record does not wait for it. Any other column is read by `plain_number`.
 pub(crate) fn short_number(record: &[u8], start: usize, width: usize) -> usize
     requires { ⌜ (length (now «record») ≡ 84) × (start + width ≤ 84) × (1 ≤ width) × (width ≤ 7) ⌝ }
     ensures { λ r. ⌜ r ≡ numberIn (now («record» .entry)) start width ⌝ }
 {
     let before = width - 1;
     let mut blank = true;
+    let mut nothing = true;
     let mut i = 0;
     while i < before {
-        blank = blank & (record[start + i] == b' ');
+        let b = record[start + i];
+        let space = b == b' ';
+        nothing = nothing & ((b == b'0') | (blank & space));
+        blank = blank & space;
         i += 1;
     }
     let last = record[start + before];
-    if blank & (last == b'0') {
+    if nothing & (last == b'0') {
         return 0;
     }
-    if blank & ((b'0' <= last) & (last <= b'9')) {
+    if nothing & ((b'0' <= last) & (last <= b'9')) {
         return (last % 16) as usize;
     }
     plain_number(record, start, width)

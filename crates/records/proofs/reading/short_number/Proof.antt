@@ -1,27 +1,27 @@
--- `records::reading::short_number` meets its contract: spaces, then a digit, say that digit; each turn leaves fewer bytes. Assumes nothing.
+-- `records::reading::short_number` meets its contract: spaces, then zeros, then a digit, say that digit; each turn leaves fewer bytes. Assumes nothing.
 use Prim.Native.Nat.{_-_}
-use Rattle.records.proofs.Plain.{Blank, blank-first, blank-more, last-zero, last-digit}
+use Rattle.records.proofs.Plain.{Short, short-first, short-more, last-zero, last-digit}
 use borrow.Author.Needs.{needs}
 use Rattle.records.proofs.reading.short_number.Statement.{statement}
 use Rattle.records.proofs.reading.short_number.Tie as tie
 
 abbrev Inv-loop : tie.InvT-loop
-Inv-loop «record» start width before blank₀ i₀ blank i = Blank «record» start width before blank i
+Inv-loop «record» start width before blank₀ nothing₀ i₀ blank nothing i = Short «record» start width before blank nothing i
 
 abbrev μ-loop : tie.MeasureT-loop
-μ-loop «record» start width before blank₀ i₀ blank i = before - i
+μ-loop «record» start width before blank₀ nothing₀ i₀ blank nothing i = before - i
 
 sub-before : tie.Need-sub-before Inv-loop μ-loop
 sub-before c = search needs
 
 loop-holds : tie.Need-loop-holds Inv-loop μ-loop
-loop-holds c = search blank-first
+loop-holds c = search short-first
 
-add-blank : tie.Need-add-blank Inv-loop μ-loop
-add-blank c = search needs
+add-b : tie.Need-add-b Inv-loop μ-loop
+add-b c = search needs
 
-shared-slice-read-blank : tie.Need-shared-slice-read-blank Inv-loop μ-loop
-shared-slice-read-blank c = search needs
+shared-slice-read-b : tie.Need-shared-slice-read-b Inv-loop μ-loop
+shared-slice-read-b c = search needs
 
 add-i : tie.Need-add-i Inv-loop μ-loop
 add-i c = search needs
@@ -30,7 +30,7 @@ loop-less : tie.Need-loop-less Inv-loop μ-loop
 loop-less c = search needs
 
 loop-again : tie.Need-loop-again Inv-loop μ-loop
-loop-again c = search blank-more
+loop-again c = search short-more
 
 add-last : tie.Need-add-last Inv-loop μ-loop
 add-last c = search needs
@@ -61,8 +61,8 @@ short-number-spec =
     μ-loop
     sub-before
     loop-holds
-    add-blank
-    shared-slice-read-blank
+    add-b
+    shared-slice-read-b
     add-i
     loop-less
     loop-again
