@@ -148,7 +148,7 @@ fn row_from(file: &[u8], edition: Edition, k: usize, first: &FirstLayers, before
     Row { bytes, next: at }
 }
 
-// So many records, of the layers from record k of the sheet on, behind the sheet.
+// Writes so many records of the directory behind the sheet; they list the layers from record k of the sheet on.
 fn write_rows(
     buffer: &mut [u8],
     used: usize,

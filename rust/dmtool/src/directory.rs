@@ -12,7 +12,7 @@ use std::io::{self, Write};
 use zvaigulta::layout::HEADER;
 use zvaigulta::outline::{layers, Layer};
 use zvaigulta::text::number_of;
-use zvaigulta::{judge_directory, judge_sheet, sheet_before_directory, FileKind, Reading, Sheet, RECORD_BYTES};
+use zvaigulta::{judge_directory, judge_sheet, sheet_before_directory, FileKind, Form, Reading, Sheet, RECORD_BYTES};
 
 /// Shows the directory of a file, or does to it what an option says.
 pub fn run(arguments: &Arguments, out: &mut impl Write) -> Done {
@@ -96,8 +96,8 @@ pub fn naming(header: &[u8]) -> String {
 
 /// Appends a directory to a sheet that has none.
 fn append(arguments: &Arguments, out: &mut impl Write) -> Done {
-    let [path] =
-        arguments.exactly("directory FILE --append [-o OTHER [--force]] [--no-lock] [--lines | --plain] [--no-directory]")?;
+    let [path] = arguments
+        .exactly("directory FILE --append [-o OTHER [--force]] [--no-lock] [--lines | --plain] [--directory | --no-directory]")?;
     let job = Job::open(arguments, path, target(arguments, path)?)?;
     files::whole(path, &job.bytes)?;
     let asked = Asked::of(arguments, path, &job.bytes);
@@ -143,7 +143,9 @@ fn removed(plain: &[u8], sheet: &[u8]) -> String {
         bytes => number_of(bytes as u64, "byte"),
     };
     let now = judge_sheet(sheet, sheet.len()).map_or_else(|refusal| refusal.to_string(), |counts| counts.to_string());
-    format!("removed its directory, {taken}{wrong}; now {now}")
+    // A text may read like the end of a directory.
+    let read = if Reading::in_form(Form::Plain, sheet).directory { ", read with --no-directory" } else { "" };
+    format!("removed its directory, {taken}{wrong}; now {now}{read}")
 }
 
 /// Says that there is nothing to do; a result that goes elsewhere is a copy.

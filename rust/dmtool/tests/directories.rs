@@ -448,6 +448,9 @@ fn text_that_starts_like_an_end() {
     assert_eq!(f.run(&["directory", "town.dm", "--append", "--no-directory"]).status, Some(0));
     assert!(f.get("town.dm") == filed(&sheet));
     assert_eq!(f.run(&["judge", "town.dm"]).text(), "town.dm: accepted 11 records 2 items (directory of 1 layer)\n");
+    let removed = f.run(&["directory", "town.dm", "--remove"]);
+    assert!(removed.text().ends_with("now accepted 11 records 2 items, read with --no-directory\n"), "{}", removed.text());
+    assert!(f.get("town.dm") == sheet);
 }
 
 #[test]

@@ -133,8 +133,18 @@ pub fn explain_as(reading: Reading, bytes: &[u8], refusal: Refusal) -> Explanati
     }
 }
 
-/// Explains a refusal of the records of a file in a form.
+/// Explains a refusal of the records of a file in a form, read without a directory.
 fn of_records(bytes: &[u8], form: Form, refusal: Refusal) -> Explanation {
+    let directory = |refused: usize| directory::noticed(bytes, Some(refused)).filter(|_| refusal.reason == Reason::RecordType);
+    of_those(bytes, form, refusal, directory)
+}
+
+/// The same of the records before a directory.
+fn of_sheet(bytes: &[u8], form: Form, refusal: Refusal) -> Explanation {
+    of_those(bytes, form, refusal, |_| None)
+}
+
+fn of_those(bytes: &[u8], form: Form, refusal: Refusal, directory: impl Fn(usize) -> Option<String>) -> Explanation {
     let mut told = Explanation::default();
     let named = refusal.record.and_then(|record| Outline::of(bytes).nth(record.checked_sub(1)?));
     let Some(named) = named else {
@@ -143,8 +153,7 @@ fn of_records(bytes: &[u8], form: Form, refusal: Refusal) -> Explanation {
     };
     at_record(bytes, &named, refusal.reason, form, &mut told);
     // Another form of file, or a directory, is the one reason; what else is seen follows from it.
-    let directory = || directory::noticed(bytes, Some(named.number)).filter(|_| refusal.reason == Reason::RecordType);
-    if let Some(reason) = form::of(bytes, Some(named.number)).or_else(directory) {
+    if let Some(reason) = form::of(bytes, Some(named.number)).or_else(|| directory(named.number)) {
         one_reason(&mut told, named.number, vec![reason]);
     }
     told

@@ -201,6 +201,30 @@ const ENDS: &[Damage] = &[
         &[(29, "type")],
     ),
     (
+        "the same, the first record of the second mistyped",
+        || [file(), with(file(), 1, 33, "x")].concat(),
+        (19, 31),
+        &[
+            "record 31 behind the sheet starts \"M \", as no record of a directory does",
+            "not: a directory stands behind a directory",
+        ],
+        &[(31, "type")],
+    ),
+    (
+        "the same, the first of them damaged",
+        || [with(file(), 9, 4, "x"), file()].concat(),
+        (5, 9),
+        &["record 31 starts a sheet of its own: divide the file before it"],
+        &[(9, "X 1")],
+    ),
+    (
+        "a blank record before the end",
+        || with_records(file(), 30, &[b' '; RECORD_BYTES]),
+        (19, 30),
+        &["record 30 behind the sheet holds nothing but spaces", "not: only the letters seem wrong", NO_COMMAND],
+        &[(30, "type")],
+    ),
+    (
         "a directory behind a directory, and points at itself",
         || with([file(), records(file(), 29, 30)].concat(), 32, 2, "     31"),
         (4, 29),
@@ -349,7 +373,12 @@ const ROWS: &[Damage] = &[
         "a record too many",
         || twice(file(), 29, 29),
         (19, 30),
-        &["is \"Z \", where \"ZE\" is due: a directory of 2 layers has 1 record \"Z \"", "lists 4 layers and states 2", DOUBT],
+        &[
+            "is \"Z \", where \"ZE\" is due: a directory of 2 layers has 1 record \"Z \"",
+            "lists 4 layers and states 2",
+            "record 30 is the same as record 29 before it: without it the file is accepted",
+            MEND,
+        ],
         &[(30, "type"), (31, "type")],
     ),
     (
@@ -377,7 +406,11 @@ const ROWS: &[Damage] = &[
         "of 11 layers, a record too many",
         || twice(filed(&layered(11)), 18, 18),
         (19, 19),
-        &["is \"Z \", where \"ZE\" is due: a directory of 11 layers has 1 record \"Z \"", DOUBT],
+        &[
+            "is \"Z \", where \"ZE\" is due: a directory of 11 layers has 1 record \"Z \"",
+            "record 19 is the same as record 18 before it: without it the file is accepted",
+            MEND,
+        ],
         &[(19, "type")],
     ),
     (
@@ -585,6 +618,42 @@ const UNREAD: &[Damage] = &[
         &["behind the directory of layers, which ends at record 30: 28 records; without that the file is accepted; \
              record 31 starts a sheet of its own: divide the file before it"],
         &[(29, "type")],
+    ),
+    (
+        "another sheet and its directory behind it",
+        || file().repeat(2),
+        (4, 29),
+        &[
+            "behind the directory of layers, which ends at record 30: 30 records; without that the file is accepted; \
+             record 31 starts a sheet of its own: divide the file before it",
+            "not: are a directory of layers",
+        ],
+        &[(29, "type")],
+    ),
+    (
+        "the same, cut off",
+        || file().repeat(2)[..40 * RECORD_BYTES + 3].to_vec(),
+        (1, 0),
+        &[
+            "behind the directory of layers, which ends at record 30: 10 records and 3 bytes; without that the file is accepted; \
+             record 31 starts a sheet of its own: divide the file before it",
+            "not: cut off",
+        ],
+        &[],
+    ),
+    (
+        "an item behind it",
+        || [file(), records(sheet(), 22, 22)].concat(),
+        (4, 29),
+        &["which ends at record 30: 1 record; without that the file is accepted; see in the original where that belongs before you take it out"],
+        &[(29, "type")],
+    ),
+    (
+        "words behind it",
+        || [file(), b"hello".to_vec()].concat(),
+        (1, 0),
+        &["which ends at record 30: 5 bytes, \"hello\"; without that the file is accepted; see in the original where that belongs"],
+        &[],
     ),
     (
         "an end-of-file mark behind it",

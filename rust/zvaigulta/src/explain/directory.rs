@@ -6,7 +6,7 @@ mod notes;
 
 use super::body::Body;
 use super::counts::Records;
-use super::{fault, length, of_records, Explanation, Fault};
+use super::{fault, length, of_sheet, Explanation, Fault};
 use crate::directory::{is_end, is_row, last_record, ragged_before, records_before, sheet};
 use crate::layout::{DIRECTORY, DIRECTORY_END};
 use crate::outline::{directory_layout, layers, record, Layer, Outline, Record};
@@ -157,7 +157,7 @@ impl<'a> Directory<'a> {
             false => "judged alone, the sheet before the directory",
         };
         told.notes.push(format!("{alone} is refused {}{at}", refusal.number()));
-        let inner = of_records(sheet, form, refusal);
+        let inner = of_sheet(sheet, form, refusal);
         told.notes.extend(inner.notes);
         told.add_faults(inner.faults);
     }
@@ -215,7 +215,7 @@ impl<'a> Directory<'a> {
     /// 2 to 10 of the sheet before the pointer. Where the pointer does not say where the sheet ends, that is looked at first.
     fn sheet_refused(&self, form: Form, refusal: Refusal, refused: usize) -> Explanation {
         let end = self.made_for().map_or(self.bytes.len(), |records| records.saturating_mul(RECORD_BYTES));
-        let told = of_records(self.bytes.get(..end).unwrap_or(self.bytes), form, refusal);
+        let told = of_sheet(self.bytes.get(..end).unwrap_or(self.bytes), form, refusal);
         if self.made_for() == Some(self.before) {
             return told;
         }

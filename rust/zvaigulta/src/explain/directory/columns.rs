@@ -115,7 +115,11 @@ pub fn end_alone(number: usize, bytes: &[u8], before: usize) -> Vec<Fault> {
     let pointer = DIRECTORY_END.value("pointer", bytes).filter(|pointer| !known && *pointer != before as i64 + 1);
     faults.extend(pointer.map(|pointer| {
         let stand = number_of(before as u64, "record");
-        fault(number, "pointer", format!("is {pointer}, and {stand} stand before the directory"))
+        let made = match usize::try_from(pointer).ok().filter(|pointer| *pointer > 0) {
+            Some(pointer) => format!(", as behind a sheet of {}", number_of(pointer as u64 - 1, "record")),
+            None => String::new(),
+        };
+        fault(number, "pointer", format!("is {pointer}{made}; {stand} stand before the directory"))
     }));
     faults
 }

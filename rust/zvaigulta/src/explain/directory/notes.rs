@@ -5,7 +5,7 @@ use crate::directory::{is_end, is_row};
 use crate::explain::{form, near};
 use crate::layout::DIRECTORY_END;
 use crate::outline::{directory_layout, record, Outline};
-use crate::text::number_of;
+use crate::text::{number_of, quoted};
 use crate::{judge_directory, sheet_before_directory, FileKind, RECORD_BYTES};
 
 /// What takes a directory off and puts the right one there.
@@ -26,7 +26,15 @@ impl Directory<'_> {
         }
         let seen = match self.behind_another() {
             Some(behind) => vec![Some(behind)],
-            None => vec![self.unended(), self.several_ends(), self.other_records(), self.made_for_others(), self.lists()],
+            None => vec![
+                self.other_file(),
+                self.unended(),
+                self.several_ends(),
+                self.doubled(),
+                self.other_records(),
+                self.made_for_others(),
+                self.lists(),
+            ],
         };
         seen.into_iter().flatten().chain(self.next()).collect()
     }
@@ -48,7 +56,7 @@ impl Directory<'_> {
         })
     }
 
-    /// The record behind the sheet, or behind its directory, with which another file begins.
+    /// The record behind an accepted sheet, or behind its directory, with which another file begins.
     pub fn another_file(&self) -> Option<usize> {
         self.other().filter(|other| self.sheet.is_some() && near::file_start(self.bytes, *other).is_some())
     }
@@ -59,6 +67,31 @@ impl Directory<'_> {
             return Some(self.behind(first - 1));
         }
         near::file_start(self.bytes, first)
+    }
+
+    /// The same where the first of the files is not accepted: behind a record that ends a directory.
+    fn other_file(&self) -> Option<String> {
+        let mut ends = (1..self.records).filter(|number| self.sheet.is_none() && is_end(record(self.bytes, *number)));
+        ends.find_map(|end| near::file_start(self.bytes, end + 1))
+    }
+
+    /// That a record of the directory stands twice.
+    fn doubled(&self) -> Option<String> {
+        let second = self.repeated()?;
+        let without = if self.is_right_without(second) { ": without it the file is accepted" } else { "" };
+        Some(format!("record {second} is the same as record {} before it{without}", second - 1))
+    }
+
+    /// The first record `Z ` that is the same as the one before it.
+    fn repeated(&self) -> Option<usize> {
+        near::repeated(self.bytes, self.before + 1, self.records).filter(|number| is_row(record(self.bytes, *number)))
+    }
+
+    /// Whether the file is accepted without a record.
+    fn is_right_without(&self, number: usize) -> bool {
+        let others: Vec<u8> =
+            (1..=self.records).filter(|other| *other != number).flat_map(|other| record(self.bytes, other)).copied().collect();
+        judge_directory(&others, others.len()).is_ok()
     }
 
     /// That the last record is not there.
@@ -74,7 +107,7 @@ impl Directory<'_> {
 
     fn several_ends(&self) -> Option<String> {
         let ends = self.ends();
-        let (first, last) = (ends.first()?, ends.last().filter(|_| ends.len() > 1)?);
+        let (first, last) = (ends.first()?, ends.last().filter(|_| ends.len() > 1 && self.other().is_none())?);
         Some(format!("records {first} and {last} both start \"ZE\": a directory stands behind a directory"))
     }
 
@@ -108,7 +141,8 @@ impl Directory<'_> {
         let (listed, headers) = (self.listed(), self.headers());
         let more = self.made_for().map_or(0, |made| self.before as i64 - made as i64);
         let moved: Vec<i64> = headers.iter().zip(&listed).map(|(header, listed)| header - listed).chain([more]).collect();
-        more > 0 && listed.len() == headers.len() && moved.is_sorted() && moved.first().is_some_and(|first| *first >= 0)
+        let apart = moved.is_sorted() && moved.first().is_some_and(|first| *first >= 0);
+        self.sheet.is_some() && more > 0 && listed.len() == headers.len() && apart
     }
 
     /// How many layers it lists and states, where the sheet has another number of them.
@@ -134,6 +168,9 @@ impl Directory<'_> {
         let bytes = record(self.bytes, other);
         let starts = format!("record {other} behind the sheet starts {}", letters(bytes));
         Some(match directory_layout(bytes, other == self.records) {
+            _ if bytes.iter().all(|byte| *byte == b' ') => {
+                format!("record {other} behind the sheet holds nothing but spaces: a directory has no such record")
+            }
             Some(layout) => format!("{starts}, and its columns read as {}: only the letters seem wrong", layout.name),
             None => format!("{starts}, as no record of a directory does: see in the original where it belongs"),
         })
@@ -145,7 +182,8 @@ impl Directory<'_> {
         let fewer = self.made_for().is_some_and(|made| made > self.before);
         let states = self.stated("layers").is_some_and(|states| states > headers.len() as i64);
         let others = listed.iter().any(|number| headers.binary_search(number).is_err());
-        let known = self.is_grown() || self.behind_another().is_some();
+        let doubled = self.repeated().is_some_and(|second| self.is_right_without(second));
+        let known = doubled || self.is_grown() || self.behind_another().is_some();
         !known && (fewer || states || others || listed.len() > headers.len())
     }
 
@@ -165,11 +203,18 @@ impl Directory<'_> {
 
     /// What is said where the file was read without a directory, and one seems to start at a record.
     pub fn unread(&self, first: usize) -> String {
+        if let Some(behind) = self.put_behind() {
+            return behind;
+        }
+        let others = self.other().is_some_and(|other| other > first);
         match (first..=self.records).find(|number| is_end(record(self.bytes, *number))) {
-            Some(_) if is_end(self.end()) => {
+            Some(end) if end == self.records || (is_end(self.end()) && !others) => {
                 let judged = form::answered(judge_directory(self.bytes, self.records * RECORD_BYTES));
-                let are = records(first, self.records, ["is", "are"]);
-                format!("{are} a directory of layers, and the file was read without one; read with it, {judged}")
+                let are = match others {
+                    true => format!("record {first} starts as a directory of layers does, and record {end} ends one"),
+                    false => format!("{} a directory of layers", records(first, self.records, ["is", "are"])),
+                };
+                format!("{are}, and the file was read without one; read with it, {judged}")
             }
             Some(end) => self.behind(end),
             None => {
@@ -181,33 +226,45 @@ impl Directory<'_> {
         }
     }
 
-    /// That a directory ends inside a record, and what becomes of the file without it.
+    /// That a directory ends inside a record, and what becomes of the file without it. Where a right one stands there, other bytes stand behind it.
     pub fn cut_off(&self) -> String {
+        let right = self.ends().into_iter().find(|end| judge_directory(self.bytes, end * RECORD_BYTES).is_ok());
+        if let Some(behind) = self.put_behind().or_else(|| right.map(|end| self.behind(end))) {
+            return behind;
+        }
         let (sheet, rest) = self.bytes.split_at(self.before * RECORD_BYTES);
-        let more = format!(
-            "{} and {}",
-            number_of((rest.len() / RECORD_BYTES) as u64, "record"),
-            number_of((rest.len() % RECORD_BYTES) as u64, "byte")
-        );
         let next = match sheet_before_directory(self.bytes) {
             Some(_) => self.next().unwrap_or_default(),
             None => form::without(sheet),
         };
         format!(
-            "behind record {}: a directory of layers of {more}, cut off, or with bytes of it lost or too many; {next}",
-            self.before
+            "behind record {}: a directory of layers of {}, cut off, or with bytes of it lost or too many; {next}",
+            self.before,
+            length(rest)
         )
     }
 
     /// What stands behind a directory that ends at a record.
     fn behind(&self, end: usize) -> String {
         let (file, rest) = self.bytes.split_at(end * RECORD_BYTES);
-        let what = match rest.iter().all(|byte| matches!(byte, b' ' | 0 | 0x1a | b'\r' | b'\n')) {
-            true => format!("nothing but {}", form::named(rest)),
-            false => number_of(rest.len().div_ceil(RECORD_BYTES) as u64, "record"),
-        };
-        let starts = near::file_start(self.bytes, end + 1).map_or(String::new(), |starts| format!("; {starts}"));
-        format!("behind the directory of layers, which ends at record {end}: {what}; {}{starts}", form::without(file))
+        let (ends, without) = (format!("behind the directory of layers, which ends at record {end}"), form::without(file));
+        if rest.iter().all(|byte| matches!(byte, b' ' | 0 | 0x1a | b'\r' | b'\n')) {
+            return format!("{ends}: nothing but {}; {without}", form::named(rest));
+        }
+        let next = near::file_start(self.bytes, end + 1);
+        let next = next.unwrap_or_else(|| "see in the original where that belongs before you take it out".to_string());
+        format!("{ends}: {}; {without}; {next}", length(rest))
+    }
+}
+
+/// So many records and bytes; fewer bytes than a record as they are.
+fn length(bytes: &[u8]) -> String {
+    let (whole, left) = (bytes.len() / RECORD_BYTES, bytes.len() % RECORD_BYTES);
+    let (whole, more) = (number_of(whole as u64, "record"), number_of(left as u64, "byte"));
+    match (bytes.len() < RECORD_BYTES, left) {
+        (true, _) => format!("{more}, {}", quoted(bytes)),
+        (false, 0) => whole,
+        (false, _) => format!("{whole} and {more}"),
     }
 }
 
