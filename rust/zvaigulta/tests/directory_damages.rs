@@ -620,6 +620,13 @@ const UNREAD: &[Damage] = &[
         &[(29, "type")],
     ),
     (
+        "a record of it inside the sheet",
+        || with_records(file(), 14, &records(file(), 29, 29)),
+        (4, 14),
+        &["record 14 starts as a directory of layers does, and record 31 ends one", "not: records 14 to 31 are a directory"],
+        &[(14, "type")],
+    ),
+    (
         "another sheet and its directory behind it",
         || file().repeat(2),
         (4, 29),

@@ -157,10 +157,14 @@ impl Directory<'_> {
         Some(format!("the directory lists {}{stated}, the sheet has {has}", number_of(listed as u64, "layer")))
     }
 
-    /// The first record behind the sheet that is none of a directory by its letters.
+    /// Whether a record is one of a directory by its letters.
+    fn is_its(&self, number: usize) -> bool {
+        is_row(record(self.bytes, number)) || is_end(record(self.bytes, number))
+    }
+
+    /// The first record behind the sheet that is none.
     fn other(&self) -> Option<usize> {
-        let is_its = |number: usize| is_row(record(self.bytes, number)) || is_end(record(self.bytes, number));
-        self.numbers().find(|number| !is_its(*number))
+        self.numbers().find(|number| !self.is_its(*number))
     }
 
     fn other_records(&self) -> Option<String> {
@@ -206,7 +210,7 @@ impl Directory<'_> {
         if let Some(behind) = self.put_behind() {
             return behind;
         }
-        let others = self.other().is_some_and(|other| other > first);
+        let others = (first..=self.records).any(|number| !self.is_its(number));
         match (first..=self.records).find(|number| is_end(record(self.bytes, *number))) {
             Some(end) if end == self.records || (is_end(self.end()) && !others) => {
                 let judged = form::answered(judge_directory(self.bytes, self.records * RECORD_BYTES));
