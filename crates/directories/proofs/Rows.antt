@@ -19,7 +19,7 @@ use Rattle.format.proofs.ChecksParts.{same-decides}
 use Rattle.format.proofs.ColumnFits.{fits-plus}
 use Rattle.columns.specs.InRecord.{isWrittenAt}
 use Rattle.format_directory.specs.Directory.{columnsOf, recordOf}
-use Rattle.format_directory.proofs.DirectoryRecords.{Two, Short, column-at, short-get, spaces-replicate, length-record, length-columns, same-self}
+use Rattle.format_directory.proofs.DirectoryRecords.{TwoLetters, Short, column-at, short-get, spaces-replicate, length-record, length-columns, same-self}
 use Rattle.format_directory.proofs.DirectoryColumns.{columns-from, spaces-from}
 use Rattle.format_directory.proofs.DirectoryChecks.{spaces-each}
 use Rattle.directory_columns.specs.Numbers.{numberIs}
@@ -65,7 +65,7 @@ numbers-other r k (n ∷ ns) (suc j) l e = ap (λ (t : Bool). numberIs r k n && 
     never false = refl
 
 -- ---- the right record
-module _ (letters ns : List ℕ) (two : Two letters) (short : Short ns) (room : length ns ≤ 11) where
+module _ (letters ns : List ℕ) (two : TwoLetters letters) (short : Short ns) (room : length ns ≤ 11) where
   rest-is : (l : List ℕ) → length l ≡ 2 → drop (2 + 7 * length ns) (l ++ (columnsOf ns ++ replicate (82 - 7 * length ns) 32)) ≡ replicate (82 - 7 * length ns) 32
   rest-is l e = sym (drop-drop (7 * length ns) 2 (l ++ (columnsOf ns ++ replicate (82 - 7 * length ns) 32))) ∙ ap (drop (7 * length ns)) (drop-at l (columnsOf ns ++ replicate (82 - 7 * length ns) 32) 2 e) ∙ drop-at (columnsOf ns) (replicate (82 - 7 * length ns) 32) (7 * length ns) (length-columns ns)
 

@@ -37,7 +37,7 @@ use Rattle.format_directory.specs.declared.Edition.{Edition}
 use Rattle.format_directory.specs.declared.Edition.the-variants.{One}
 use Rattle.judge.specs.Listed.{firstHeaders}
 use Rattle.format_directory.specs.Directory.{Layer, noLayer, layerBody, layersFrom, letters, endLetters, endListed, listed, listedAll, perRecord, columnsOf, recordOf, row, closing, shared, directoryOf}
-use Rattle.format_directory.proofs.DirectoryRecords.{Two, two-letters, two-endLetters, length-columns, length-listedAll, wide-rows, length-closing}
+use Rattle.format_directory.proofs.DirectoryRecords.{TwoLetters, two-letters, two-endLetters, length-columns, length-listedAll, wide-rows, length-closing}
 use Rattle.directories.specs.declared.writing.Row.{Row}
 use Rattle.directories.specs.Steps.{viewsIn, layersIn, isLayer, behindEntry, NextLayer, Kept, RowFrom, rowsPut, directoryPut}
 
@@ -289,7 +289,7 @@ columns-more : (ns : List ℕ) (n : ℕ) → columnsOf (ns ++ (n ∷ [])) ≡ co
 columns-more [] n = append-nil (written 7 (pos n))
 columns-more (m ∷ ns) n = ap (λ (x : List ℕ). written 7 (pos m) ++ x) (columns-more ns n) ∙ sym (append-assoc (written 7 (pos m)) (columnsOf ns) (written 7 (pos n)))
 
-module _ (l ns : List ℕ) (two : Two l) (n : ℕ) (room : length ns < 11) where
+module _ (l ns : List ℕ) (two : TwoLetters l) (n : ℕ) (room : length ns < 11) where
   front-long : length (l ++ columnsOf ns) ≡ 2 + 7 * length ns
   front-long = length-append l (columnsOf ns) ∙ ap₂ (λ (a b : ℕ). a + b) (ap length (two .are)) (length-columns ns)
 

@@ -11,7 +11,7 @@ use Rattle.format.specs.Column.{written}
 use Rattle.format.specs.Layout.{column}
 use Rattle.format_directory.specs.Directory.{columnsOf, recordOf}
 use Rattle.format_directory.specs.DirectoryChecks.{Holds}
-use Rattle.format_directory.proofs.DirectoryRecords.{Two, column-at, length-columns, length-record}
+use Rattle.format_directory.proofs.DirectoryRecords.{TwoLetters, column-at, length-columns, length-record}
 
 -- numbers in written form one behind the other, then what stands behind them
 pub columns-from : (r : List ℕ) (k : ℕ) (ns : List ℕ) → ((j : ℕ) → j < length ns → take 7 (drop (2 + 7 * (k + j)) r) ≡ written 7 (pos (getD ns j 0))) → drop (2 + 7 * k) r ≡ columnsOf ns ++ drop (2 + 7 * (k + length ns)) r

@@ -14,9 +14,11 @@ use Rattle.format.specs.Text.{bytes, same}
 use Rattle.format.specs.Basics.{none, unless, toFault, roundUp}
 use Rattle.format.specs.Column.{columnOf, formed, integer, numberOf, written}
 use Rattle.format.specs.Layout.{column, spaces}
+use Rattle.format.specs.Record.{Kind, head, item, neither, View}
+use Rattle.format.specs.Judge.{dueAfter, headersAndItems, one-if-item, items}
 use Rattle.format_directory.specs.declared.Edition.{Edition}
-use Rattle.format_directory.specs.declared.Edition.the-variants.{One}
-use Rattle.format_directory.specs.Directory.{Layer, letters, endLetters, listed, perLayer, perRecord, endListed, endColumns, columnsOf, recordOf, listedAll, row, closing, shared, directoryOf, numberIn, pointerIn, layerCount, isWritten, areWritten, closingOk, differs, listedIn, noLayer}
+use Rattle.format_directory.specs.declared.Edition.the-variants.{One, Two}
+use Rattle.format_directory.specs.Directory.{Layer, totalOf, lastOf, letters, endLetters, listed, perLayer, perRecord, endListed, endColumns, columnsOf, recordOf, listedAll, row, closing, shared, directoryOf, numberIn, pointerIn, layerCount, isWritten, areWritten, closingOk, differs, listedIn, noLayer}
 use Rattle.format.proofs.Basics.{true-and, unless-zero}
 use Rattle.format.proofs.ChecksParts.{same-decides}
 use Rattle.format.proofs.Lists.{Wide, wide-append}
@@ -26,16 +28,20 @@ use Rattle.format.proofs.JudgeWalks.{orElse-none, toFault-none}
 -- ---- what an edition has of its own
 pub length-listed : (e : Edition) (l : Layer) → length (listed e l) ≡ perLayer e
 length-listed One l = refl
+length-listed Two l = refl
 
 pub length-endListed : (e : Edition) (p c : ℕ) → length (endListed e p c) ≡ endColumns e
 length-endListed One p c = refl
+length-endListed Two p c = refl
 
 -- the numbers of so many layers fit a record
 pub row-fits : (e : Edition) (k : ℕ) → k ≤ perRecord e → perLayer e * k ≤ 11
 row-fits One k h = omega arith
+row-fits Two k h = omega arith
 
 pub end-fits : (e : Edition) → endColumns e ≤ 11
 end-fits One = omega arith
+end-fits Two = omega arith
 
 pub same-self : (l : List ℕ) → same l l ≡ true
 same-self l = go (same l l) refl
@@ -45,18 +51,20 @@ same-self l = go (same l l) refl
     go false e = absurd (same-decides l l .no e refl)
 
 -- two letters
-pub record Two (l : List ℕ) : Type 0 where
+pub record TwoLetters (l : List ℕ) : Type 0 where
   pub x : ℕ
   pub y : ℕ
   pub are : l ≡ x ∷ y ∷ []
 
-pub two-letters : (e : Edition) → Two (letters e)
+pub two-letters : (e : Edition) → TwoLetters (letters e)
 unfolding bytes
 two-letters One = record { x = 90; y = 32; are = refl }
+two-letters Two = record { x = 89; y = 32; are = refl }
 
-pub two-endLetters : (e : Edition) → Two (endLetters e)
+pub two-endLetters : (e : Edition) → TwoLetters (endLetters e)
 unfolding bytes
 two-endLetters One = record { x = 90; y = 69; are = refl }
+two-endLetters Two = record { x = 89; y = 69; are = refl }
 
 -- ---- columns of seven
 -- every number has at most seven digits
@@ -90,7 +98,7 @@ short-get (n ∷ ns) zero s l = s .0
 short-get (n ∷ ns) (suc k) s l = short-get ns k (s .1) (omega arith)
 
 -- a column is as it was written, and its number reads back
-pub column-at : (l ns : List ℕ) → Two l → (k : ℕ) → k < length ns → column (2 + 7 * k) 7 (recordOf l ns) ≡ written 7 (pos (getD ns k 0))
+pub column-at : (l ns : List ℕ) → TwoLetters l → (k : ℕ) → k < length ns → column (2 + 7 * k) 7 (recordOf l ns) ≡ written 7 (pos (getD ns k 0))
 unfolding column
 column-at l ns t k h = ap (λ (x : List ℕ). take 7 (drop (2 + 7 * k) (x ++ rest))) (t .are) ∙ ap (λ (m : ℕ). take 7 (drop m (t .x ∷ t .y ∷ rest))) two-more ∙ ap (take 7) (columns-drop ns k (replicate (82 - 7 * length ns) 32) h) ∙ take-at (written 7 (pos (getD ns k 0))) (columnsOf (drop (suc k) ns) ++ replicate (82 - 7 * length ns) 32) 7 (length-written 7 (pos (getD ns k 0)))
   where
@@ -100,7 +108,7 @@ column-at l ns t k h = ap (λ (x : List ℕ). take 7 (drop (2 + 7 * k) (x ++ res
     two-more : 2 + 7 * k ≡ suc (suc (7 * k))
     two-more = omega arith
 
-number-at : (l ns : List ℕ) → Two l → (k : ℕ) → Short ns → k < length ns → numberIn k (recordOf l ns) ≡ getD ns k 0
+number-at : (l ns : List ℕ) → TwoLetters l → (k : ℕ) → Short ns → k < length ns → numberIn k (recordOf l ns) ≡ getD ns k 0
 unfolding numberIn
 number-at l ns t k s h = ap (λ (r : List ℕ). numberOf (columnOf r)) (column-at l ns t k h) ∙ ap numberOf (seven-column (getD ns k 0) (short-get ns k s h))
 
@@ -115,7 +123,7 @@ all-written [] n s = spaces-replicate n
 all-written (m ∷ ns) n s = ap (λ (x : List ℕ). isWritten (take 7 x) && areWritten (length ns) (drop 7 x)) (append-assoc (written 7 (pos m)) (columnsOf ns) (replicate n 32)) ∙ true-and _ _ (ap isWritten (take-at (written 7 (pos m)) (columnsOf ns ++ replicate n 32) 7 (length-written 7 (pos m))) ∙ seven-written m (s .0)) (ap (areWritten (length ns)) (drop-at (written 7 (pos m)) (columnsOf ns ++ replicate n 32) 7 (length-written 7 (pos m))) ∙ all-written ns n (s .1))
 
 -- ---- widths
-pub length-record : (l ns : List ℕ) → Two l → length ns ≤ 11 → length (recordOf l ns) ≡ 84
+pub length-record : (l ns : List ℕ) → TwoLetters l → length ns ≤ 11 → length (recordOf l ns) ≡ 84
 length-record l ns t h = ap (λ (x : List ℕ). length (x ++ (columnsOf ns ++ replicate (82 - 7 * length ns) 32))) (t .are) ∙ ap (λ (k : ℕ). suc (suc k)) (length-append (columnsOf ns) (replicate (82 - 7 * length ns) 32) ∙ ap₂ (λ (a b : ℕ). a + b) (length-columns ns) (length-replicate {A = ℕ} (82 - 7 * length ns) 32)) ∙ (omega arith)
 
 pub length-listedAll : (e : Edition) (ls : List Layer) → length (listedAll e ls) ≡ perLayer e * length ls
@@ -149,14 +157,17 @@ module _ (p c : ℕ) (lp : p < 10000000) (lc : c < 10000000) where
   pub short-end : (e : Edition) → Short (endListed e p c)
   unfolding Short
   short-end One = (lp, (lc, tt))
+  short-end Two = (lp, (lc, (omega arith, tt)))
 
   pub pointer-closing : (e : Edition) → pointerIn (closing e p c) ≡ p
   unfolding closing
   pointer-closing One = number-at (endLetters One) (endListed One p c) (two-endLetters One) 0 (short-end One) (omega arith)
+  pointer-closing Two = number-at (endLetters Two) (endListed Two p c) (two-endLetters Two) 0 (short-end Two) (omega arith)
 
   pub count-closing : (e : Edition) → layerCount (closing e p c) ≡ c
   unfolding closing
   count-closing One = number-at (endLetters One) (endListed One p c) (two-endLetters One) 1 (short-end One) (omega arith)
+  count-closing Two = number-at (endLetters Two) (endListed Two p c) (two-endLetters Two) 1 (short-end Two) (omega arith)
 
   pub ok-closing : (e : Edition) (m : ℕ) → 1 ≤ p → p ≤ m → closingOk e m (closing e p c) ≡ true
   unfolding closingOk closing
@@ -165,7 +176,7 @@ module _ (p c : ℕ) (lp : p < 10000000) (lc : c < 10000000) where
       at : pointerIn (closing e p c) ≡ p
       at = pointer-closing e
 
-      t : Two (endLetters e)
+      t : TwoLetters (endLetters e)
       t = two-endLetters e
 
       rest : List ℕ
@@ -197,9 +208,20 @@ unfoldable pub AllFit : List Layer → Type 0
 AllFit [] = Unit {0}
 AllFit (l ∷ ls) = Fits l × AllFit ls
 
+items-few : (n : ℕ) (rs : List View) → items (headersAndItems n rs) ≤ length rs
+items-few n [] = omega arith
+items-few zero (r ∷ rs) = go (r .kind) (items-few (dueAfter 0 r) rs)
+  where
+    go : (k : Kind) → items (headersAndItems (dueAfter 0 r) rs) ≤ length rs → one-if-item k + items (headersAndItems (dueAfter 0 r) rs) ≤ suc (length rs)
+    go head ih = omega arith
+    go (item k) ih = omega arith
+    go neither ih = omega arith
+items-few (suc n) (r ∷ rs) = omega (arith, items-few n rs)
+
 pub short-listed : (e : Edition) (l : Layer) → Fits l → Short (listed e l)
-unfolding Short
+unfolding Short totalOf lastOf
 short-listed One l f = (omega arith, tt)
+short-listed Two l f = (omega arith, (omega (arith, items-few 0 (l .body)), (f, tt)))
 
 short-append : (a b : List ℕ) → Short a → Short b → Short (a ++ b)
 unfolding Short
@@ -286,6 +308,7 @@ module _ (e : Edition) (ls : List Layer) (p j a q i : ℕ) (f : AllFit ls) (h : 
 -- WHAT THE RIGHT DIRECTORY LISTS of layer n, from 1
 pub directory-lists : (e : Edition) (ls : List Layer) (p n i : ℕ) → AllFit ls → 1 ≤ n → n ≤ length ls → i < perLayer e → listedIn e (directoryOf e p ls) n i ≡ getD (listed e (getD ls (pred n) noLayer)) i 0
 directory-lists One ls p n i f l h k = list-at One ls p (pred n) (pred n / 11) (pred n % 11) i f (omega arith) k (omega arith) (omega arith) (omega arith)
+directory-lists Two ls p n i f l h k = list-at Two ls p (pred n) (pred n / 3) (pred n % 3) i f (omega arith) k (omega arith) (omega arith) (omega arith)
 
 -- ---- the right directory: so many rows, and the closing record
 pub directory-is : (e : Edition) (p : ℕ) (ls : List Layer) → directoryOf e p ls ≡ map (row e) (shared (perRecord e) (roundUp (length ls) (perRecord e)) ls) ++ (closing e p (length ls) ∷ [])

@@ -16,7 +16,7 @@ use Rattle.format.specs.Sheet.{partLength, sheetFault, sheetMachine, due-a}
 use Rattle.format.specs.Judge.{levelOk, openAfter, dueAfter, heldAfter, ownerAfter, walk, bodyFault, sheetCountFault, countFault, verdict, fileOf, Counts, afterStageOne, afterPart, judge, judgeRecords, judgeSheet, items, headersAndItems}
 use Rattle.format.specs.Edit.{dueBehind}
 use Rattle.format_directory.specs.declared.Edition.{Edition}
-use Rattle.format_directory.specs.declared.Edition.the-variants.{One}
+use Rattle.format_directory.specs.declared.Edition.the-variants.{One, Two}
 use Rattle.format_directory.specs.Directory.{Layer, perRecord, row, closing, shared, directoryOf, layersOf, lastRecord, pointerIn, sheetIn, directoryIn}
 use Rattle.format.proofs.Basics.{and-true}
 use Rattle.format.proofs.JudgeWalks.{Passes, orElse-none}
@@ -67,10 +67,12 @@ unknown r e = subst (λ (s : RecordType). 9 < countIndex ((viewAs s r) .kind)) (
 row-other : (e : Edition) (ls : List Layer) → typeOf (row e ls) ≡ other
 unfolding typeOf begins bytes row
 row-other One ls = refl
+row-other Two ls = refl
 
 closing-other : (e : Edition) (p c : ℕ) → typeOf (closing e p c) ≡ other
 unfolding typeOf begins bytes closing
 closing-other One p c = refl
+closing-other Two p c = refl
 
 record First (D : List (List ℕ)) : Type 0 where
   one-of : List ℕ

@@ -1,5 +1,5 @@
--- Order 5, a directory of layers at the end of a sheet: what is right, judging it, appending it, jumping by it. Assumes nothing.
-use mathlib.Core.Bool.{Bool, true, false, cond, _&&_}
+-- Order 5, a directory of layers at the end of a sheet: what is right, judging it, appending it, jumping by it; order 13, its second edition. Assumes nothing.
+use mathlib.Core.Bool.{Bool, true, false, cond, not, _&&_, _||_}
 use mathlib.Core.List.{List, [], _∷_, _++_, map}
 use Prim.Native.Nat.{ℕ, zero, suc, pred, _+_, _-_, _*_, _/_, _%_}
 use lib.Dec.{leb, ltb, eqb}
@@ -10,9 +10,9 @@ use Rattle.format.specs.Basics.{Answer, given, refused, Outcome, unless, Fault,
 use Rattle.format.specs.Column.{columnOf, formed, integer, numberOf, written}
 use Rattle.format.specs.Layout.{column, spaces}
 use Rattle.format.specs.Record.{View}
-use Rattle.format.specs.Judge.{dueAfter, isHeaderAt, fileOf, Counts, verdict, afterStageOne, judgeSheet}
+use Rattle.format.specs.Judge.{dueAfter, headersAndItems, isHeaderAt, items, fileOf, Counts, verdict, afterStageOne, judgeSheet}
 use Rattle.format_directory.specs.declared.Edition.{Edition}
-use Rattle.format_directory.specs.declared.Edition.the-variants.{One}
+use Rattle.format_directory.specs.declared.Edition.the-variants.{One, Two}
 
 -- ---- The layers of a sheet, counted from the front
 -- "A layer or group is a header followed by its body": the header's record number, and the records of the body
@@ -39,32 +39,46 @@ layersFrom (suc due) number (r ∷ rs) = layersFrom due (suc number) rs
 unfoldable pub layersOf : List (List ℕ) → List Layer
 layersOf records = layersFrom 0 (suc ((fileOf records) .partLength)) ((fileOf records) .body)
 
+-- order 13: "each layer's item total, at any depth, and last record"
+unfoldable pub totalOf : Layer → ℕ
+totalOf layer = items (headersAndItems 0 (layer .body))
+
+unfoldable pub lastOf : Layer → ℕ
+lastOf layer = layer .header + length (layer .body)
+
 -- ---- What one edition of the directory has of its own
--- (the enum `Edition`; so far there is one)
--- "records that start "Z "", "then one record "ZE""
+-- "records that start "Z "", "then one record "ZE""; "Edition 2 records start "Y "", "it ends in "YE""
 abbrev pub letters : Edition → List ℕ
 letters One = bytes "Z "
+letters Two = bytes "Y "
 
 abbrev pub endLetters : Edition → List ℕ
 endLetters One = bytes "ZE"
+endLetters Two = bytes "YE"
 
--- what is listed of a layer, and so many numbers these are: "record numbers of layer headers"
+-- what is listed of a layer, and so many numbers these are: "record numbers of layer headers"; "three I7 numbers a layer (header, total, last)"
 abbrev pub listed : Edition → Layer → List ℕ
 listed One layer = layer .header ∷ []
+listed Two layer = layer .header ∷ totalOf layer ∷ lastOf layer ∷ []
 
 abbrev pub perLayer : Edition → ℕ
 perLayer One = 1
+perLayer Two = 3
 
--- so many layers to a record: "each with up to eleven"
+-- so many layers to a record: "each with up to eleven"; "up to three layers"
 abbrev pub perRecord : Edition → ℕ
 perRecord One = 11
+perRecord Two = 3
 
--- "the number of the first "Z " record, or of "ZE" itself for no layers, and the layer count"; and so many columns these are
+-- "the number of the first "Z " record, or of "ZE" itself for no layers, and the layer count"; "back pointer, layer count and edition 2"; and so many columns
+-- these are
 abbrev pub endListed : Edition → (pointer count : ℕ) → List ℕ
 endListed One pointer count = pointer ∷ count ∷ []
+endListed Two pointer count = pointer ∷ count ∷ 2 ∷ []
 
 abbrev pub endColumns : Edition → ℕ
 endColumns One = 2
+endColumns Two = 3
 
 -- ---- The right directory of some layers
 -- "both I7"; "Columns are in written form only"
@@ -86,7 +100,7 @@ row e layers = recordOf (letters e) (listedAll e layers)
 unfoldable pub closing : Edition → (pointer count : ℕ) → List ℕ
 closing e pointer count = recordOf (endLetters e) (endListed e pointer count)
 
--- "Only the last "Z " record may hold fewer than eleven numbers, at least one, with no gap before them": so many layers to each of n records
+-- "Only the last "Z " record may hold fewer than eleven numbers, at least one, with no gap before them", "fullness .. stay": so many layers to each of n records
 abbrev pub shared : (each n : ℕ) → List Layer → List (List Layer)
 shared each zero layers = []
 shared each (suc n) layers = take each layers ∷ shared each n (drop each layers)
@@ -211,3 +225,39 @@ layerOf records n = getD (layersOf records) (pred n) noLayer
 
 unfoldable pub countedHeader : (records : List (List ℕ)) → (n : ℕ) → Answer ℕ
 countedHeader records n = inCount (length (layersOf records)) n ((layerOf records n) .header)
+
+-- ---- Order 13: "The old calls stay and refuse it with 19 at the last record; new ones read both"
+unfoldable pub isSecond : List ℕ → Bool
+isSecond r = same (take 2 r) (endLetters Two)
+
+-- the edition that a last record names by its letters
+abbrev pub editionOf : List ℕ → Edition
+editionOf r = cond (isSecond r) Two One
+
+-- "27 with the last record, when that starts "YE" but its edition column is not 2 in written form, tested directly after 1"
+unfoldable pub editionOk : List ℕ → Bool
+editionOk r = not (isSecond r) || same (column 16 7 r) (written 7 (pos 2))
+
+abbrev pub afterEdition : Bool → (number : ℕ) → Answer Counts → Answer Counts
+afterEdition true number answer = answer
+afterEdition false number answer = refused 27 number
+
+unfoldable pub judgeEitherEdition : (used : ℕ) → List ℕ → Answer Counts
+judgeEitherEdition used buffer =
+    afterStageOne (usedOk used buffer)
+    (afterEdition (editionOk (lastRecord used buffer)) (used / 84) (judgeEdition (editionOf (lastRecord used buffer)) used buffer))
+
+-- "find the same headers, with total and last beside them, both 0 for edition 1"
+pub record LayerEntry : Type 0 where
+  pub header : ℕ
+  pub total : ℕ
+  pub last : ℕ
+
+abbrev pub entryIn : Edition → (directory : List (List ℕ)) → (n : ℕ) → LayerEntry
+entryIn One directory n = record { header = listedIn One directory n 0; total = 0; last = 0 }
+entryIn Two directory n = record { header = listedIn Two directory n 0; total = listedIn Two directory n 1; last = listedIn Two directory n 2 }
+
+unfoldable pub jumpEitherEdition : (used : ℕ) → List ℕ → (n : ℕ) → Answer LayerEntry
+jumpEitherEdition used buffer n =
+    afterJudging (judgeEitherEdition used buffer)
+    (inCount (layerCount (lastRecord used buffer)) n (entryIn (editionOf (lastRecord used buffer)) (directoryIn used buffer) n))
