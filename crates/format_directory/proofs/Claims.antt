@@ -3,10 +3,11 @@
 use mathlib.Core.Path.{_≡_}
 use mathlib.Core.Logic.{_↔_}
 use mathlib.Core.List.{List}
-use Prim.Native.Nat.{ℕ, suc, _+_, _*_, _/_, _≤_, _<_}
+use Prim.Native.Nat.{ℕ, suc, _*_, _/_, _≤_, _<_}
 use lib.ListN.{length}
 use Rattle.format.specs.Basics.{given, refused, chunks}
 use Rattle.format.specs.Judge.{Counts, judgeSheet}
+use Rattle.format_directory.specs.declared.Edition.{Edition}
 use Rattle.format_directory.specs.declared.Edition.the-variants.{One}
 use Rattle.format_directory.specs.declared.Jumped.{Jumped}
 use Rattle.format_directory.specs.Answers.{jumpedAnswer}
@@ -19,27 +20,27 @@ use Rattle.format_directory.proofs.DirectoryAppended as DirectoryAppend
 use Rattle.format_directory.proofs.DirectoryJumps as DirectoryJumps
 
 -- ---- "We accept a directory exactly when it lists every layer header once, in order, and nothing else"; "Accepted judging answers the sheet's records and items"
-pub accepted-exactly : (used : ℕ) (buffer : List ℕ) (counts : Counts) → judgeDirectory used buffer ≡ given counts ↔ ListsLayers used buffer counts
+pub accepted-exactly : (used : ℕ) (buffer : List ℕ) (counts : Counts) → judgeDirectory used buffer ≡ given counts ↔ ListsLayers One used buffer counts
 accepted-exactly = DirectoryWords.lists-exactly
 
 -- ---- the order of checks: 1; then 19 with the last record, if that is no well-formed "ZE"; then the sheet's own before the pointer; then 19 with the first record that
 -- differs
-pub refused-exactly : (used : ℕ) (buffer : List ℕ) (number at : ℕ) → judgeDirectory used buffer ≡ refused number at ↔ DirectoryRefusal used buffer number at
+pub refused-exactly : (used : ℕ) (buffer : List ℕ) (number at : ℕ) → judgeDirectory used buffer ≡ refused number at ↔ DirectoryRefusal One used buffer number at
 refused-exactly = DirectoryChecks.refused-exactly
 
 -- ---- "ours passes", with the sheet's own records and items
 pub ours-passes : (used : ℕ) (buffer : List ℕ) (new : ℕ) → (appendDirectory One used buffer) .answer ≡ given new → judgeDirectory new ((appendDirectory One used buffer) .bytes) ≡ judgeSheet used buffer
 ours-passes = DirectoryJudged.ours-passes
 
--- "an append the new used length; bytes past that stay": the sheet, the directory, and every byte behind it
-pub append-leaves : (used : ℕ) (buffer : List ℕ) (new : ℕ) → (appendDirectory One used buffer) .answer ≡ given new → Appended used buffer new ((appendDirectory One used buffer) .bytes)
+-- "an append the new used length; bytes past that stay": the sheet, the directory, and every byte behind it; of either edition
+pub append-leaves : (e : Edition) (used : ℕ) (buffer : List ℕ) (new : ℕ) → (appendDirectory e used buffer) .answer ≡ given new → Appended e used buffer new ((appendDirectory e used buffer) .bytes)
 append-leaves = DirectoryAppended.append-leaves
 
 -- an append is refused by the sheet's own number, then by 15, and by nothing else; then no byte has changed
-pub append-refused : (used : ℕ) (buffer : List ℕ) (number at : ℕ) → (appendDirectory One used buffer) .answer ≡ refused number at ↔ AppendRefusal used buffer (length (layersOf (chunks (used / 84) buffer))) number at
+pub append-refused : (e : Edition) (used : ℕ) (buffer : List ℕ) (number at : ℕ) → (appendDirectory e used buffer) .answer ≡ refused number at ↔ AppendRefusal e used buffer (length (layersOf (chunks (used / 84) buffer))) number at
 append-refused = DirectoryAppended.append-refused
 
-pub append-unchanged : (used : ℕ) (buffer : List ℕ) (number at : ℕ) → (appendDirectory One used buffer) .answer ≡ refused number at → (appendDirectory One used buffer) .bytes ≡ buffer
+pub append-unchanged : (e : Edition) (used : ℕ) (buffer : List ℕ) (number at : ℕ) → (appendDirectory e used buffer) .answer ≡ refused number at → (appendDirectory e used buffer) .bytes ≡ buffer
 append-unchanged = DirectoryAppended.append-unchanged
 
 -- ---- "Jumping to layer n gives what counting from the front gives", and 17 exactly where there is no layer n

@@ -1,7 +1,8 @@
--- "We accept a directory exactly when it lists every layer header once, in order, and nothing else": judging against these words. Assumes nothing.
+-- "We accept a directory exactly when it lists every layer header once, in order, and nothing else"; "exactly when all three numbers are right for each layer":
+-- judging against these words, for every edition. Assumes nothing.
 use mathlib.Core.Path.{_≡_, refl, ap, ap₂, sym, subst, _∙_}
-use mathlib.Core.Logic.{_⊎_, inl, inr, _↔_}
-use mathlib.Core.Bool.{Bool, true, false, _||_, _&&_, false≢true}
+use mathlib.Core.Logic.{_↔_}
+use mathlib.Core.Bool.{Bool, true, false, _&&_}
 use mathlib.Core.List.{List, [], _∷_, _++_, append-nil, map}
 use Prim.Native.Nat.{ℕ, zero, suc, pred, _+_, _-_, _*_, _/_, _%_, _≤_, _<_}
 use native.Mathlib.Omega.{arith}
@@ -10,161 +11,181 @@ use lib.ListN.{length, length-append, length-drop, length-map, take, drop, getD,
 use lib.Seq.{drop-at, drop-drop, take-at, take-all, length-take-le, getD-drop, getD-at, ext-getD}
 use borrow.Author.Tests.{eqb-true, eq-eqb, ltb-true, ltb-false, leb-true, lt-ltb, le-leb}
 use Rattle.format.specs.Text.{bytes}
-use Rattle.format.specs.Basics.{given, member, chunks, flat, roundUp}
+use Rattle.format.specs.Basics.{given, member, chunks, roundUp}
 use Rattle.format.specs.Judge.{Counts, fileOf, judgeSheet}
-use Rattle.format.proofs.Basics.{and-true, true-and, or-cases}
+use Rattle.format.proofs.Basics.{and-true, true-and}
 use Rattle.format.proofs.AcceptedSheet.{counted-are}
 use Rattle.format.proofs.Lists.{length-chunks}
-use Rattle.format_directory.specs.declared.Edition.the-variants.{One}
-use Rattle.format_directory.specs.Directory.{Layer, layersOf, listedAll, recordOf, row, closing, shared, directoryOf, usedOk, lastRecord, pointerIn, sheetIn, directoryIn, judgeDirectory}
-use Rattle.format_directory.specs.DirectoryChecks.{LayerHeader, Rising, Holds, Full, ListsLayers}
-use Rattle.format_directory.proofs.DirectoryRecords.{length-shared, getD-shared, pointer-closing, directory-is, length-directory, row-at}
-use Rattle.format_directory.proofs.DirectoryLayers.{headers, true-or, later, headers-rise, only-headers, every-header}
+use Rattle.format_directory.specs.declared.Edition.{Edition}
+use Rattle.format_directory.specs.declared.Edition.the-variants.{One, Two}
+use Rattle.format_directory.specs.Directory.{Layer, layersOf, totalOf, lastOf, letters, endLetters, perLayer, perRecord, endListed, listedAll, recordOf, row, closing, shared, directoryOf, lastRecord, pointerIn, sheetIn, directoryIn, judgeDirectory, LayerEntry}
+use Rattle.format_directory.specs.DirectoryChecks.{Rising, letter, most, numbersOf, closingNumbers, Full, joined, AllSpan, ListsLayers}
+use Rattle.format_directory.proofs.RisingLists.{later, rising-same}
+use Rattle.format_directory.proofs.DirectoryRecords.{row-fits, end-fits, length-endListed, length-shared, getD-shared, pointer-closing, directory-is, length-directory, row-at}
+use Rattle.format_directory.proofs.DirectoryLayers.{headers, headers-rise, only-headers, every-header, entryOf, entries, all-span, same-entries}
 use Rattle.format_directory.proofs.DirectoryColumns.{holds-record, record-holds}
 use Rattle.format_directory.proofs.DirectoryJudged.{RightDirectory, Accepted, accepted-of, few-layers, accepted-exactly, last-behind}
 
--- ---- rising lists with the same members are the same
-pub member-first : (n : ℕ) (ns : List ℕ) → member n (n ∷ ns) ≡ true
-member-first n ns = ap (λ (t : Bool). t || member n ns) (eq-eqb n n refl)
+-- ---- what an edition has of its own, in the words and in the definitions
+pub most-is : (e : Edition) → most e ≡ perRecord e
+most-is One = refl
+most-is Two = refl
 
-pub member-rest : (n m : ℕ) (ns : List ℕ) → member n ns ≡ true → member n (m ∷ ns) ≡ true
-member-rest n m ns e = true-or (eqb n m) (member n ns) e
+some-each : (e : Edition) → 1 ≤ perRecord e
+some-each One = omega arith
+some-each Two = omega arith
 
-pub rising-above : (least : ℕ) (ns : List ℕ) → Rising least ns → (n : ℕ) → member n ns ≡ true → least ≤ n
-rising-above least [] h n e = absurd (false≢true e)
-rising-above least (m ∷ ns) h n e = go (or-cases (eqb n m) (member n ns) e) (rising-above (suc m) ns (h .1) n)
-  where
-    go : (eqb n m ≡ true) ⊎ (member n ns ≡ true) → (member n ns ≡ true → suc m ≤ n) → least ≤ n
-    go (inl q) ih = omega (arith, eqb-true n m q, h .0)
-    go (inr q) ih = omega (arith, ih q, h .0)
+letters-are : (e : Edition) → letters e ≡ letter e ∷ 32 ∷ []
+unfolding bytes
+letters-are One = refl
+letters-are Two = refl
 
-pub rising-same : (a b : ℕ) (xs ys : List ℕ) → Rising a xs → Rising b ys → ((n : ℕ) → member n xs ≡ true → member n ys ≡ true) → ((n : ℕ) → member n ys ≡ true → member n xs ≡ true) → xs ≡ ys
-rising-same a b [] [] h k f g = refl
-rising-same a b [] (y ∷ ys) h k f g = absurd (false≢true (g y (member-first y ys)))
-rising-same a b (x ∷ xs) [] h k f g = absurd (false≢true (f x (member-first x xs)))
-rising-same a b (x ∷ xs) (y ∷ ys) h k f g = ap₂ (λ (n : ℕ) (ns : List ℕ). n ∷ ns) heads (rising-same (suc x) (suc y) xs ys (h .1) (k .1) forth back)
-  where
-    below : (p q : ℕ) (qs : List ℕ) → Rising (suc q) qs → member p (q ∷ qs) ≡ true → q ≤ p
-    below p q qs r e = go (or-cases (eqb p q) (member p qs) e)
-      where
-        go : (eqb p q ≡ true) ⊎ (member p qs ≡ true) → q ≤ p
-        go (inl s) = omega (arith, eqb-true p q s)
-        go (inr s) = omega (arith, rising-above (suc q) qs r p s)
+pub endLetters-are : (e : Edition) → endLetters e ≡ letter e ∷ 69 ∷ []
+unfolding bytes
+endLetters-are One = refl
+endLetters-are Two = refl
 
-    heads : x ≡ y
-    heads = omega (arith, below x y ys (k .1) (f x (member-first x xs)), below y x xs (h .1) (g y (member-first y ys)))
+ends-are : (e : Edition) (p c : ℕ) → endListed e p c ≡ closingNumbers e p c
+ends-are One p c = refl
+ends-are Two p c = refl
 
-    -- a member behind the first of one list is behind the first of the other, which is less
-    behind : (p q : ℕ) (ps qs : List ℕ) → p ≡ q → Rising (suc p) ps → (n : ℕ) → member n ps ≡ true → member n (q ∷ qs) ≡ true → member n qs ≡ true
-    behind p q ps qs same r n e there = go (or-cases (eqb n q) (member n qs) there)
-      where
-        go : (eqb n q ≡ true) ⊎ (member n qs ≡ true) → member n qs ≡ true
-        go (inl s) = absurd (omega (arith, eqb-true n q s, same, rising-above (suc p) ps r n e))
-        go (inr s) = s
+-- so many records: none for no layers, one more for each so many
+round-none : (e : Edition) → roundUp 0 (perRecord e) ≡ 0
+round-none One = omega arith
+round-none Two = omega arith
 
-    forth : (n : ℕ) → member n xs ≡ true → member n ys ≡ true
-    forth n e = behind x y xs ys heads (h .1) n e (f n (member-rest n x xs e))
+round-more : (e : Edition) (n : ℕ) → 1 ≤ n → roundUp n (perRecord e) ≡ suc (roundUp (n - perRecord e) (perRecord e))
+round-more One n h = omega arith
+round-more Two n h = omega arith
 
-    back : (n : ℕ) → member n ys ≡ true → member n xs ≡ true
-    back n e = behind y x ys xs (sym heads) (k .1) n e (g n (member-rest n y ys e))
+none-round : (e : Edition) (n : ℕ) → 0 ≡ roundUp n (perRecord e) → n ≡ 0
+none-round One n q = omega (arith, q)
+none-round Two n q = omega (arith, q)
 
--- ---- the numbers of layers, shared among records
+one-round : (e : Edition) (n : ℕ) → 1 ≡ roundUp n (perRecord e) → (1 ≤ n) × (n ≤ perRecord e)
+one-round One n q = (omega (arith, q), omega (arith, q))
+one-round Two n q = (omega (arith, q), omega (arith, q))
+
+more-round : (e : Edition) (n k : ℕ) → suc (suc k) ≡ roundUp n (perRecord e) → (perRecord e ≤ n) × (suc k ≡ roundUp (n - perRecord e) (perRecord e))
+more-round One n k q = (omega (arith, q), omega (arith, q))
+more-round Two n k q = (omega (arith, q), omega (arith, q))
+
+-- ---- the numbers of layers
 pub length-headers : (ls : List Layer) → length (headers ls) ≡ length ls
 length-headers [] = refl
 length-headers (l ∷ ls) = ap suc (length-headers ls)
 
-headers-listed : (ls : List Layer) → listedAll One ls ≡ headers ls
-headers-listed [] = refl
-headers-listed (l ∷ ls) = ap (λ (x : List ℕ). l .header ∷ x) (headers-listed ls)
+pub length-entries : (ls : List Layer) → length (entries ls) ≡ length ls
+length-entries [] = refl
+length-entries (l ∷ ls) = ap suc (length-entries ls)
 
-headers-take : (n : ℕ) (ls : List Layer) → headers (take n ls) ≡ take n (headers ls)
-headers-take zero ls = refl
-headers-take (suc n) [] = refl
-headers-take (suc n) (l ∷ ls) = ap (λ (x : List ℕ). l .header ∷ x) (headers-take n ls)
+pub entries-headers : (ls : List Layer) → numbersOf One (entries ls) ≡ headers ls
+entries-headers [] = refl
+entries-headers (l ∷ ls) = ap (λ (x : List ℕ). l .header ∷ x) (entries-headers ls)
 
-headers-drop : (n : ℕ) (ls : List Layer) → headers (drop n ls) ≡ drop n (headers ls)
-headers-drop zero ls = refl
-headers-drop (suc n) [] = refl
-headers-drop (suc n) (l ∷ ls) = headers-drop n ls
+entries-take : (n : ℕ) (ls : List Layer) → entries (take n ls) ≡ take n (entries ls)
+entries-take zero ls = refl
+entries-take (suc n) [] = refl
+entries-take (suc n) (l ∷ ls) = ap (λ (x : List LayerEntry). entryOf l ∷ x) (entries-take n ls)
 
+entries-drop : (n : ℕ) (ls : List Layer) → entries (drop n ls) ≡ drop n (entries ls)
+entries-drop zero ls = refl
+entries-drop (suc n) [] = refl
+entries-drop (suc n) (l ∷ ls) = entries-drop n ls
+
+-- what the definitions list of layers are the words' numbers
+entries-listed : (e : Edition) (ls : List Layer) → listedAll e ls ≡ numbersOf e (entries ls)
+entries-listed e [] = refl
+entries-listed One (l ∷ ls) = ap (λ (x : List ℕ). l .header ∷ x) (entries-listed One ls)
+entries-listed Two (l ∷ ls) = ap (λ (x : List ℕ). l .header ∷ totalOf l ∷ lastOf l ∷ x) (entries-listed Two ls)
+
+length-numbers : (e : Edition) (ls : List LayerEntry) → length (numbersOf e ls) ≡ perLayer e * length ls
+length-numbers e [] = omega arith
+length-numbers One (l ∷ ls) = omega (arith, length-numbers One ls)
+length-numbers Two (l ∷ ls) = omega (arith, length-numbers Two ls)
+
+-- ---- layers, shared among records
 none-of : (ls : List Layer) → length ls ≡ 0 → ls ≡ []
 none-of [] e = refl
 none-of (l ∷ ls) e = absurd (omega arith)
 
-abbrev groupsOf : ℕ → List Layer → List (List ℕ)
-groupsOf n ls = map headers (shared 11 n ls)
+abbrev groupsOf : (each : ℕ) → ℕ → List Layer → List (List LayerEntry)
+groupsOf each n ls = map entries (shared each n ls)
 
--- full records with these numbers are those
-pub groups-are : (numbers : List (List ℕ)) → Full numbers → (ls : List Layer) → flat numbers ≡ headers ls → (length numbers ≡ roundUp (length ls) 11) × (groupsOf (length numbers) ls ≡ numbers)
-groups-are [] f ls e = (omega (arith, ap length e, length-headers ls), refl)
-groups-are (ns ∷ []) f ls e = (omega (arith, long, f .0, f .1), ap (λ (x : List ℕ). x ∷ []) (ap headers (take-all 11 ls (let q : length ls ≤ 11 = omega (arith, long, f .1) in q)) ∙ sym whole))
-  where
-    whole : ns ≡ headers ls
-    whole = sym (append-nil ns) ∙ e
+module _ (e : Edition) where
+  -- full records with these layers are those
+  groups-are : (groups : List (List LayerEntry)) → Full (perRecord e) groups → (ls : List Layer) → joined groups ≡ entries ls → (length groups ≡ roundUp (length ls) (perRecord e)) × (groupsOf (perRecord e) (length groups) ls ≡ groups)
+  groups-are [] f ls q = (sym (ap (λ (n : ℕ). roundUp n (perRecord e)) (let z : length ls ≡ 0 = omega (arith, ap length q, length-entries ls) in z) ∙ round-none e), refl)
+  groups-are (g ∷ []) f ls q = (sym (round-more e (length ls) (omega (arith, long, f .0)) ∙ ap suc (ap (λ (n : ℕ). roundUp n (perRecord e)) (let z : length ls - perRecord e ≡ 0 = omega (arith, long, f .1) in z) ∙ round-none e)), ap (λ (x : List LayerEntry). x ∷ []) (ap entries (take-all (perRecord e) ls (let z : length ls ≤ perRecord e = omega (arith, long, f .1) in z)) ∙ sym whole))
+    where
+      whole : g ≡ entries ls
+      whole = sym (append-nil g) ∙ q
 
-    long : length ns ≡ length ls
-    long = ap length whole ∙ length-headers ls
-groups-are (ns ∷ next ∷ rest) f ls e =
-    let ih : (length (next ∷ rest) ≡ roundUp (length (drop 11 ls)) 11) × (groupsOf (length (next ∷ rest)) (drop 11 ls) ≡ next ∷ rest) = groups-are (next ∷ rest) (f .1) (drop 11 ls) others-are in
-    (omega (arith, ih .0, length-drop 11 ls, enough), ap₂ (λ (x : List ℕ) (y : List (List ℕ)). x ∷ y) (headers-take 11 ls ∙ sym first-are) (ih .1))
-  where
-    first-are : ns ≡ take 11 (headers ls)
-    first-are = sym (take-at ns (flat (next ∷ rest)) 11 (f .0)) ∙ ap (take 11) e
+      long : length g ≡ length ls
+      long = ap length whole ∙ length-entries ls
+  groups-are (g ∷ next ∷ rest) f ls q =
+      let ih : (length (next ∷ rest) ≡ roundUp (length (drop (perRecord e) ls)) (perRecord e)) × (groupsOf (perRecord e) (length (next ∷ rest)) (drop (perRecord e) ls) ≡ next ∷ rest) = groups-are (next ∷ rest) (f .1) (drop (perRecord e) ls) others-are in
+      (ap suc (ih .0 ∙ ap (λ (n : ℕ). roundUp n (perRecord e)) (length-drop (perRecord e) ls)) ∙ sym (round-more e (length ls) (omega (arith, enough))), ap₂ (λ (x : List LayerEntry) (y : List (List LayerEntry)). x ∷ y) (entries-take (perRecord e) ls ∙ sym first-are) (ih .1))
+    where
+      first-are : g ≡ take (perRecord e) (entries ls)
+      first-are = sym (take-at g (joined (next ∷ rest)) (perRecord e) (f .0)) ∙ ap (take (perRecord e)) q
 
-    others-are : flat (next ∷ rest) ≡ headers (drop 11 ls)
-    others-are = sym (drop-at ns (flat (next ∷ rest)) 11 (f .0)) ∙ ap (drop 11) e ∙ sym (headers-drop 11 ls)
+      others-are : joined (next ∷ rest) ≡ entries (drop (perRecord e) ls)
+      others-are = sym (drop-at g (joined (next ∷ rest)) (perRecord e) (f .0)) ∙ ap (drop (perRecord e)) q ∙ sym (entries-drop (perRecord e) ls)
 
-    some : (x : List (List ℕ)) → Full x → 1 ≤ length x → 1 ≤ length (flat x)
-    some [] g h = absurd (omega arith)
-    some (a ∷ []) g h = rw (append-nil a) (g .0)
-    some (a ∷ c ∷ x) g h = rw (length-append a (flat (c ∷ x))) (omega (arith, g .0))
+      enough : 1 ≤ length ls
+      enough = omega (arith, some-each e, ap length q ∙ length-entries ls, length-append g (joined (next ∷ rest)), f .0)
 
-    enough : 11 < length ls
-    enough = omega (arith, ap length e ∙ length-headers ls, length-append ns (flat (next ∷ rest)), f .0, some (next ∷ rest) (f .1) (omega arith))
+  -- and those are full
+  groups-full : (n : ℕ) (ls : List Layer) → n ≡ roundUp (length ls) (perRecord e) → Full (perRecord e) (groupsOf (perRecord e) n ls) × (joined (groupsOf (perRecord e) n ls) ≡ entries ls)
+  groups-full zero ls q = (tt, sym (ap entries (none-of ls (none-round e (length ls) q))))
+  groups-full (suc zero) ls q = ((omega (arith, long, one-round e (length ls) q .0), omega (arith, long, one-round e (length ls) q .1)), append-nil (entries (take (perRecord e) ls)) ∙ ap entries (take-all (perRecord e) ls (one-round e (length ls) q .1)))
+    where
+      long : length (entries (take (perRecord e) ls)) ≡ length ls
+      long = length-entries (take (perRecord e) ls) ∙ ap length (take-all (perRecord e) ls (one-round e (length ls) q .1))
+  groups-full (suc (suc n)) ls q =
+      let ih : Full (perRecord e) (groupsOf (perRecord e) (suc n) (drop (perRecord e) ls)) × (joined (groupsOf (perRecord e) (suc n) (drop (perRecord e) ls)) ≡ entries (drop (perRecord e) ls)) = groups-full (suc n) (drop (perRecord e) ls) (more-round e (length ls) n q .1 ∙ ap (λ (k : ℕ). roundUp k (perRecord e)) (sym (length-drop (perRecord e) ls))) in
+      ((length-entries (take (perRecord e) ls) ∙ length-take-le (perRecord e) ls (more-round e (length ls) n q .0), ih .0), ap₂ (λ (x y : List LayerEntry). x ++ y) (entries-take (perRecord e) ls) (ih .1 ∙ entries-drop (perRecord e) ls) ∙ take-append-drop (perRecord e) (entries ls))
 
--- and those are full
-pub groups-full : (n : ℕ) (ls : List Layer) → n ≡ roundUp (length ls) 11 → Full (groupsOf n ls) × (flat (groupsOf n ls) ≡ headers ls)
-groups-full zero ls e = (tt, sym (ap headers (none-of ls (let q : length ls ≡ 0 = omega (arith, e) in q))))
-groups-full (suc zero) ls e = ((omega (arith, long, e), omega (arith, long, e)), append-nil (headers (take 11 ls)) ∙ ap headers (take-all 11 ls (let q : length ls ≤ 11 = omega (arith, e) in q)))
-  where
-    long : length (headers (take 11 ls)) ≡ length ls
-    long = length-headers (take 11 ls) ∙ ap length (take-all 11 ls (let q : length ls ≤ 11 = omega (arith, e) in q))
-groups-full (suc (suc n)) ls e =
-    let ih : Full (groupsOf (suc n) (drop 11 ls)) × (flat (groupsOf (suc n) (drop 11 ls)) ≡ headers (drop 11 ls)) = groups-full (suc n) (drop 11 ls) (omega (arith, e, length-drop 11 ls)) in
-    ((length-headers (take 11 ls) ∙ length-take-le 11 ls (let q : 11 ≤ length ls = omega (arith, e) in q), ih .0), ap₂ (λ (x y : List ℕ). x ++ y) (headers-take 11 ls) (ih .1 ∙ headers-drop 11 ls) ∙ take-append-drop 11 (headers ls))
-
-group-few : (numbers : List (List ℕ)) → Full numbers → (i : ℕ) → i < length numbers → length (getD numbers i []) ≤ 11
-group-few [] f i h = absurd (omega arith)
-group-few (ns ∷ []) f zero h = f .1
-group-few (ns ∷ []) f (suc i) h = absurd (omega arith)
-group-few (ns ∷ next ∷ rest) f zero h = omega (arith, f .0)
-group-few (ns ∷ next ∷ rest) f (suc i) h = group-few (next ∷ rest) (f .1) i (omega arith)
+group-few : (most : ℕ) (groups : List (List LayerEntry)) → Full most groups → (i : ℕ) → i < length groups → length (getD groups i []) ≤ most
+group-few most [] f i h = absurd (omega arith)
+group-few most (g ∷ []) f zero h = f .1
+group-few most (g ∷ []) f (suc i) h = absurd (omega arith)
+group-few most (g ∷ next ∷ rest) f zero h = omega (arith, f .0)
+group-few most (g ∷ next ∷ rest) f (suc i) h = group-few most (next ∷ rest) (f .1) i (omega arith)
 
 -- ---- the records of the right directory, by their numbers
-map-at : (G : List (List Layer)) (i : ℕ) → getD (map headers G) i [] ≡ headers (getD G i [])
+map-at : (G : List (List Layer)) (i : ℕ) → getD (map entries G) i [] ≡ entries (getD G i [])
 map-at [] i = refl
 map-at (g ∷ G) zero = refl
 map-at (g ∷ G) (suc i) = map-at G i
 
-module _ (p : ℕ) (ls : List Layer) where
+module _ (e : Edition) (p : ℕ) (ls : List Layer) where
   abbrev rows : ℕ
-  rows = roundUp (length ls) 11
+  rows = roundUp (length ls) (perRecord e)
 
-  listing-at : (i : ℕ) → i < rows → getD (directoryOf One p ls) i [] ≡ recordOf (90 ∷ 32 ∷ []) (getD (groupsOf rows ls) i [])
-  unfolding row bytes
-  listing-at i h = row-at One p ls i h ∙ ap (recordOf (90 ∷ 32 ∷ [])) (headers-listed (take 11 (drop (11 * i) ls)) ∙ ap headers (sym (getD-shared 11 rows ls i h)) ∙ sym (map-at (shared 11 rows ls) i))
+  listing-at : (i : ℕ) → i < rows → getD (directoryOf e p ls) i [] ≡ recordOf (letter e ∷ 32 ∷ []) (numbersOf e (getD (groupsOf (perRecord e) rows ls) i []))
+  unfolding row
+  listing-at i h = row-at e p ls i h ∙ ap₂ recordOf (letters-are e) (entries-listed e (take (perRecord e) (drop (perRecord e * i) ls)) ∙ ap (λ (x : List Layer). numbersOf e (entries x)) (sym (getD-shared (perRecord e) rows ls i h)) ∙ ap (numbersOf e) (sym (map-at (shared (perRecord e) rows ls) i)))
 
-  closing-last : getD (directoryOf One p ls) rows [] ≡ recordOf (90 ∷ 69 ∷ []) (p ∷ length ls ∷ [])
-  unfolding closing bytes
-  closing-last = ap (λ (x : List (List ℕ)). getD x rows []) (directory-is One p ls) ∙ getD-at (map (row One) (shared 11 rows ls)) (closing One p (length ls)) [] [] rows (length-map (shared 11 rows ls) (row One) ∙ length-shared 11 rows ls)
+  closing-last : getD (directoryOf e p ls) rows [] ≡ recordOf (letter e ∷ 69 ∷ []) (closingNumbers e p (length ls))
+  unfolding closing
+  closing-last = ap (λ (x : List (List ℕ)). getD x rows []) (directory-is e p ls) ∙ getD-at (map (row e) (shared (perRecord e) rows ls)) (closing e p (length ls)) [] [] rows (length-map (shared (perRecord e) rows ls) (row e) ∙ length-shared (perRecord e) rows ls) ∙ ap₂ recordOf (endLetters-are e) (ends-are e p (length ls))
 
--- ---- a sheet of s records, behind it its right directory to the end of the file
-pub record Behind (used : ℕ) (b : List ℕ) (c : Counts) : Type 0 where
+-- so many numbers fit a record
+listing-few : (e : Edition) (g : List LayerEntry) → length g ≤ perRecord e → length (numbersOf e g) ≤ 11
+listing-few e g h = omega (arith, length-numbers e g, row-fits e (length g) h)
+
+closing-few : (e : Edition) (p c : ℕ) → length (closingNumbers e p c) ≤ 11
+closing-few e p c = omega (arith, ap length (ends-are e p c), length-endListed e p c, end-fits e)
+
+-- ---- a sheet, behind it its right directory to the end of the file
+pub record Behind (e : Edition) (used : ℕ) (b : List ℕ) (c : Counts) : Type 0 where
   pub inside : used ≤ length b
   pub even : used % 84 ≡ 0
   pub sheet : judgeSheet (84 * c .records) b ≡ given c
   pub high : suc (c .records) ≤ used / 84
-  pub directory : drop (c .records) (chunks (used / 84) b) ≡ directoryOf One (suc (c .records)) (layersOf (chunks (c .records) b))
+  pub directory : drop (c .records) (chunks (used / 84) b) ≡ directoryOf e (suc (c .records)) (layersOf (chunks (c .records) b))
 
 pub chunk-at : (n k : ℕ) (b : List ℕ) → k < n → getD (chunks n b) k [] ≡ take 84 (drop (84 * k) b)
 chunk-at zero k b h = absurd (omega arith)
@@ -185,134 +206,152 @@ module _ (b : List ℕ) (c : Counts) (sheet : judgeSheet (84 * c .records) b ≡
   layers-small = few-layers (chunks (c .records) b) (c .records) c sheet-accepted
 
 -- ---- from the words
-module _ (used : ℕ) (b : List ℕ) (c : Counts) (l : ListsLayers used b c) where
+module _ (e : Edition) (used : ℕ) (b : List ℕ) (c : Counts) (l : ListsLayers e used b c) where
   abbrev s : ℕ
   s = c .records
 
   abbrev ls : List Layer
   ls = layersOf (chunks (c .records) b)
 
-  flat-is : flat (l .numbers) ≡ headers ls
-  flat-is = rising-same 0 (suc ((fileOf (chunks s b)) .partLength)) (flat (l .numbers)) (headers ls) (l .rising) (headers-rise (chunks s b)) (λ n e. every-header (chunks s b) n (l .every n .0 e)) (λ n e. l .every n .1 (only-headers (chunks s b) n e))
+  headers-are : numbersOf One (joined (l .layers)) ≡ headers ls
+  headers-are = rising-same 0 (suc ((fileOf (chunks s b)) .partLength)) (numbersOf One (joined (l .layers))) (headers ls) (l .rising) (headers-rise (chunks s b)) (λ n q. every-header (chunks s b) n (l .every n .0 q)) (λ n q. l .every n .1 (only-headers (chunks s b) n q))
 
-  count-is : length (flat (l .numbers)) ≡ length ls
-  count-is = ap length flat-is ∙ length-headers ls
+  -- WHAT IS LISTED IS WHAT IS COUNTED, total and last record with it
+  pub joined-are : joined (l .layers) ≡ entries (layersOf (chunks (c .records) b))
+  joined-are = same-entries (chunks s b) c (sheet-accepted b c (l .sheet) .judged) (joined (l .layers)) (entries ls) (l .right) (all-span (chunks s b) c (sheet-accepted b c (l .sheet) .judged)) (headers-are ∙ sym (entries-headers ls))
 
-  rows-are : length (l .numbers) ≡ roundUp (length ls) 11
-  rows-are = groups-are (l .numbers) (l .full) ls flat-is .0
+  count-is : length (joined (l .layers)) ≡ length ls
+  count-is = ap length joined-are ∙ length-entries ls
 
-  numbers-are : groupsOf (roundUp (length ls) 11) ls ≡ l .numbers
-  numbers-are = ap (λ (n : ℕ). groupsOf n ls) (sym rows-are) ∙ groups-are (l .numbers) (l .full) ls flat-is .1
+  all-full : Full (perRecord e) (l .layers)
+  all-full = subst (λ (n : ℕ). Full n (l .layers)) (most-is e) (l .full)
 
-  records-in : used / 84 ≡ s + length (l .numbers) + 1
+  rows-are : length (l .layers) ≡ roundUp (length ls) (perRecord e)
+  rows-are = groups-are e (l .layers) all-full ls joined-are .0
+
+  layers-are : groupsOf (perRecord e) (roundUp (length ls) (perRecord e)) ls ≡ l .layers
+  layers-are = ap (λ (n : ℕ). groupsOf (perRecord e) n ls) (sym rows-are) ∙ groups-are e (l .layers) all-full ls joined-are .1
+
+  records-in : used / 84 ≡ s + length (l .layers) + 1
   records-in = omega (arith, l .used-is)
 
-  pub words-behind : Behind used b c
+  pub words-behind : Behind e used b c
   words-behind = record {
     inside = l .inside;
     even = omega (arith, l .used-is);
     sheet = l .sheet;
     high = omega (arith, records-in);
-    directory = ext-getD [] (drop s (chunks (used / 84) b)) (directoryOf One (suc s) ls) (long ∙ sym (length-directory One (suc s) ls)) each;
+    directory = ext-getD [] (drop s (chunks (used / 84) b)) (directoryOf e (suc s) ls) (long ∙ sym (length-directory e (suc s) ls)) each;
   }
     where
-      long : length (drop s (chunks (used / 84) b)) ≡ roundUp (length ls) 11 + 1
+      long : length (drop s (chunks (used / 84) b)) ≡ roundUp (length ls) (perRecord e) + 1
       long = length-drop s (chunks (used / 84) b) ∙ (omega (arith, length-chunks (used / 84) b, records-in, rows-are))
 
       there : (i : ℕ) → s + i < used / 84 → getD (drop s (chunks (used / 84) b)) i [] ≡ take 84 (drop (84 * (s + i)) b)
       there i h = record-there used b c (l .inside) (omega (arith, records-in)) i h
 
-      listed : (i : ℕ) → i < length (l .numbers) → getD (drop s (chunks (used / 84) b)) i [] ≡ getD (directoryOf One (suc s) ls) i []
-      listed i h = there i (omega (arith, records-in)) ∙ holds-record b (s + i) (omega (arith, l .inside, l .used-is)) 90 32 (getD (l .numbers) i []) (group-few (l .numbers) (l .full) i h) (l .listing i h) ∙ sym (listing-at (suc s) ls i (omega (arith, rows-are)) ∙ ap (λ (x : List (List ℕ)). recordOf (90 ∷ 32 ∷ []) (getD x i [])) numbers-are)
+      listed : (i : ℕ) → i < length (l .layers) → getD (drop s (chunks (used / 84) b)) i [] ≡ getD (directoryOf e (suc s) ls) i []
+      listed i h = there i (omega (arith, records-in)) ∙ holds-record b (s + i) (omega (arith, l .inside, l .used-is)) (letter e) 32 (numbersOf e (getD (l .layers) i [])) (listing-few e (getD (l .layers) i []) (group-few (perRecord e) (l .layers) all-full i h)) (l .listing i h) ∙ sym (listing-at e (suc s) ls i (omega (arith, rows-are)) ∙ ap (λ (x : List (List LayerEntry)). recordOf (letter e ∷ 32 ∷ []) (numbersOf e (getD x i []))) layers-are)
 
-      closed : getD (drop s (chunks (used / 84) b)) (length (l .numbers)) [] ≡ getD (directoryOf One (suc s) ls) (length (l .numbers)) []
-      closed = there (length (l .numbers)) (omega (arith, records-in)) ∙ holds-record b (s + length (l .numbers)) (omega (arith, l .inside, l .used-is)) 90 69 (suc s ∷ length (flat (l .numbers)) ∷ []) (omega arith) (l .closing) ∙ ap (λ (n : ℕ). recordOf (90 ∷ 69 ∷ []) (suc s ∷ n ∷ [])) count-is ∙ sym (ap (λ (n : ℕ). getD (directoryOf One (suc s) ls) n []) rows-are ∙ closing-last (suc s) ls)
+      closed : getD (drop s (chunks (used / 84) b)) (length (l .layers)) [] ≡ getD (directoryOf e (suc s) ls) (length (l .layers)) []
+      closed = there (length (l .layers)) (omega (arith, records-in)) ∙ holds-record b (s + length (l .layers)) (omega (arith, l .inside, l .used-is)) (letter e) 69 (closingNumbers e (suc s) (length (joined (l .layers)))) (closing-few e (suc s) (length (joined (l .layers)))) (l .closing) ∙ ap (λ (n : ℕ). recordOf (letter e ∷ 69 ∷ []) (closingNumbers e (suc s) n)) count-is ∙ sym (ap (λ (n : ℕ). getD (directoryOf e (suc s) ls) n []) rows-are ∙ closing-last e (suc s) ls)
 
-      each : (i : ℕ) → i < length (drop s (chunks (used / 84) b)) → getD (drop s (chunks (used / 84) b)) i [] ≡ getD (directoryOf One (suc s) ls) i []
-      each i h = go (ltb i (length (l .numbers))) refl
+      each : (i : ℕ) → i < length (drop s (chunks (used / 84) b)) → getD (drop s (chunks (used / 84) b)) i [] ≡ getD (directoryOf e (suc s) ls) i []
+      each i h = go (ltb i (length (l .layers))) refl
         where
-          go : (t : Bool) → ltb i (length (l .numbers)) ≡ t → getD (drop s (chunks (used / 84) b)) i [] ≡ getD (directoryOf One (suc s) ls) i []
-          go true e = listed i (ltb-true i (length (l .numbers)) e)
-          go false e = let q : i ≡ length (l .numbers) = omega (arith, ltb-false i (length (l .numbers)) e, long, rows-are, h) in ap (λ (n : ℕ). getD (drop s (chunks (used / 84) b)) n []) q ∙ closed ∙ sym (ap (λ (n : ℕ). getD (directoryOf One (suc s) ls) n []) q)
+          go : (t : Bool) → ltb i (length (l .layers)) ≡ t → getD (drop s (chunks (used / 84) b)) i [] ≡ getD (directoryOf e (suc s) ls) i []
+          go true q = listed i (ltb-true i (length (l .layers)) q)
+          go false q = let z : i ≡ length (l .layers) = omega (arith, ltb-false i (length (l .layers)) q, long, rows-are, h) in ap (λ (n : ℕ). getD (drop s (chunks (used / 84) b)) n []) z ∙ closed ∙ sym (ap (λ (n : ℕ). getD (directoryOf e (suc s) ls) n []) z)
 
 -- ---- to the words
-module _ (used : ℕ) (b : List ℕ) (c : Counts) (r : Behind used b c) where
+module _ (e : Edition) (used : ℕ) (b : List ℕ) (c : Counts) (r : Behind e used b c) where
   abbrev s′ : ℕ
   s′ = c .records
 
   abbrev ls′ : List Layer
   ls′ = layersOf (chunks (c .records) b)
 
-  abbrev numbers′ : List (List ℕ)
-  numbers′ = groupsOf (roundUp (length (layersOf (chunks (c .records) b))) 11) (layersOf (chunks (c .records) b))
+  abbrev layers′ : List (List LayerEntry)
+  layers′ = groupsOf (perRecord e) (roundUp (length (layersOf (chunks (c .records) b))) (perRecord e)) (layersOf (chunks (c .records) b))
 
-  rows-count : length numbers′ ≡ roundUp (length ls′) 11
-  rows-count = length-map (shared 11 (roundUp (length ls′) 11) ls′) headers ∙ length-shared 11 (roundUp (length ls′) 11) ls′
+  rows-count : length layers′ ≡ roundUp (length ls′) (perRecord e)
+  rows-count = length-map (shared (perRecord e) (roundUp (length ls′) (perRecord e)) ls′) entries ∙ length-shared (perRecord e) (roundUp (length ls′) (perRecord e)) ls′
 
-  groups : Full numbers′ × (flat numbers′ ≡ headers ls′)
-  groups = groups-full (roundUp (length ls′) 11) ls′ refl
+  groups : Full (perRecord e) layers′ × (joined layers′ ≡ entries ls′)
+  groups = groups-full e (roundUp (length ls′) (perRecord e)) ls′ refl
 
-  records-all : used / 84 ≡ s′ + length numbers′ + 1
-  records-all = omega (arith, sym (length-drop s′ (chunks (used / 84) b)) ∙ ap length (r .directory) ∙ length-directory One (suc s′) ls′, length-chunks (used / 84) b, rows-count, r .high)
+  groups-headers : numbersOf One (joined layers′) ≡ headers ls′
+  groups-headers = ap (numbersOf One) (groups .1) ∙ entries-headers ls′
 
-  used-all : used ≡ 84 * (s′ + length numbers′ + 1)
+  records-all : used / 84 ≡ s′ + length layers′ + 1
+  records-all = omega (arith, sym (length-drop s′ (chunks (used / 84) b)) ∙ ap length (r .directory) ∙ length-directory e (suc s′) ls′, length-chunks (used / 84) b, rows-count, r .high)
+
+  used-all : used ≡ 84 * (s′ + length layers′ + 1)
   used-all = omega (arith, records-all, r .even)
 
-  behind-words : ListsLayers used b c
+  pub behind-words : ListsLayers e used b c
   behind-words = record {
     inside = r .inside;
     sheet = r .sheet;
-    numbers = numbers′;
-    full = groups .0;
-    listing = λ i h. record-holds b (s′ + i) (omega (arith, r .inside, used-all)) 90 32 (getD numbers′ i []) (group-few numbers′ (groups .0) i h) (sym (there i (omega (arith, records-all))) ∙ ap (λ (x : List (List ℕ)). getD x i []) (r .directory) ∙ listing-at (suc s′) ls′ i (omega (arith, rows-count)));
-    closing = record-holds b (s′ + length numbers′) (omega (arith, r .inside, used-all)) 90 69 (suc s′ ∷ length (flat numbers′) ∷ []) (omega arith) (sym (there (length numbers′) (omega (arith, records-all))) ∙ ap₂ (λ (x : List (List ℕ)) (n : ℕ). getD x n []) (r .directory) rows-count ∙ closing-last (suc s′) ls′ ∙ ap (λ (n : ℕ). recordOf (90 ∷ 69 ∷ []) (suc s′ ∷ n ∷ [])) (sym (ap length (groups .1) ∙ length-headers ls′)));
+    layers = layers′;
+    full = subst (λ (n : ℕ). Full n layers′) (sym (most-is e)) (groups .0);
+    listing = λ i h. record-holds b (s′ + i) (omega (arith, r .inside, used-all)) (letter e) 32 (numbersOf e (getD layers′ i [])) (listing-few e (getD layers′ i []) (group-few (perRecord e) layers′ (groups .0) i h)) (sym (there i (omega (arith, records-all))) ∙ ap (λ (x : List (List ℕ)). getD x i []) (r .directory) ∙ listing-at e (suc s′) ls′ i (omega (arith, rows-count)));
+    closing = record-holds b (s′ + length layers′) (omega (arith, r .inside, used-all)) (letter e) 69 (closingNumbers e (suc s′) (length (joined layers′))) (closing-few e (suc s′) (length (joined layers′))) (sym (there (length layers′) (omega (arith, records-all))) ∙ ap₂ (λ (x : List (List ℕ)) (n : ℕ). getD x n []) (r .directory) rows-count ∙ closing-last e (suc s′) ls′ ∙ ap (λ (n : ℕ). recordOf (letter e ∷ 69 ∷ []) (closingNumbers e (suc s′) n)) (sym (ap length (groups .1) ∙ length-entries ls′)));
     used-is = used-all;
-    every = λ n. (λ e. only-headers (chunks s′ b) n (ap (member n) (sym (groups .1)) ∙ e), λ h. ap (member n) (groups .1) ∙ every-header (chunks s′ b) n h);
-    rising = subst (Rising 0) (sym (groups .1)) (later (suc ((fileOf (chunks s′ b)) .partLength)) 0 (headers ls′) (omega arith) (headers-rise (chunks s′ b)));
+    every = λ n. (λ q. only-headers (chunks s′ b) n (ap (member n) (sym groups-headers) ∙ q), λ h. ap (member n) groups-headers ∙ every-header (chunks s′ b) n h);
+    rising = subst (Rising 0) (sym groups-headers) (later (suc ((fileOf (chunks s′ b)) .partLength)) 0 (headers ls′) (omega arith) (headers-rise (chunks s′ b)));
+    right = subst (AllSpan (chunks s′ b)) (sym (groups .1)) (all-span (chunks s′ b) c (sheet-accepted b c (r .sheet) .judged));
   }
     where
       there : (i : ℕ) → s′ + i < used / 84 → getD (drop s′ (chunks (used / 84) b)) i [] ≡ take 84 (drop (84 * (s′ + i)) b)
       there i h = record-there used b c (r .inside) (r .high) i h
 
 -- ---- and what judging asks
-module _ (used : ℕ) (b : List ℕ) (c : Counts) where
-  right-behind : RightDirectory One used b c → Behind used b c
+module _ (e : Edition) (used : ℕ) (b : List ℕ) (c : Counts) where
+  pub right-records : RightDirectory e used b c → pointerIn (lastRecord used b) ≡ suc (c .records)
+  right-records r = omega (arith, counted-are (record { counts = c; judged = r .sheet }), r .low)
+
+  right-behind : RightDirectory e used b c → Behind e used b c
   unfolding sheetIn directoryIn
   right-behind r = record {
     inside = leb-true used (length b) (y .1);
     even = eqb-true (used % 84) 0 (x .1);
-    sheet = ap (λ (n : ℕ). judgeSheet (84 * n) b) (sym records) ∙ r .sheet;
-    high = omega (arith, records, r .low, r .high);
-    directory = ap (λ (n : ℕ). drop n (chunks (used / 84) b)) (sym records) ∙ r .directory ∙ ap₂ (λ (p n : ℕ). directoryOf One p (layersOf (chunks n b))) (let q : pointerIn (lastRecord used b) ≡ suc (c .records) = omega (arith, records, r .low) in q) records;
+    sheet = ap (λ (p : ℕ). judgeSheet (84 * pred p) b) (sym (right-records r)) ∙ r .sheet;
+    high = omega (arith, right-records r, r .high);
+    directory = ap (λ (p : ℕ). drop (pred p) (chunks (used / 84) b)) (sym (right-records r)) ∙ r .directory ∙ ap (λ (p : ℕ). directoryOf e p (layersOf (chunks (pred p) b))) (right-records r);
   }
     where
-      records : pred (pointerIn (lastRecord used b)) ≡ c .records
-      records = (let q : pred (pointerIn (lastRecord used b)) ≡ 84 * pred (pointerIn (lastRecord used b)) / 84 = omega arith in q) ∙ counted-are (record { counts = c; judged = r .sheet })
-
       x : (ltb 0 used && leb used (length b) ≡ true) × (eqb (used % 84) 0 ≡ true)
       x = and-true _ _ (r .whole)
 
       y : (ltb 0 used ≡ true) × (leb used (length b) ≡ true)
       y = and-true _ _ (x .0)
 
-  module _ (r : Behind used b c) where
-    last-closes : lastRecord used b ≡ closing One (suc (c .records)) (length (layersOf (chunks (c .records) b)))
+  module _ (r : Behind e used b c) where
+    last-closes : lastRecord used b ≡ closing e (suc (c .records)) (length (layersOf (chunks (c .records) b)))
     unfolding lastRecord
-    last-closes = last-behind (chunks (used / 84) b) (map (row One) (shared 11 (roundUp (length (layersOf (chunks (c .records) b))) 11) (layersOf (chunks (c .records) b)))) (closing One (suc (c .records)) (length (layersOf (chunks (c .records) b)))) (c .records) (used / 84) (length-chunks (used / 84) b) (omega (arith, r .high)) (r .directory ∙ directory-is One (suc (c .records)) (layersOf (chunks (c .records) b)))
+    last-closes = last-behind (chunks (used / 84) b) (map (row e) (shared (perRecord e) (roundUp (length (layersOf (chunks (c .records) b))) (perRecord e)) (layersOf (chunks (c .records) b)))) (closing e (suc (c .records)) (length (layersOf (chunks (c .records) b)))) (c .records) (used / 84) (length-chunks (used / 84) b) (omega (arith, r .high)) (r .directory ∙ directory-is e (suc (c .records)) (layersOf (chunks (c .records) b)))
 
     points : pointerIn (lastRecord used b) ≡ suc (c .records)
-    points = ap pointerIn last-closes ∙ pointer-closing (suc (c .records)) (length (layersOf (chunks (c .records) b))) (omega (arith, sheet-accepted b c (r .sheet) .few)) (omega (arith, layers-small b c (r .sheet), sheet-accepted b c (r .sheet) .few)) One
+    points = ap pointerIn last-closes ∙ pointer-closing (suc (c .records)) (length (layersOf (chunks (c .records) b))) (omega (arith, sheet-accepted b c (r .sheet) .few)) (omega (arith, layers-small b c (r .sheet), sheet-accepted b c (r .sheet) .few)) e
 
-    pub behind-right : RightDirectory One used b c
+    pub behind-right : RightDirectory e used b c
     unfolding sheetIn directoryIn
     behind-right = record {
       whole = true-and _ _ (true-and _ _ (lt-ltb 0 used (omega (arith, r .high))) (le-leb used (length b) (r .inside))) (eq-eqb (used % 84) 0 (r .even));
       low = omega (arith, points);
       high = omega (arith, points, r .high);
       sheet = ap (λ (p : ℕ). judgeSheet (84 * pred p) b) points ∙ r .sheet;
-      directory = ap (λ (p : ℕ). drop (pred p) (chunks (used / 84) b)) points ∙ r .directory ∙ sym (ap (λ (p : ℕ). directoryOf One p (layersOf (chunks (pred p) b))) points);
+      directory = ap (λ (p : ℕ). drop (pred p) (chunks (used / 84) b)) points ∙ r .directory ∙ sym (ap (λ (p : ℕ). directoryOf e p (layersOf (chunks (pred p) b))) points);
     }
 
+-- the right directory of either edition is what the words ask
+pub right-lists : (e : Edition) (used : ℕ) (b : List ℕ) (c : Counts) → RightDirectory e used b c → ListsLayers e used b c
+right-lists e used b c r = behind-words e used b c (right-behind e used b c r)
+
+pub lists-right : (e : Edition) (used : ℕ) (b : List ℕ) (c : Counts) → ListsLayers e used b c → RightDirectory e used b c
+lists-right e used b c l = behind-right e used b c (words-behind e used b c l)
+
 -- "We accept a directory exactly when it lists every layer header once, in order, and nothing else"
-pub lists-exactly : (used : ℕ) (b : List ℕ) (c : Counts) → judgeDirectory used b ≡ given c ↔ ListsLayers used b c
-lists-exactly used b c = (λ e. behind-words used b c (right-behind used b c (accepted-exactly used b c .0 e)), λ l. accepted-exactly used b c .1 (behind-right used b c (words-behind used b c l)))
+pub lists-exactly : (used : ℕ) (b : List ℕ) (c : Counts) → judgeDirectory used b ≡ given c ↔ ListsLayers One used b c
+lists-exactly used b c = (λ q. right-lists One used b c (accepted-exactly used b c .0 q), λ l. accepted-exactly used b c .1 (lists-right One used b c l))

@@ -1,3 +1,4 @@
+pub mod RisingLists
 pub mod DirectoryRecords
 pub mod DirectoryLayers
 pub mod DirectoryJudged
@@ -6,5 +7,6 @@ pub mod DirectoryColumns
 pub mod DirectoryWords
 pub mod DirectoryChecks
 pub mod DirectoryAppended
+pub mod DirectoryEditions
 pub mod DirectoryJumps
 pub mod Claims
