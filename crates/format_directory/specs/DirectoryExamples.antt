@@ -1,4 +1,4 @@
--- Examples of order 5, computed: the sheet of Examples, sheets of 0, 11, 12 and 22 empty layers, and one with a group, each with its directory.
+-- Examples of orders 5 and 13, computed: the sheet of Examples, sheets of 0, 3, 4, 11, 12 and 22 empty layers, and one with a group, each with its directory.
 use mathlib.Core.Path.{_≡_, refl}
 use mathlib.Core.List.{List, [], _∷_, _++_}
 use Prim.Native.Nat.{ℕ}
@@ -13,11 +13,13 @@ use Rattle.format.specs.Record.{typeOf, countName, dataColumns, directionOk, da
 use Rattle.format.specs.Sheet.{wholesOf, fractionsOf, partLength, sheetFault, statedElements, statedRecords}
 use Rattle.format.specs.Judge.{Counts, accepted, judge, judgeRecords, judgeSheet}
 use Rattle.format_directory.specs.declared.Edition.{Edition}
-use Rattle.format_directory.specs.declared.Edition.the-variants.{One}
+use Rattle.format_directory.specs.declared.Edition.the-variants.{One, Two}
 use Rattle.format_directory.specs.declared.Jumped.{Jumped}
 use Rattle.format_directory.specs.declared.Jumped.the-variants as Jumped
-use Rattle.format_directory.specs.Answers.{jumpedAnswer}
-use Rattle.format_directory.specs.Directory.{layersOf, row, closing, directoryOf, lastRecord, numberIn, isWritten, closingOk, judgeFrom, judgeEdition, judgeDirectory, appendDirectory, sheetIn, directoryIn, jump}
+use Rattle.format_directory.specs.declared.JumpedEither.{JumpedEither}
+use Rattle.format_directory.specs.declared.JumpedEither.the-variants as JumpedEither
+use Rattle.format_directory.specs.Answers.{jumpedAnswer, jumpedEitherAnswer}
+use Rattle.format_directory.specs.Directory.{layersOf, totalOf, lastOf, row, closing, directoryOf, lastRecord, numberIn, isWritten, closingOk, judgeFrom, judgeEdition, judgeDirectory, appendDirectory, sheetIn, directoryIn, jump, isSecond, editionOk, judgeEitherEdition, LayerEntry, jumpEitherEdition}
 use Rattle.format.specs.Examples.{example, wrong}
 
 -- the sheet of nine records, of which record 6 is its one layer's header, and two records behind it
@@ -48,6 +50,12 @@ sheet second layers =
 
 abbrev pub none : List ℕ
 none = sheet "  -1234   5678   -934   5978        0      0  1   -934   5678  -1234   5978         " 0
+
+abbrev pub three : List ℕ
+three = sheet "  -1234   5678   -934   5978        0      3  1   -934   5678  -1234   5978         " 3
+
+abbrev pub four : List ℕ
+four = sheet "  -1234   5678   -934   5978        0      4  1   -934   5678  -1234   5978         " 4
 
 abbrev pub eleven : List ℕ
 eleven = sheet "  -1234   5678   -934   5978        0     11  1   -934   5678  -1234   5978         " 11
@@ -98,6 +106,34 @@ ze-18 = "ZE     18     12                                                       
 abbrev pub ze-28 : String
 ze-28 = "ZE     28     22                                                                    "
 
+-- and those of the second edition: header, item total and last record of each, "up to three layers" in a record
+abbrev pub y-6 : String
+y-6 = "Y       6      1      9                                                             "
+
+abbrev pub ye-10 : String
+ye-10 = "YE     10      1      2                                                             "
+
+abbrev pub ye-6 : String
+ye-6 = "YE      6      0      2                                                             "
+
+abbrev pub y-6-to-8 : String
+y-6-to-8 = "Y       6      0      6      7      0      7      8      0      8                   "
+
+abbrev pub ye-9 : String
+ye-9 = "YE      9      3      2                                                             "
+
+abbrev pub y-9 : String
+y-9 = "Y       9      0      9                                                             "
+
+abbrev pub ye-10-of-four : String
+ye-10-of-four = "YE     10      4      2                                                             "
+
+abbrev pub y-6-10 : String
+y-6-10 = "Y       6      1      9     10      0     10                                        "
+
+abbrev pub ye-11 : String
+ye-11 = "YE     11      2      2                                                             "
+
 -- n bytes of something else
 abbrev pub lent : ℕ → List ℕ
 lent n = replicate n 126
@@ -109,6 +145,13 @@ pub data Example : Type 0 where
   plainly : (used : ℕ) → (buffer : List ℕ) → Answer Counts → Example
   appends : (e : Edition) → (used : ℕ) → (buffer : List ℕ) → Answer ℕ → (after : List ℕ) → Example
   jumps : (used : ℕ) → (buffer : List ℕ) → (n : ℕ) → Answer ℕ → Example
+  answers-either : JumpedEither → Answer LayerEntry → Example
+  judges-either : (used : ℕ) → (buffer : List ℕ) → Answer Counts → Example
+  jumps-either : (used : ℕ) → (buffer : List ℕ) → (n : ℕ) → Answer LayerEntry → Example
+
+-- a jump's answer in either edition
+abbrev pub layer : (header total last : ℕ) → Answer LayerEntry
+layer header total last = given (record { header = header; total = total; last = last })
 
 abbrev pub table : List Example
 table =
@@ -169,7 +212,52 @@ table =
     jumps 840 (behind z-6 ze-10) 1 (refused 19 10) ∷
     -- what the code's answer says
     answers (Jumped.Header 16) (given 16) ∷
-    answers (Jumped.Refused 19 10) (refused 19 10) ∷ []
+    answers (Jumped.Refused 19 10) (refused 19 10) ∷
+    -- order 13: of 0, 3 and 4 layers; three layers fill a record; a short buffer
+    appends Two 756 (example ++ lent 170) (given 924) (behind y-6 ye-10 ++ lent 2) ∷
+    appends Two 420 (none ++ lent 84) (given 504) (none ++ bytes ye-6) ∷
+    appends Two 672 (three ++ lent 168) (given 840) (three ++ rows (y-6-to-8 ∷ ye-9 ∷ [])) ∷
+    appends Two 756 (four ++ lent 252) (given 1008) (four ++ rows (y-6-to-8 ∷ y-9 ∷ ye-10-of-four ∷ [])) ∷
+    appends Two 756 (four ++ lent 251) (refused 15 0) (four ++ lent 251) ∷
+    -- "each layer's item total, at any depth": an item in a group counts, the group's header and a data record that reads like a header do not
+    appends Two 840 (grouped ++ lent 168) (given 1008) (grouped ++ rows (y-6-10 ∷ ye-11 ∷ [])) ∷
+    judges-either 1008 (grouped ++ rows (y-6-10 ∷ ye-11 ∷ [])) (accepted 10 1) ∷
+    -- "new ones read both"; the old ones "refuse it with 19 at the last record", plain judging with 4
+    judges-either 924 (behind y-6 ye-10) (accepted 9 1) ∷
+    judges-either 924 (behind z-6 ze-10) (accepted 9 1) ∷
+    judges-either 504 (none ++ bytes ye-6) (accepted 5 0) ∷
+    judges-either 1008 (four ++ rows (y-6-to-8 ∷ y-9 ∷ ye-10-of-four ∷ [])) (accepted 9 0) ∷
+    judges 924 (behind y-6 ye-10) (refused 19 11) ∷
+    jumps 924 (behind y-6 ye-10) 1 (refused 19 11) ∷
+    plainly 924 (behind y-6 ye-10) (refused 4 10) ∷
+    -- "27 .. when that starts "YE" but its edition column is not 2 in written form": 0, 1, 3, a leading zero; blank, so edition 1's columns behind "YE"
+    judges-either 924 (behind y-6 "YE     10      1      0                                                             ") (refused 27 11) ∷
+    judges-either 924 (behind y-6 "YE     10      1      1                                                             ") (refused 27 11) ∷
+    judges-either 924 (behind y-6 "YE     10      1      3                                                             ") (refused 27 11) ∷
+    judges-either 924 (behind y-6 "YE     10      1     02                                                             ") (refused 27 11) ∷
+    judges-either 924 (behind z-6 "YE     10      1                                                                    ") (refused 27 11) ∷
+    -- "tested directly after 1": a used length of 0; before a pointer of 0, and for that 19
+    judges-either 0 (behind y-6 "YE     10      1      0                                                             ") (refused 1 0) ∷
+    judges-either 924 (behind y-6 "YE      0      1      3                                                             ") (refused 27 11) ∷
+    judges-either 924 (behind y-6 "YE      0      1      2                                                             ") (refused 19 11) ∷
+    -- the letters of one edition and the records of the other
+    judges-either 924 (behind y-6 ze-10) (refused 19 10) ∷
+    judges-either 924 (behind z-6 ye-10) (refused 19 10) ∷
+    -- "exactly when all three numbers are right for each layer": another total, another last record; a group's header among the items; a record that is not full before the last
+    judges-either 924 (behind "Y       6      2      9                                                             " ye-10) (refused 19 10) ∷
+    judges-either 924 (behind "Y       6      1     10                                                             " ye-10) (refused 19 10) ∷
+    judges-either 1008 (grouped ++ rows ("Y       6      2      9     10      0     10                                        " ∷ ye-11 ∷ [])) (refused 19 11) ∷
+    judges-either 1008 (four ++ rows ("Y       6      0      6                                                             " ∷ "Y       7      0      7      8      0      8      9      0      9                   " ∷ ye-10-of-four ∷ [])) (refused 19 10) ∷
+    -- jumping, "with total and last beside them, both 0 for edition 1"
+    jumps-either 924 (behind y-6 ye-10) 1 (layer 6 1 9) ∷
+    jumps-either 924 (behind z-6 ze-10) 1 (layer 6 0 0) ∷
+    jumps-either 1008 (grouped ++ rows (y-6-10 ∷ ye-11 ∷ [])) 2 (layer 10 0 10) ∷
+    jumps-either 1008 (four ++ rows (y-6-to-8 ∷ y-9 ∷ ye-10-of-four ∷ [])) 4 (layer 9 0 9) ∷
+    jumps-either 1008 (four ++ rows (y-6-to-8 ∷ y-9 ∷ ye-10-of-four ∷ [])) 5 (refused 17 0) ∷
+    jumps-either 924 (behind y-6 "YE     10      1      3                                                             ") 1 (refused 27 11) ∷
+    -- what the code's answer says
+    answers-either (JumpedEither.Layer 6 1 9) (layer 6 1 9) ∷
+    answers-either (JumpedEither.Refused 27 11) (refused 27 11) ∷ []
 
 abbrev pub Says : Example → Type 0
 Says (answers jumped answer) = jumpedAnswer jumped ≡ answer
@@ -177,11 +265,14 @@ Says (judges used buffer answer) = judgeDirectory used buffer ≡ answer
 Says (plainly used buffer answer) = judgeSheet used buffer ≡ answer
 Says (appends e used buffer answer after) = appendDirectory e used buffer ≡ record { answer = answer; bytes = after }
 Says (jumps used buffer n answer) = jump used buffer n ≡ answer
+Says (answers-either jumped answer) = jumpedEitherAnswer jumped ≡ answer
+Says (judges-either used buffer answer) = judgeEitherEdition used buffer ≡ answer
+Says (jumps-either used buffer n answer) = jumpEitherEdition used buffer n ≡ answer
 
 abbrev pub Every : List Example → Type 0
 Every [] = Unit {0}
 Every (e ∷ es) = Says e × Every es
 
 pub examples : Every table
-unfolding bytes rows begins strip isDigit allDigits valueOf isNumber negative positive signed columnOf digitsIn digits textOf written fractionOk column find integerAt numberAt allFormed allInside columnFault sheetA sheetB sheetC sheetD sheetE sheetF header element gridHeader netHeader data3D data2D dataNote dataAttribute dataGrid dataNet typeOf countName dataColumns directionOk dataFault elementRecords elementRule gridStates gridNeeds netNeeds headerView elementView gridView netView otherView view wholesOf fractionsOf partLength sheetFault statedElements statedRecords judge judgeRecords judgeSheet layersOf row closing directoryOf lastRecord numberIn isWritten closingOk judgeFrom judgeEdition judgeDirectory appendDirectory sheetIn directoryIn jump jumpedAnswer
-examples = (refl, (refl, (refl, (refl, (refl, (refl, (refl, (refl, (refl, (refl, (refl, (refl, (refl, (refl, (refl, (refl, (refl, (refl, (refl, (refl, (refl, (refl, (refl, (refl, (refl, (refl, (refl, (refl, (refl, (refl, (refl, (refl, (refl, (refl, (refl, (refl, (refl, (refl, (refl, (refl, (refl, (refl, (refl, (refl, (refl, (refl, (refl, tt)))))))))))))))))))))))))))))))))))))))))))))))
+unfolding bytes rows begins strip isDigit allDigits valueOf isNumber negative positive signed columnOf digitsIn digits textOf written fractionOk column find integerAt numberAt allFormed allInside columnFault sheetA sheetB sheetC sheetD sheetE sheetF header element gridHeader netHeader data3D data2D dataNote dataAttribute dataGrid dataNet typeOf countName dataColumns directionOk dataFault elementRecords elementRule gridStates gridNeeds netNeeds headerView elementView gridView netView otherView view wholesOf fractionsOf partLength sheetFault statedElements statedRecords judge judgeRecords judgeSheet layersOf totalOf lastOf row closing directoryOf lastRecord numberIn isWritten closingOk judgeFrom judgeEdition judgeDirectory appendDirectory sheetIn directoryIn jump jumpedAnswer isSecond editionOk judgeEitherEdition jumpEitherEdition jumpedEitherAnswer
+examples = (refl, (refl, (refl, (refl, (refl, (refl, (refl, (refl, (refl, (refl, (refl, (refl, (refl, (refl, (refl, (refl, (refl, (refl, (refl, (refl, (refl, (refl, (refl, (refl, (refl, (refl, (refl, (refl, (refl, (refl, (refl, (refl, (refl, (refl, (refl, (refl, (refl, (refl, (refl, (refl, (refl, (refl, (refl, (refl, (refl, (refl, (refl, (refl, (refl, (refl, (refl, (refl, (refl, (refl, (refl, (refl, (refl, (refl, (refl, (refl, (refl, (refl, (refl, (refl, (refl, (refl, (refl, (refl, (refl, (refl, (refl, (refl, (refl, (refl, (refl, (refl, (refl, (refl, (refl, (refl, (refl, (refl, (refl, tt)))))))))))))))))))))))))))))))))))))))))))))))))))))))))))))))))))))))))))))))))))
