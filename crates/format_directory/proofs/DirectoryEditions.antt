@@ -34,22 +34,22 @@ use Rattle.format_directory.proofs.DirectoryWords.{sheet-accepted, join
 use Rattle.format_directory.proofs.DirectoryChecks.{used-wrong, used-right, used-fine, used-bad, column-last, first-letters, letters-first, stage-refused, judged, edition-refused, refused-exactly}
 
 -- ---- which edition a closing record is of
-second-closing : (e : Edition) (p c : ℕ) → editionOf (closing e p c) ≡ e
+edition-of-closing : (e : Edition) (p c : ℕ) → editionOf (closing e p c) ≡ e
 unfolding isSecond closing bytes
-second-closing One p c = refl
-second-closing Two p c = refl
+edition-of-closing One p c = refl
+edition-of-closing Two p c = refl
 
 edition-column : (p c : ℕ) → column 16 7 (closing Two p c) ≡ written 7 (pos 2)
 unfolding closing
 edition-column p c = column-at (endLetters Two) (endListed Two p c) (two-endLetters Two) 2 (omega arith)
 
-ok-edition : (e : Edition) (p c : ℕ) → editionOk (closing e p c) ≡ true
+closing-edition-ok : (e : Edition) (p c : ℕ) → editionOk (closing e p c) ≡ true
 unfolding editionOk isSecond closing bytes
-ok-edition One p c = refl
-ok-edition Two p c = ap (λ (x : List ℕ). same x (written 7 (pos 2))) (edition-column p c) ∙ same-self (written 7 (pos 2))
+closing-edition-ok One p c = refl
+closing-edition-ok Two p c = ap (λ (x : List ℕ). same x (written 7 (pos 2))) (edition-column p c) ∙ same-self (written 7 (pos 2))
 
-pub right-edition-of : (e : Edition) (used : ℕ) (b : List ℕ) (c : Counts) → RightDirectory e used b c → (editionOf (lastRecord used b) ≡ e) × (editionOk (lastRecord used b) ≡ true)
-right-edition-of e used b c r = (ap editionOf (right-last e used b c r) ∙ second-closing e (pointerIn (lastRecord used b)) (length (layersOf (sheetIn used b))), ap editionOk (right-last e used b c r) ∙ ok-edition e (pointerIn (lastRecord used b)) (length (layersOf (sheetIn used b))))
+pub edition-of-right : (e : Edition) (used : ℕ) (b : List ℕ) (c : Counts) → RightDirectory e used b c → (editionOf (lastRecord used b) ≡ e) × (editionOk (lastRecord used b) ≡ true)
+edition-of-right e used b c r = (ap editionOf (right-last e used b c r) ∙ edition-of-closing e (pointerIn (lastRecord used b)) (length (layersOf (sheetIn used b))), ap editionOk (right-last e used b c r) ∙ closing-edition-ok e (pointerIn (lastRecord used b)) (length (layersOf (sheetIn used b))))
 
 -- ---- "new ones read both"
 edition-given : (t : Bool) (i : ℕ) (v : Answer Counts) (c : Counts) → afterEdition t i v ≡ given c → (t ≡ true) × (v ≡ given c)
@@ -64,7 +64,7 @@ either-right used b c h = let p = stage-given (usedOk used b) (afterEdition (edi
 -- and what is right, of whichever edition, is accepted
 pub right-either : (e : Edition) (used : ℕ) (b : List ℕ) (c : Counts) → RightDirectory e used b c → judgeEitherEdition used b ≡ given c
 unfolding judgeEitherEdition
-right-either e used b c r = ap₂ afterStageOne (r .whole) (ap₂ (λ (t : Bool) (x : Edition). afterEdition t (used / 84) (judgeEdition x used b)) (right-edition-of e used b c r .1) (right-edition-of e used b c r .0)) ∙ right-accepted e used b c r
+right-either e used b c r = ap₂ afterStageOne (r .whole) (ap₂ (λ (t : Bool) (x : Edition). afterEdition t (used / 84) (judgeEdition x used b)) (edition-of-right e used b c r .1) (edition-of-right e used b c r .0)) ∙ right-accepted e used b c r
 
 pub either-exactly : (used : ℕ) (b : List ℕ) (c : Counts) → judgeEitherEdition used b ≡ given c ↔ (ListsLayers One used b c ⊎ ListsLayers Two used b c)
 either-exactly used b c = (λ h. go (editionOf (lastRecord used b)) (either-right used b c h), back)
@@ -83,7 +83,7 @@ old-accepted used b c h = right-either One used b c (accepted-exactly used b c .
 -- "ours, appended by its own call, passes"
 pub ours-pass-either : (e : Edition) (used : ℕ) (b : List ℕ) (u : ℕ) → (appendDirectory e used b) .answer ≡ given u → judgeEitherEdition u ((appendDirectory e used b) .bytes) ≡ judgeSheet used b
 unfolding judgeEitherEdition
-ours-pass-either e used b u h = ap₂ afterStageOne (our-used e used b u h) (ap₂ (λ (t : Bool) (x : Edition). afterEdition t (u / 84) (judgeEdition x u ((appendDirectory e used b) .bytes))) (ap editionOk (our-last e used b u h) ∙ ok-edition e (suc (used / 84)) (length (layersOf (chunks (used / 84) b)))) (ap editionOf (our-last e used b u h) ∙ second-closing e (suc (used / 84)) (length (layersOf (chunks (used / 84) b))))) ∙ our-edition e used b u h
+ours-pass-either e used b u h = ap₂ afterStageOne (our-used e used b u h) (ap₂ (λ (t : Bool) (x : Edition). afterEdition t (u / 84) (judgeEdition x u ((appendDirectory e used b) .bytes))) (ap editionOk (our-last e used b u h) ∙ closing-edition-ok e (suc (used / 84)) (length (layersOf (chunks (used / 84) b)))) (ap editionOf (our-last e used b u h) ∙ edition-of-closing e (suc (used / 84)) (length (layersOf (chunks (used / 84) b))))) ∙ our-edition e used b u h
 
 -- ---- 27: the last record "starts "YE" but its edition column is not 2 in written form", "directly after 1"
 module _ (used : ℕ) (b : List ℕ) (ok : usedOk used b ≡ true) where

@@ -27,7 +27,7 @@ use Rattle.format_directory.proofs.DirectoryJudged.{RightDirectory, acc
 use Rattle.format_directory.proofs.DirectoryJudged as DirectoryJudged
 use Rattle.format_directory.proofs.DirectoryRefused as DirectoryRefused
 use Rattle.format_directory.proofs.DirectoryWords.{length-headers, sheet-accepted, right-records, lists-right}
-use Rattle.format_directory.proofs.DirectoryEditions.{right-edition-of, either-right, right-either, old-accepted}
+use Rattle.format_directory.proofs.DirectoryEditions.{edition-of-right, either-right, right-either, old-accepted}
 
 -- ---- number i of a rising list, and those before it
 member-get : (L : List ℕ) (i : ℕ) → i < length L → member (getD L i 0) L ≡ true
@@ -194,7 +194,7 @@ entry-counted Two used b c n r l u = entry-path _ _ (read-counted Two used b c r
 either-within : (e : Edition) (used : ℕ) (b : List ℕ) (c : Counts) (n : ℕ) → RightDirectory e used b c → jumpEitherEdition used b n ≡ inCount (length (layersOf (chunks (c .records) b))) n (countedIn e (layerOf (chunks (c .records) b) n))
 unfolding jumpEitherEdition
 either-within e used b c n r =
-    ap₂ (λ (v : Answer Counts) (x : Edition). afterJudging v (inCount (layerCount (lastRecord used b)) n (entryIn x (directoryIn used b) n))) (right-either e used b c r) (right-edition-of e used b c r .0)
+    ap₂ (λ (v : Answer Counts) (x : Edition). afterJudging v (inCount (layerCount (lastRecord used b)) n (entryIn x (directoryIn used b) n))) (right-either e used b c r) (edition-of-right e used b c r .0)
     ∙ ap (λ (k : ℕ). inCount k n (entryIn e (directoryIn used b) n)) (right-count e used b c r)
     ∙ in-counts (length (layersOf (sheetIn used b))) n _ _ (λ l u. entry-counted e used b c n r l u)
     ∙ ap (λ (R : List (List ℕ)). inCount (length (layersOf R)) n (countedIn e (layerOf R n))) (sheet-records e used b c r)

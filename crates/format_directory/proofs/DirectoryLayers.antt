@@ -73,9 +73,9 @@ module _ (R : List (List ℕ)) (c : Counts) (judged : judgeRecords R ≡ given c
   sheet-fit = layers-fit 0 (suc (partLength R)) (map view (drop (partLength R) R)) (omega (arith, body-length R c judged, few))
 
 -- ---- the numbers of the records, where no data is due, of which something holds
-abbrev noneDue : ℕ → Bool
-noneDue zero = true
-noneDue (suc due) = false
+abbrev nothingDue : ℕ → Bool
+nothingDue zero = true
+nothingDue (suc due) = false
 
 abbrev put : Bool → ℕ → List ℕ → List ℕ
 put true n ns = n ∷ ns
@@ -83,7 +83,7 @@ put false n ns = ns
 
 abbrev pub picked : (is : View → Bool) → (due number : ℕ) → List View → List ℕ
 picked is due number [] = []
-picked is due number (r ∷ rs) = put (noneDue due && is r) number (picked is (dueAfter due r) (suc number) rs)
+picked is due number (r ∷ rs) = put (nothingDue due && is r) number (picked is (dueAfter due r) (suc number) rs)
 
 put-rises : (t : Bool) (i : ℕ) (ns : List ℕ) → Rising (suc i) ns → Rising i (put t i ns)
 put-rises true i ns h = (omega arith, h)
@@ -116,7 +116,7 @@ not-here t m i ns l e = go (in-put t m i ns e)
 -- once and in order
 pub picked-rise : (is : View → Bool) (n i : ℕ) (rs : List View) → Rising i (picked is n i rs)
 picked-rise is n i [] = tt
-picked-rise is n i (r ∷ rs) = put-rises (noneDue n && is r) i (picked is (dueAfter n r) (suc i) rs) (picked-rise is (dueAfter n r) (suc i) rs)
+picked-rise is n i (r ∷ rs) = put-rises (nothingDue n && is r) i (picked is (dueAfter n r) (suc i) rs) (picked-rise is (dueAfter n r) (suc i) rs)
 
 picked-above : (is : View → Bool) (n i : ℕ) (rs : List View) (m : ℕ) → member m (picked is n i rs) ≡ true → i ≤ m
 picked-above is n i rs m e = rising-above i (picked is n i rs) (picked-rise is n i rs) m e
@@ -136,7 +136,7 @@ one-more i k = omega arith
 
 found : (is : View → Bool) (n i : ℕ) (rs : List View) (m : ℕ) → member m (picked is n i rs) ≡ true → Found is n i rs m
 found is n i [] m e = absurd (false≢true e)
-found is n i (r ∷ rs) m e = go (in-put (noneDue n && is r) m i (picked is (dueAfter n r) (suc i) rs) e) (found is (dueAfter n r) (suc i) rs m)
+found is n i (r ∷ rs) m e = go (in-put (nothingDue n && is r) m i (picked is (dueAfter n r) (suc i) rs) e) (found is (dueAfter n r) (suc i) rs m)
   where
     none₁ : i ≡ i + 0
     none₁ = omega arith
@@ -144,18 +144,18 @@ found is n i (r ∷ rs) m e = go (in-put (noneDue n && is r) m i (picked is (due
     further : Found is (dueAfter n r) (suc i) rs m → Found is n i (r ∷ rs) m
     further f = record { before = r ∷ f .before; entry = f .entry; behind = f .behind; there = ap (λ (x : List View). r ∷ x) (f .there); noneDue = f .noneDue; holds = f .holds; numbered = f .numbered ∙ one-more i (length (f .before)) }
 
-    here : (n : ℕ) → noneDue n && is r ≡ true → m ≡ i → Found is n i (r ∷ rs) m
+    here : (n : ℕ) → nothingDue n && is r ≡ true → m ≡ i → Found is n i (r ∷ rs) m
     here zero t q = record { before = []; entry = r; behind = rs; there = refl; noneDue = refl; holds = t; numbered = q ∙ none₁ }
     here (suc n) t q = absurd (false≢true t)
 
-    go : ((noneDue n && is r ≡ true) × (m ≡ i)) ⊎ (member m (picked is (dueAfter n r) (suc i) rs) ≡ true) → (member m (picked is (dueAfter n r) (suc i) rs) ≡ true → Found is (dueAfter n r) (suc i) rs m) → Found is n i (r ∷ rs) m
+    go : ((nothingDue n && is r ≡ true) × (m ≡ i)) ⊎ (member m (picked is (dueAfter n r) (suc i) rs) ≡ true) → (member m (picked is (dueAfter n r) (suc i) rs) ≡ true → Found is (dueAfter n r) (suc i) rs m) → Found is n i (r ∷ rs) m
     go (inl q) ih = here n (q .0) (q .1)
     go (inr q) ih = further (ih q)
 
 lists : (is : View → Bool) (n i : ℕ) (P : List View) (h : View) (Q : List View) (m : ℕ) → dueBehind n P ≡ 0 → is h ≡ true → m ≡ i + length P → member m (picked is n i (P ++ h ∷ Q)) ≡ true
 lists is zero i [] h Q m d t e = put-here (is h) m i (picked is (dueAfter 0 h) (suc i) Q) t (omega arith)
 lists is (suc n) i [] h Q m d t e = absurd (omega arith)
-lists is n i (r ∷ P) h Q m d t e = put-later (noneDue n && is r) m i (picked is (dueAfter n r) (suc i) (P ++ h ∷ Q)) (lists is (dueAfter n r) (suc i) P h Q m d t (omega arith))
+lists is n i (r ∷ P) h Q m d t e = put-later (nothingDue n && is r) m i (picked is (dueAfter n r) (suc i) (P ++ h ∷ Q)) (lists is (dueAfter n r) (suc i) P h Q m d t (omega arith))
 
 -- of a sheet
 abbrev pub pickedIn : (is : View → Bool) → (records : List (List ℕ)) → List ℕ
@@ -274,14 +274,14 @@ AllIn n i rs (l ∷ ls) = SpansIn n i rs l × AllIn n i rs ls
 spans-further : (n i : ℕ) (r : View) (rs : List View) (l : Layer) → SpansIn (dueAfter n r) (suc i) rs l → SpansIn n i (r ∷ rs) l
 spans-further n i r rs l s = record {
   low = omega (arith, s .low);
-  own = λ m a b e. s .own m a b (not-here (noneDue n && isHeaderAt 1 r) m i _ (omega (arith, s .low, a)) e);
+  own = λ m a b e. s .own m a b (not-here (nothingDue n && isHeaderAt 1 r) m i _ (omega (arith, s .low, a)) e);
   next = go (s .next);
-  forth = λ m e. let q = s .forth m e in (put-later (noneDue n && isItem r) m i _ (q .0), q .1, q .2);
-  back = λ m e a b. s .back m (not-here (noneDue n && isItem r) m i _ (omega (arith, s .low, a)) e) a b;
+  forth = λ m e. let q = s .forth m e in (put-later (nothingDue n && isItem r) m i _ (q .0), q .1, q .2);
+  back = λ m e a b. s .back m (not-here (nothingDue n && isItem r) m i _ (omega (arith, s .low, a)) e) a b;
 }
   where
     go : (member (suc (lastOf l)) (picked (isHeaderAt 1) (dueAfter n r) (suc i) rs) ≡ true) ⊎ (suc (lastOf l) ≡ suc i + length rs) → (member (suc (lastOf l)) (picked (isHeaderAt 1) n i (r ∷ rs)) ≡ true) ⊎ (suc (lastOf l) ≡ i + suc (length rs))
-    go (inl e) = inl (put-later (noneDue n && isHeaderAt 1 r) (suc (lastOf l)) i _ e)
+    go (inl e) = inl (put-later (nothingDue n && isHeaderAt 1 r) (suc (lastOf l)) i _ e)
     go (inr e) = inr (e ∙ one-more i (length rs))
 
 all-further : (n i : ℕ) (r : View) (rs : List View) (ls : List Layer) → AllIn (dueAfter n r) (suc i) rs ls → AllIn n i (r ∷ rs) ls

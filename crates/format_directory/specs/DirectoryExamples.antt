@@ -236,8 +236,8 @@ table =
     judges-either 924 (behind y-6 "YE     10      1      3                                                             ") (refused 27 11) ∷
     judges-either 924 (behind y-6 "YE     10      1     02                                                             ") (refused 27 11) ∷
     judges-either 924 (behind z-6 "YE     10      1                                                                    ") (refused 27 11) ∷
-    -- "tested directly after 1": a used length of 0; before a pointer of 0, and for that 19
-    judges-either 0 (behind y-6 "YE     10      1      0                                                             ") (refused 1 0) ∷
+    -- "tested directly after 1": behind a used length that is no multiple of 84; before a pointer of 0, and for that 19
+    judges-either 925 (behind y-6 "YE     10      1      0                                                             " ++ lent 1) (refused 1 0) ∷
     judges-either 924 (behind y-6 "YE      0      1      3                                                             ") (refused 27 11) ∷
     judges-either 924 (behind y-6 "YE      0      1      2                                                             ") (refused 19 11) ∷
     -- the letters of one edition and the records of the other
