@@ -29,6 +29,7 @@ use Rattle.format_directory.specs.Directory.{Layer, layerBody, layersFro
 use Rattle.format_directory.specs.DirectoryChecks.{joined, ListsLayers, totals, Meet, UsedFails, wrongClosing, StartsYE, StatesTwo, EitherRefusal, eitherLength, wrongEdition, ofFirst, ofSecond}
 use Rattle.format_directory.proofs.DirectoryRecords.{two-endLetters, column-at, same-self}
 use Rattle.format_directory.proofs.DirectoryLayers.{one-more, body-length, entries}
+use Rattle.format_directory.proofs.DirectoryBodies.{firstHeader, body-ends, totals-all}
 use Rattle.format_directory.proofs.DirectoryJudged.{RightDirectory, accepted-right, right-last, right-accepted, our-last, our-edition, our-used, accepted-exactly}
 use Rattle.format_directory.proofs.DirectoryWords.{sheet-accepted, joined-are, right-lists, lists-right}
 use Rattle.format_directory.proofs.DirectoryChecks.{used-wrong, used-right, used-fine, used-bad, column-last, first-letters, letters-first, stage-refused, judged, edition-refused, refused-exactly}
@@ -177,22 +178,6 @@ pub old-refuses : (used : ℕ) (b : List ℕ) → (UsedFails used b → ⊥) →
 old-refuses used b fine y = refused-exactly used b 19 (used / 84) .1 (wrongClosing fine (λ p w. let z : _≡_ {A = ℕ} 89 90 = sym (y .0) ∙ w .first-letter in omega arith) refl refl)
 
 -- ---- the totals of all layers add up to the sheet's items
-top-no-item : (r : View) → isHeaderAt 1 r ≡ true → one-if-item (r .kind) ≡ 0
-top-no-item r e = ap (λ (t : Bool). cond t 0 1) (and-true (isHead (r .kind)) (eqb (r .level) 1) e .0)
-
-totals-all : (n i : ℕ) (rs : List View) → totals (entries (layersFrom n i rs)) + items (headersAndItems n (layerBody n rs)) ≡ items (headersAndItems n rs)
-unfolding totalOf
-totals-all n i [] = refl
-totals-all zero i (r ∷ rs) = go (isHeaderAt 1 r) refl (totals-all (dueAfter 0 r) (suc i) rs)
-  where
-    go : (t : Bool) → isHeaderAt 1 r ≡ t → totals (entries (layersFrom (dueAfter 0 r) (suc i) rs)) + items (headersAndItems (dueAfter 0 r) (layerBody (dueAfter 0 r) rs)) ≡ items (headersAndItems (dueAfter 0 r) rs) → totals (entries (cond t (record { header = i; body = layerBody 0 rs } ∷ []) [] ++ layersFrom (dueAfter 0 r) (suc i) rs)) + items (headersAndItems 0 (cond t [] (r ∷ layerBody (dueAfter 0 r) rs))) ≡ one-if-item (r .kind) + items (headersAndItems (dueAfter 0 r) rs)
-    go true e ih = let h : items (headersAndItems 0 (layerBody 0 rs)) + totals (entries (layersFrom (dueAfter 0 r) (suc i) rs)) + 0 ≡ one-if-item (r .kind) + items (headersAndItems (dueAfter 0 r) rs) = omega (arith, top-no-item r e, ih, same-body) in h
-      where
-        same-body : items (headersAndItems (dueAfter 0 r) (layerBody (dueAfter 0 r) rs)) ≡ items (headersAndItems 0 (layerBody 0 rs))
-        same-body = ap (λ (d : ℕ). items (headersAndItems d (layerBody d rs))) (dataRecords-head r (and-true (isHead (r .kind)) (eqb (r .level) 1) e .0))
-    go false e ih = let h : totals (entries (layersFrom (dueAfter 0 r) (suc i) rs)) + (one-if-item (r .kind) + items (headersAndItems (dueAfter 0 r) (layerBody (dueAfter 0 r) rs))) ≡ one-if-item (r .kind) + items (headersAndItems (dueAfter 0 r) rs) = omega (arith, ih) in h
-totals-all (suc n) i (r ∷ rs) = totals-all n (suc i) rs
-
 -- nothing stands before the first layer of an accepted sheet
 none-before : (body : List View) → Passes 0 0 nothing body → layerBody 0 body ≡ []
 none-before [] p = refl
@@ -237,23 +222,9 @@ pub totals-add-up : (e : Edition) (used : ℕ) (b : List ℕ) (c : Counts) (l : 
 totals-add-up e used b c l = ap totals (joined-are e used b c l) ∙ totals-sum (chunks (c .records) b) c (sheet-accepted b c (l .sheet) .judged)
 
 -- ---- each layer ends before the next one's header, the last one with the sheet
--- the record behind some records: the next layer's header, or the end
-abbrev next : ℕ → List Layer → ℕ
-next end [] = end
-next end (l ∷ ls) = l .header
-
-meet-cons : (end : ℕ) (l : Layer) (ls : List Layer) → suc (lastOf l) ≡ next end ls → Meet end (entries ls) → Meet end (entries (l ∷ ls))
+meet-cons : (end : ℕ) (l : Layer) (ls : List Layer) → suc (lastOf l) ≡ firstHeader end ls → Meet end (entries ls) → Meet end (entries (l ∷ ls))
 meet-cons end l [] e m = e
 meet-cons end l (k ∷ ls) e m = (e, m)
-
-behind-body : (n i : ℕ) (rs : List View) → i + length (layerBody n rs) ≡ next (i + length rs) (layersFrom n i rs)
-behind-body n i [] = refl
-behind-body zero i (r ∷ rs) = go (isHeaderAt 1 r) (behind-body (dueAfter 0 r) (suc i) rs)
-  where
-    go : (t : Bool) → suc i + length (layerBody (dueAfter 0 r) rs) ≡ next (suc i + length rs) (layersFrom (dueAfter 0 r) (suc i) rs) → i + length (cond t [] (r ∷ layerBody (dueAfter 0 r) rs)) ≡ next (i + suc (length rs)) (cond t (record { header = i; body = layerBody 0 rs } ∷ []) [] ++ layersFrom (dueAfter 0 r) (suc i) rs)
-    go true ih = let e : i + 0 ≡ i = omega arith in e
-    go false ih = sym (one-more i (length (layerBody (dueAfter 0 r) rs))) ∙ ih ∙ ap (λ (j : ℕ). next j (layersFrom (dueAfter 0 r) (suc i) rs)) (one-more i (length rs))
-behind-body (suc n) i (r ∷ rs) = sym (one-more i (length (layerBody n rs))) ∙ behind-body n (suc i) rs ∙ ap (λ (j : ℕ). next j (layersFrom n (suc i) rs)) (one-more i (length rs))
 
 layers-meet : (n i : ℕ) (rs : List View) → Meet (i + length rs) (entries (layersFrom n i rs))
 unfolding lastOf
@@ -261,7 +232,7 @@ layers-meet n i [] = tt
 layers-meet zero i (r ∷ rs) = go (isHeaderAt 1 r) refl (subst (λ (j : ℕ). Meet j (entries (layersFrom (dueAfter 0 r) (suc i) rs))) (one-more i (length rs)) (layers-meet (dueAfter 0 r) (suc i) rs))
   where
     go : (t : Bool) → isHeaderAt 1 r ≡ t → Meet (i + suc (length rs)) (entries (layersFrom (dueAfter 0 r) (suc i) rs)) → Meet (i + suc (length rs)) (entries (cond t (record { header = i; body = layerBody 0 rs } ∷ []) [] ++ layersFrom (dueAfter 0 r) (suc i) rs))
-    go true e m = meet-cons (i + suc (length rs)) (record { header = i; body = layerBody 0 rs }) (layersFrom (dueAfter 0 r) (suc i) rs) ((let q : suc (i + length (layerBody 0 rs)) ≡ suc i + length (layerBody 0 rs) = omega arith in q) ∙ ap (λ (d : ℕ). suc i + length (layerBody d rs)) (sym (dataRecords-head r (and-true (isHead (r .kind)) (eqb (r .level) 1) e .0))) ∙ behind-body (dueAfter 0 r) (suc i) rs ∙ ap (λ (j : ℕ). next j (layersFrom (dueAfter 0 r) (suc i) rs)) (one-more i (length rs))) m
+    go true e m = meet-cons (i + suc (length rs)) (record { header = i; body = layerBody 0 rs }) (layersFrom (dueAfter 0 r) (suc i) rs) ((let q : suc (i + length (layerBody 0 rs)) ≡ suc i + length (layerBody 0 rs) = omega arith in q) ∙ ap (λ (d : ℕ). suc i + length (layerBody d rs)) (sym (dataRecords-head r (and-true (isHead (r .kind)) (eqb (r .level) 1) e .0))) ∙ body-ends (dueAfter 0 r) (suc i) rs ∙ ap (λ (j : ℕ). firstHeader j (layersFrom (dueAfter 0 r) (suc i) rs)) (one-more i (length rs))) m
     go false e m = m
 layers-meet (suc n) i (r ∷ rs) = subst (λ (j : ℕ). Meet j (entries (layersFrom n (suc i) rs))) (one-more i (length rs)) (layers-meet n (suc i) rs)
 

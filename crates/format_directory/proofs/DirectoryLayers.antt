@@ -42,7 +42,7 @@ layers-count zero i (r ∷ rs) = go (isHeaderAt 1 r) (layers-count (dueAfter 0 r
     go false ih = omega arith
 layers-count (suc n) i (r ∷ rs) = omega (arith, layers-count n (suc i) rs)
 
-layers-fit : (n i : ℕ) (rs : List View) → i + length rs ≤ 10000000 → AllFit (layersFrom n i rs)
+pub layers-fit : (n i : ℕ) (rs : List View) → i + length rs ≤ 10000000 → AllFit (layersFrom n i rs)
 unfolding AllFit
 layers-fit n i [] h = tt
 layers-fit zero i (r ∷ rs) h = go (isHeaderAt 1 r) (layers-fit (dueAfter 0 r) (suc i) rs (omega arith))

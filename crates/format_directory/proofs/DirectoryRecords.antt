@@ -233,6 +233,12 @@ unfolding Short AllFit
 short-all e [] f = tt
 short-all e (l ∷ ls) f = short-append (listed e l) (listedAll e ls) (short-listed e l (f .0)) (short-all e ls (f .1))
 
+pub fit-at : (n : ℕ) (ls : List Layer) → AllFit ls → n < length ls → Fits (getD ls n noLayer)
+unfolding AllFit
+fit-at n [] f h = absurd (omega arith)
+fit-at zero (l ∷ ls) f h = f .0
+fit-at (suc n) (l ∷ ls) f h = fit-at n ls (f .1) (omega arith)
+
 pub fit-take : (n : ℕ) (ls : List Layer) → AllFit ls → AllFit (take n ls)
 unfolding AllFit
 fit-take zero ls f = tt

@@ -1,6 +1,7 @@
 pub mod RisingLists
 pub mod DirectoryRecords
 pub mod DirectoryLayers
+pub mod DirectoryBodies
 pub mod DirectoryJudged
 pub mod DirectoryRefused
 pub mod DirectoryColumns
