@@ -1,19 +1,31 @@
--- Numbers in the records of a directory: whether one stands in a column in written form, and whether that of a layer's header stands where it belongs. Assumes
+-- Numbers in the records of a directory: whether they stand in their columns in written form, and whether those of a layer stand where they belong. Assumes
 -- nothing.
-use mathlib.Core.Bool.{Bool, _&&_}
-use mathlib.Core.List.{List, []}
-use Prim.Native.Nat.{ℕ, _+_, _*_, _/_, _%_}
+use mathlib.Core.Bool.{Bool, true, _&&_}
+use mathlib.Core.List.{List, [], _∷_}
+use Prim.Native.Nat.{ℕ, suc, _+_, _*_, _/_, _%_}
 use lib.Dec.{ltb}
 use lib.IntN.{pos}
 use lib.ListN.{getD}
 use Rattle.columns.specs.InRecord.{isWrittenAt}
 use Rattle.format_directory.specs.declared.Edition.{Edition}
-use Rattle.format_directory.specs.Directory.{perRecord}
+use Rattle.format_directory.specs.declared.Edition.the-variants.{One, Two}
+use Rattle.format_directory.specs.Directory.{perLayer, perRecord}
+use Rattle.directory_columns.specs.declared.LayerNumbers.{LayerNumbers}
 
 -- column k of a record, from 0, of the eleven that it has behind its two letters
 unfoldable pub numberIs : List ℕ → (k number : ℕ) → Bool
 numberIs r k number = ltb k 11 && isWrittenAt r (2 + 7 * k) 7 (pos number)
 
--- a layer, counted from 0, by its header's number: in the record and the column that the edition has for it
-unfoldable pub listsHeader : Edition → (directory : List (List ℕ)) → (layer header : ℕ) → Bool
-listsHeader e directory layer header = numberIs (getD directory (layer / perRecord e) []) (layer % perRecord e) header
+-- these numbers stand in the columns from k on
+abbrev pub numbersAre : List ℕ → (k : ℕ) → List ℕ → Bool
+numbersAre r k [] = true
+numbersAre r k (n ∷ ns) = numberIs r k n && numbersAre r (suc k) ns
+
+-- what is listed of a layer with these numbers
+unfoldable pub listedOf : Edition → LayerNumbers → List ℕ
+listedOf One n = n .header ∷ []
+listedOf Two n = n .header ∷ n .total ∷ n .last ∷ []
+
+-- a layer, counted from 0, by what is listed of it: in the record and the columns that the edition has for it
+unfoldable pub listsLayer : Edition → (directory : List (List ℕ)) → (layer : ℕ) → (numbers : List ℕ) → Bool
+listsLayer e directory layer numbers = numbersAre (getD directory (layer / perRecord e) []) (perLayer e * (layer % perRecord e)) numbers

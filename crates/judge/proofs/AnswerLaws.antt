@@ -78,7 +78,7 @@ module _ (file : List ℕ) (x : Extent) (extent-of : ExtentOf file x) (part : Sh
     pub against-fault : (r : Against) → (w .number ≡ 0 → ⊥) → r .sheet ≡ refusedSheet (w .number) (w .at) → BodyAgainst file x part directory e r
     against-fault r ne q = record { sheet-is = answers-fault (r .sheet) ne q; listing = λ z. absurd (ne (sym (ap (λ (s : Sheet). s .fault) q) ∙ z)) }
 
-    pub against-body : (s : Sheet) → s ≡ bodySheet file x part → Listing file x (part .length) directory e (w .layers) (w .unlisted) (w .«first_layers») → BodyAgainst file x part directory e (record { sheet = s; layers = w .layers; unlisted = w .unlisted; «first_layers» = w .«first_layers» })
+    pub against-body : (s : Sheet) → s ≡ bodySheet file x part → Listing file x (part .length) directory e (w .layers) (w .unlisted) (w .«first_numbers») → BodyAgainst file x part directory e (record { sheet = s; layers = w .layers; unlisted = w .unlisted; «first_numbers» = w .«first_numbers» })
     against-body s q l = record { sheet-is = q; listing = λ z. l }
 
   module _ (z : w .number ≡ 0) where

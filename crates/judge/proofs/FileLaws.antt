@@ -30,7 +30,7 @@ use Rattle.part_and_index.proofs.Laws.{SoundPart, sound-part, refused-part, sou
 use Rattle.judge.specs.declared.body_records.Extent.{Extent}
 use Rattle.judge.specs.declared.Sheet.{Sheet}
 use Rattle.judge.specs.declared.opening.Against.{Against}
-use Rattle.judge.specs.Listed.{firstUnlisted, firstHeaders}
+use Rattle.judge.specs.Listed.{firstUnlisted, firstNumbers, keptLayers}
 use Rattle.judge.specs.Walks.{ExtentOf, viewsFrom, bodyOf, bodySheet, layersAt, BodyAgainst, OpenedAgainst}
 use Rattle.judge.specs.Sheet.{refusedSheet, sheetFor, openedSheet, recordsSheet, openedIn, judgeBy}
 
@@ -82,7 +82,7 @@ module _ (stride : Stride) (file : List ℕ) (part : SheetPart) (found : part �
       sheet-is = file-body (r .sheet) (b .sheet-is);
       count = λ z. b .listing z .count ∙ ap length layers-are;
       first-is = λ z. b .listing z .first-is ∙ ap (firstUnlisted e directory 0) layers-are;
-      kept = λ z. b .listing z .kept ∙ ap (firstHeaders 32) layers-are;
+      kept = λ z. b .listing z .kept ∙ ap (firstNumbers e (keptLayers e)) layers-are;
     }
 
   pub part-against : (before : ℕ) (directory : List (List ℕ)) (e : Edition) (r : Against) → (part .fault ≡ 0 → ⊥) → r .sheet ≡ refusedSheet (part .fault) (part .at) → OpenedAgainst rs before directory e r

@@ -36,16 +36,17 @@ joins-more opened i rs j ss after k ts low low′ f g = record {
 
 -- ---- what is seen
 pub sees-none : (before i : ℕ) (rs : List View) (s : Seen) → Sees before i rs s i rs s
-sees-none before i rs s = record { all = refl; last = refl; above = λ level h. refl }
+sees-none before i rs s = record { all = refl; no-fewer = omega arith; last = refl; above = λ level h. refl }
 
 pub sees-more : (before i : ℕ) (rs : List View) (s : Seen) (j : ℕ) (ss : List View) (s′ : Seen) (k : ℕ) (ts : List View) (s″ : Seen) → Sees before i rs s j ss s′ → Sees before j ss s′ k ts s″ → Sees before i rs s k ts s″
-sees-more before i rs s j ss s′ k ts s″ f g = record { all = f .all ∙ g .all; last = f .last ∙ g .last; above = λ level h. f .above level h ∙ g .above level h }
+sees-more before i rs s j ss s′ k ts s″ f g = record { all = f .all ∙ g .all; no-fewer = omega (arith, f .no-fewer, g .no-fewer); last = f .last ∙ g .last; above = λ level h. f .above level h ∙ g .above level h }
 
 -- an item at record k, and its data records; a header there, and what stands behind it
 module _ (before k : ℕ) (r : View) (rs : List View) (s : Seen) (i′ : ℕ) (rs′ : List View) where
   pub sees-item : (j : ℕ) → r .kind ≡ item j → Through (r .dataHeld) (suc k) (r .dataRecords) (suc (suc k)) rs 0 i′ rs′ → Sees before (suc k) (r ∷ rs) s i′ rs′ (withItem s k before)
   sees-item j is t = record {
     all = omega (arith, one);
+    no-fewer = omega arith;
     last = start-step before k r rs (s .start) ∙ rw is (t .start before (lastBefore k before (s .start)));
     above = λ level h. header-step before k r rs level (getD (s .headers) level 0) ∙ rw is (t .header before level (getD (s .headers) level 0));
   }
@@ -56,6 +57,7 @@ module _ (before k : ℕ) (r : View) (rs : List View) (s : Seen) (i′ : ℕ) (r
   pub sees-header : (own : ℕ) (s′ : Seen) → r .kind ≡ head → r .level ≡ own → length (s .headers) ≡ 9 → Sees before (suc (suc k)) rs (withHeader s k before own) i′ rs′ s′ → Sees before (suc k) (r ∷ rs) s i′ rs′ s′
   sees-header own s′ is deep nine b = record {
     all = omega (arith, none-more, b .all);
+    no-fewer = b .no-fewer;
     last = start-step before k r rs (s .start) ∙ rw is (b .last);
     above = λ level h. header-step before k r rs level (getD (s .headers) level 0) ∙ rw (is, deep) (rw (header-set (s .headers) own level (lastBefore k before) nine h) at (b .above level h));
   }

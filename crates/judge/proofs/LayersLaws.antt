@@ -1,26 +1,34 @@
 -- The loop of `walk_layers`: its invariant, and what it ensures at each way out. Assumes nothing.
 use mathlib.Core.Path.{_≡_, refl, sym, ap, ap₂, subst, _∙_}
-use mathlib.Core.Bool.{Bool, true, false}
-use mathlib.Core.List.{List, [], _∷_, _++_, append-assoc}
-use Prim.Native.Nat.{ℕ, zero, suc, _+_, _-_, _/_, _^_, _≤_, _<_}
+use mathlib.Core.Logic.{_⊎_, inl, inr}
+use mathlib.Core.Bool.{Bool, true, false, cond, _&&_}
+use mathlib.Core.List.{List, [], _∷_, _++_, append-assoc, append-nil}
+use Prim.Native.Nat.{ℕ, zero, suc, _+_, _-_, _*_, _/_, _^_, _≤_, _<_}
 use mir.Syntax.{w64}
 use mir.Val.{Fits}
 use native.Mathlib.Omega.{arith}
+use native.Mathlib.Nat.{zero-add}
 use native.Mathlib.Numerals.{add-one}
-use borrow.Author.Tests.{lt-ltb, le-ltb}
+use borrow.Author.Tests.{lt-ltb, le-ltb, ltb-true, ltb-false, eq-eqb}
+use lib.Dec.{ltb}
 use lib.ListN.{length, length-append, set, replicate}
 use lib.Seq.{set-at}
 use Rattle.format.specs.Basics.{fault, first, unless, chunks}
 use Rattle.format.specs.Record.{Kind, head, item, neither, nothing, isHead, View, view}
-use Rattle.format.specs.Judge.{lowestLevel, faultAt}
-use Rattle.format.proofs.Basics.{first-alone}
+use Rattle.format.specs.Judge.{lowestLevel, faultAt, dueAfter, headersAndItems, isHeaderAt, items}
+use Rattle.format.proofs.Basics.{first-alone, true-and}
+use Rattle.format.proofs.Above.{dataRecords-head}
 use Rattle.format.proofs.JudgeWalks.{good}
 use Rattle.format_directory.specs.declared.Edition.{Edition}
-use Rattle.format_directory.specs.Directory.{Layer}
+use Rattle.format_directory.specs.declared.Edition.the-variants.{One, Two}
+use Rattle.format_directory.specs.Directory.{Layer, layerBody, layersFrom, totalOf, lastOf, listed, perLayer}
+use Rattle.format_directory.proofs.DirectoryRecords.{length-listed}
+use Rattle.format_directory.proofs.DirectoryBodies.{layer-last, layer-total}
 use Rattle.files.specs.declared.Stride.the-variants.{Plain}
 use Rattle.files.specs.Records.{recordsOf}
 use Rattle.files.proofs.Records.{plain-records}
-use Rattle.directory_columns.specs.Numbers.{listsHeader}
+use Rattle.directory_columns.specs.declared.LayerNumbers.{LayerNumbers}
+use Rattle.directory_columns.specs.Numbers.{listedOf, listsLayer}
 use Rattle.directory_columns.proofs.Numbers.{nothing-lists}
 use Rattle.records.specs.Entry.{entryOf}
 use Rattle.records.specs.declared.items.Entry.{Entry}
@@ -28,44 +36,79 @@ use Rattle.judge.specs.declared.body_records.Extent.{Extent}
 use Rattle.judge.specs.declared.walk.Seen.{Seen}
 use Rattle.judge.specs.declared.walk.WalkedGroup.{WalkedGroup}
 use Rattle.judge.specs.declared.walk.WalkedLayers.{WalkedLayers}
-use Rattle.judge.specs.Listed.{firstUnlisted, firstHeaders}
-use Rattle.judge.specs.Walks.{ExtentOf, recordAt, viewsFrom, faultFrom, seenNone, SeenUpTo, entryFault, JoinsTo, SeesTo, HeaderAt, Child, WholeBody, layersAt, Listing, keptIn, passedLayersOf}
+use Rattle.judge.specs.Listed.{firstUnlisted, firstNumbers, keptLayers}
+use Rattle.judge.specs.Walks.{ExtentOf, recordAt, viewsFrom, faultFrom, seenNone, SeenUpTo, entryFault, JoinsTo, SeesTo, HeaderAt, Child, WholeBody, layersAt, Listing, entries, putIn, keptIn, passedLayersOf}
 use Rattle.judge.proofs.Steps.{views-more, views-end, fault-here}
+use Rattle.judge.proofs.PlaceLaws.{length-views}
 use Rattle.judge.proofs.EntryLaws.{fault-is}
 use Rattle.judge.proofs.Joined.{joins-none, joins-more, sees-none, sees-more}
 
 -- ---- `keep`
-pub kept-there : (kept : List ℕ) (layer header : ℕ) → layer < 32 → set kept layer header ≡ keptIn kept layer header
-kept-there kept layer header h = rw (lt-ltb layer 32 h)
+module _ (e : Edition) (kept : List ℕ) (layer : ℕ) (n : LayerNumbers) where
+  kept-over : keptLayers e ≤ layer → kept ≡ keptIn e kept layer (listedOf e n)
+  unfolding keptIn
+  kept-over h = rw (le-ltb layer (keptLayers e) h)
 
-pub kept-none : (kept : List ℕ) (layer header : ℕ) → 32 ≤ layer → kept ≡ keptIn kept layer header
-kept-none kept layer header h = rw (le-ltb layer 32 h)
+  kept-there : layer < keptLayers e → putIn kept (perLayer e * layer) (listedOf e n) ≡ keptIn e kept layer (listedOf e n)
+  unfolding keptIn
+  kept-there h = rw (lt-ltb layer (keptLayers e) h)
 
--- ---- the headers of layers kept one after the other, from number n on
-abbrev pub keep : (n : ℕ) → List ℕ → List Layer → List ℕ
-keep n kept [] = kept
-keep n kept (l ∷ ls) = keep (suc n) (keptIn kept n (l .header)) ls
+  module _ (is : e ≡ One) where
+    pub first-kept : layer < 33 → set kept layer (n .header) ≡ keptIn e kept layer (listedOf e n)
+    unfolding listedOf
+    first-kept h = ap (λ (k : ℕ). set kept k (n .header)) (let q : layer ≡ 1 * layer = omega arith in q) ∙ ap (λ (x : Edition). putIn kept (perLayer x * layer) (listedOf x n)) (sym is) ∙ kept-there (omega (arith, ap keptLayers is))
 
-keep-over : (n : ℕ) (kept : List ℕ) (ls : List Layer) → 32 ≤ n → keep n kept ls ≡ kept
-keep-over n kept [] h = refl
-keep-over n kept (l ∷ ls) h = ap (λ (x : List ℕ). keep (suc n) x ls) (sym (kept-none kept n (l .header) h)) ∙ keep-over (suc n) kept ls (omega arith)
+    pub first-over : 33 ≤ layer → kept ≡ keptIn e kept layer (listedOf e n)
+    first-over h = kept-over (omega (arith, ap keptLayers is))
+
+  module _ (is : e ≡ Two) where
+    pub second-kept : layer < 11 → set (set (set kept (3 * layer) (n .header)) (3 * layer + 1) (n .total)) (3 * layer + 2) (n .last) ≡ keptIn e kept layer (listedOf e n)
+    unfolding listedOf
+    second-kept h = ap₂ (λ (j k : ℕ). set (set (set kept (3 * layer) (n .header)) j (n .total)) k (n .last)) (add-one (3 * layer)) (let q : 3 * layer + 2 ≡ suc (suc (3 * layer)) = omega arith in q) ∙ ap (λ (x : Edition). putIn kept (perLayer x * layer) (listedOf x n)) (sym is) ∙ kept-there (omega (arith, ap keptLayers is))
+
+    pub second-over : 11 ≤ layer → kept ≡ keptIn e kept layer (listedOf e n)
+    second-over h = kept-over (omega (arith, ap keptLayers is))
+
+-- ---- what is listed of layers kept one after the other, from number n on
+abbrev pub keep : Edition → (n : ℕ) → List ℕ → List Layer → List ℕ
+keep e n kept [] = kept
+keep e n kept (l ∷ ls) = keep e (suc n) (keptIn e kept n (listed e l)) ls
+
+keep-over : (e : Edition) (n : ℕ) (kept : List ℕ) (ls : List Layer) → keptLayers e ≤ n → keep e n kept ls ≡ kept
+unfolding keptIn
+keep-over e n kept [] h = refl
+keep-over e n kept (l ∷ ls) h = ap (λ (x : List ℕ). keep e (suc n) x ls) (rw (le-ltb n (keptLayers e) h)) ∙ keep-over e (suc n) kept ls (omega arith)
+
+-- numbers put behind others, over as many
+put-behind : (P ns zs : List ℕ) (k m : ℕ) → length P ≡ k → length ns ≡ m → putIn (P ++ (replicate m 0 ++ zs)) k ns ≡ (P ++ ns) ++ zs
+put-behind P [] zs k zero p q = ap (λ (x : List ℕ). x ++ zs) (sym (append-nil P))
+put-behind P [] zs k (suc m) p q = absurd (omega arith)
+put-behind P (n ∷ ns) zs k zero p q = absurd (omega arith)
+put-behind P (n ∷ ns) zs k (suc m) p q =
+    ap (λ (x : List ℕ). putIn x (suc k) ns) (set-at P 0 (replicate m 0 ++ zs) n k p ∙ sym (append-assoc P (n ∷ []) (replicate m 0 ++ zs)))
+    ∙ put-behind (P ++ (n ∷ [])) ns zs (suc k) m (length-append P (n ∷ []) ∙ (omega (arith, p))) (omega arith)
+    ∙ ap (λ (x : List ℕ). x ++ zs) (append-assoc P (n ∷ []) ns)
 
 -- behind those that are kept
-keep-behind : (P : List ℕ) (room : ℕ) (ls : List Layer) → length P + room ≡ 32 → keep (length P) (P ++ replicate room 0) ls ≡ P ++ firstHeaders room ls
-keep-behind P room [] e = ap (λ (x : List ℕ). P ++ x) (zeros room)
-  where
-    zeros : (n : ℕ) → replicate n 0 ≡ firstHeaders n []
-    zeros zero = refl
-    zeros (suc n) = ap (λ (x : List ℕ). 0 ∷ x) (zeros n)
-keep-behind P zero (l ∷ ls) e = keep-over (length P) (P ++ []) (l ∷ ls) (omega arith)
-keep-behind P (suc room) (l ∷ ls) e =
-    ap (λ (x : List ℕ). keep (suc (length P)) x ls) (sym (kept-there (P ++ (0 ∷ replicate room 0)) (length P) (l .header) (omega arith)) ∙ set-at P 0 (replicate room 0) (l .header) (length P) refl ∙ sym (append-assoc P (l .header ∷ []) (replicate room 0)))
-    ∙ ap (λ (n : ℕ). keep n ((P ++ (l .header ∷ [])) ++ replicate room 0) ls) (let q : suc (length P) ≡ length (P ++ (l .header ∷ [])) = omega (arith, length-append P (l .header ∷ [])) in q)
-    ∙ keep-behind (P ++ (l .header ∷ [])) room ls (omega (arith, length-append P (l .header ∷ [])))
-    ∙ append-assoc P (l .header ∷ []) (firstHeaders room ls)
+keep-behind : (e : Edition) (P : List ℕ) (n room : ℕ) (ls : List Layer) → length P ≡ perLayer e * n → n + room ≡ keptLayers e → keep e n (P ++ firstNumbers e room []) ls ≡ P ++ firstNumbers e room ls
+unfolding keptIn
+keep-behind e P n room [] p q = refl
+keep-behind e P n zero (l ∷ ls) p q = keep-over e n (P ++ []) (l ∷ ls) (omega arith)
+keep-behind e P n (suc room) (l ∷ ls) p q =
+    ap (λ (x : List ℕ). keep e (suc n) x ls) (rw (lt-ltb n (keptLayers e) (let h : n < keptLayers e = omega arith in h)) (put-behind P (listed e l) (firstNumbers e room []) (perLayer e * n) (perLayer e) p (length-listed e l)))
+    ∙ keep-behind e (P ++ listed e l) (suc n) room ls (length-append P (listed e l) ∙ (omega (arith, p, length-listed e l))) (omega arith)
+    ∙ append-assoc P (listed e l) (firstNumbers e room ls)
+
+no-numbers : (e : Edition) → replicate 33 0 ≡ firstNumbers e (keptLayers e) []
+no-numbers One = refl
+no-numbers Two = refl
+
+-- ---- the record at hand is the end, or the header of a layer
+abbrev pub Starts : List ℕ → Extent → (at : ℕ) → Type 0
+Starts file x at = (x .records ≤ at) ⊎ HeaderAt file x at 0
 
 -- the walk of all layers that began at record k has come to record `at`
-pub record Layering (file : List ℕ) (x : Extent) (k : ℕ) (directory : List (List ℕ)) (e : Edition) (at low : ℕ) (s : Seen) (layers unlisted : ℕ) (first-layers : List ℕ) : Type 0 where
+pub record Layering (file : List ℕ) (x : Extent) (k : ℕ) (directory : List (List ℕ)) (e : Edition) (at low : ℕ) (s : Seen) (layers unlisted : ℕ) (first-numbers : List ℕ) : Type 0 where
   pub extent-of : ExtentOf file x
   pub few : k + layers ≤ at
   pub within : at ≤ x .records
@@ -73,10 +116,11 @@ pub record Layering (file : List ℕ) (x : Extent) (k : ℕ) (directory : List (
   pub sees : SeesTo file x k (seenNone k) at s
   pub seen-then : SeenUpTo at s
   pub count : layers + length (layersAt file x at) ≡ length (layersAt file x k)
-  pub first-is : first unlisted (firstUnlisted e directory layers (layersAt file x at)) ≡ firstUnlisted e directory 0 (layersAt file x k)
-  pub kept : keep layers first-layers (layersAt file x at) ≡ firstHeaders 32 (layersAt file x k)
+  -- where a layer ends is known when the next one begins
+  pub first-is : Starts file x at → first unlisted (firstUnlisted e directory layers (layersAt file x at)) ≡ firstUnlisted e directory 0 (layersAt file x k)
+  pub kept : Starts file x at → keep e layers first-numbers (layersAt file x at) ≡ firstNumbers e (keptLayers e) (layersAt file x k)
 
-pub layering : (file : List ℕ) (x : Extent) (k : ℕ) (directory : List (List ℕ)) (e : Edition) (s : Seen) → ExtentOf file x → k ≤ x .records → s ≡ seenNone k → Layering file x k directory e k 0 s 0 0 (replicate 32 0)
+pub layering : (file : List ℕ) (x : Extent) (k : ℕ) (directory : List (List ℕ)) (e : Edition) (s : Seen) → ExtentOf file x → k ≤ x .records → s ≡ seenNone k → Layering file x k directory e k 0 s 0 0 (replicate 33 0)
 layering file x k directory e s extent-of h of = rw of (record {
   extent-of = extent-of;
   few = omega arith;
@@ -85,8 +129,8 @@ layering file x k directory e s extent-of h of = rw of (record {
   sees = sees-none (x .before) (suc k) (viewsFrom file x k) (seenNone k);
   seen-then = record { few = omega arith; nine = refl };
   count = omega arith;
-  first-is = refl;
-  kept = keep-behind [] 32 (layersAt file x k) (omega arith);
+  first-is = λ h. refl;
+  kept = λ h. ap (λ (x₁ : List ℕ). keep e 0 x₁ (layersAt file x k)) (no-numbers e) ∙ keep-behind e [] 0 (keptLayers e) (layersAt file x k) (omega arith) (omega arith);
 })
 
 -- ---- at open level 0 nothing but the header of a layer passes
@@ -114,7 +158,7 @@ first-first : (a b c : ℕ) → first a (first b c) ≡ first (first a b) c
 first-first zero b c = refl
 first-first (suc a) b c = refl
 
-module _ (file : List ℕ) (x : Extent) (k : ℕ) (directory : List (List ℕ)) (e : Edition) (at low : ℕ) (s : Seen) (layers unlisted : ℕ) (first-layers : List ℕ) (g : Layering file x k directory e at low s layers unlisted first-layers) where
+module _ (file : List ℕ) (x : Extent) (k : ℕ) (directory : List (List ℕ)) (e : Edition) (at low : ℕ) (s : Seen) (layers unlisted : ℕ) (first-numbers : List ℕ) (g : Layering file x k directory e at low s layers unlisted first-numbers) where
   fails-at : (w : WalkedLayers) → (w .number ≡ 0 → ⊥) → faultFrom 0 (suc at) (viewsFrom file x at) ≡ fault (w .number) (w .at) → WholeBody file x k w
   fails-at w ne q = record {
     fails = λ h. g .joins .same ∙ q;
@@ -144,20 +188,78 @@ module _ (file : List ℕ) (x : Extent) (k : ℕ) (directory : List (List ℕ)) 
       pub layer-further : x .records - c .next < x .records - at
       layer-further = omega (arith, child .further z, child .within z)
 
-      pub layer-goes : (low′ own unlisted′ : ℕ) → own ≡ unless (listsHeader e directory layers (at + 1)) (suc layers) → unlisted′ ≡ first unlisted own → low′ ≡ first low (c .low) → (more : List ℕ) → more ≡ keptIn first-layers layers (at + 1) → Layering file x k directory e (c .next) low′ (c .seen) (layers + 1) unlisted′ more
-      layer-goes low′ own unlisted′ of un first-low more more-is =
-          let f = child .further z in
-          rw (first-low, un) (record {
-            extent-of = g .extent-of;
-            few = omega (arith, g .few);
-            within = child .within z;
-            joins = joins-more 0 (suc k) _ (suc at) _ 0 _ _ _ _ (g .joins) (child .passes z);
-            sees = sees-more (x .before) (suc k) _ (seenNone k) (suc at) _ s _ _ _ (g .sees) (child .sees z);
-            seen-then = child .seen-then z;
-            count = omega (arith, g .count, ap length (child .layers z refl));
-            first-is = sym (first-first unlisted own _) ∙ ap (first unlisted) (ap (λ (n : ℕ). first n (firstUnlisted e directory (layers + 1) (layersAt file x (c .next)))) (of ∙ ap (λ (n : ℕ). unless (listsHeader e directory layers n) (suc layers)) (add-one at)) ∙ ap (λ (n : ℕ). first (unless (listsHeader e directory layers (suc at)) (suc layers)) (firstUnlisted e directory n (layersAt file x (c .next)))) (add-one layers) ∙ sym (ap (firstUnlisted e directory layers) (child .layers z refl))) ∙ g .first-is;
-            kept = ap₂ (λ (n : ℕ) (hs : List ℕ). keep n hs (layersAt file x (c .next))) (add-one layers) (more-is ∙ ap (keptIn first-layers layers) (add-one at)) ∙ sym (ap (keep layers first-layers) (child .layers z refl)) ∙ g .kept;
-          })
+      -- no fewer items than before
+      pub items-left : s .items ≤ c .seen .items
+      items-left = child .sees z .no-fewer
+
+      module _ (here : at < x .records) (header : HeaderAt file x at 0) where
+        abbrev rest : List View
+        rest = viewsFrom file x (at + 1)
+
+        abbrev behind : List View
+        behind = viewsFrom file x (c .next)
+
+        abbrev own-layer : Layer
+        own-layer = record { header = suc at; body = layerBody 0 (viewsFrom file x (at + 1)) }
+
+        heads : viewsFrom file x at ≡ view (recordAt file x at) ∷ rest
+        heads = views-more file x (g .extent-of) at here
+
+        is-layer : isHeaderAt 1 (view (recordAt file x at)) ≡ true
+        is-layer = true-and _ _ (header .header) (eq-eqb _ 1 (header .deep))
+
+        all-layers : layersAt file x at ≡ own-layer ∷ layersFrom 0 (suc (suc at)) rest
+        all-layers = ap (layersFrom 0 (suc at)) heads ∙ ap₂ (λ (t : Bool) (n : ℕ). cond t (record { header = suc at; body = layerBody 0 rest } ∷ []) [] ++ layersFrom n (suc (suc at)) rest) is-layer (dataRecords-head (view (recordAt file x at)) (header .header))
+
+        same-layers : layersFrom 0 (suc (suc at)) rest ≡ layersAt file x (c .next)
+        same-layers = let q : own-layer ∷ layersFrom 0 (suc (suc at)) rest ≡ own-layer ∷ layersAt file x (c .next) = sym all-layers ∙ child .layers z refl in let r : layersFrom 0 (suc (suc at)) rest ≡ layersAt file x (c .next) = cc in r
+
+        own-items : items (entries (viewsFrom file x at)) ≡ items (entries rest)
+        own-items = ap (λ (l : List View). items (entries l)) heads ∙ ap₂ (λ (t : Bool) (n : ℕ). cond t 0 1 + items (headersAndItems n rest)) (header .header) (dataRecords-head (view (recordAt file x at)) (header .header)) ∙ zero-add _
+
+        module _ (starts : Starts file x (c .next)) where
+          none-first : layerBody 0 behind ≡ []
+          none-first = go starts
+            where
+              go : Starts file x (c .next) → layerBody 0 (viewsFrom file x (c .next)) ≡ []
+              go (inl end) = ap (layerBody 0) (views-end file x (g .extent-of) (c .next) end)
+              go (inr h) = by (ltb (c .next) (x .records)) refl
+                where
+                  by : (t : Bool) → ltb (c .next) (x .records) ≡ t → layerBody 0 (viewsFrom file x (c .next)) ≡ []
+                  by false l = ap (layerBody 0) (views-end file x (g .extent-of) (c .next) (ltb-false (c .next) (x .records) l))
+                  by true l = ap (layerBody 0) (views-more file x (g .extent-of) (c .next) (ltb-true (c .next) (x .records) l)) ∙ ap (λ (t : Bool). cond t [] (view (recordAt file x (c .next)) ∷ layerBody (dueAfter 0 (view (recordAt file x (c .next)))) (viewsFrom file x (c .next + 1)))) (true-and _ _ (h .header) (eq-eqb _ 1 (h .deep)))
+
+          same-end : suc (suc at) + length rest ≡ suc (c .next) + length behind
+          same-end = omega (arith, length-views file x (g .extent-of) (at + 1), length-views file x (g .extent-of) (c .next), child .within z)
+
+          pub last-is : lastOf own-layer ≡ c .next
+          last-is = omega (arith, layer-last (suc at) rest (suc (c .next)) behind same-layers none-first same-end)
+
+          pub total-is : totalOf own-layer ≡ c .seen .items - s .items
+          total-is = omega (arith, layer-total (suc at) rest (suc (c .next)) behind same-layers none-first same-end, own-items, child .sees z .all)
+
+          pub numbers-are : (n : LayerNumbers) → n ≡ record { header = at + 1; total = c .seen .items - s .items; last = c .next } → listedOf e n ≡ listed e own-layer
+          unfolding listedOf
+          numbers-are n n-is = ap (listedOf e) n-is ∙ by e
+            where
+              by : (e : Edition) → listedOf e (record { header = at + 1; total = c .seen .items - s .items; last = c .next }) ≡ listed e own-layer
+              by One = ap (λ (m : ℕ). m ∷ []) (add-one at)
+              by Two = λ i. add-one at i ∷ sym total-is i ∷ sym last-is i ∷ []
+
+        pub layer-goes : (low′ own unlisted′ : ℕ) (n : LayerNumbers) → n ≡ record { header = at + 1; total = c .seen .items - s .items; last = c .next } → own ≡ unless (listsLayer e directory layers (listedOf e n)) (suc layers) → unlisted′ ≡ first unlisted own → low′ ≡ first low (c .low) → (more : List ℕ) → more ≡ keptIn e first-numbers layers (listedOf e n) → Layering file x k directory e (c .next) low′ (c .seen) (layers + 1) unlisted′ more
+        layer-goes low′ own unlisted′ n n-is of un first-low more more-is =
+            let f = child .further z in
+            rw (first-low, un) (record {
+              extent-of = g .extent-of;
+              few = omega (arith, g .few);
+              within = child .within z;
+              joins = joins-more 0 (suc k) _ (suc at) _ 0 _ _ _ _ (g .joins) (child .passes z);
+              sees = sees-more (x .before) (suc k) _ (seenNone k) (suc at) _ s _ _ _ (g .sees) (child .sees z);
+              seen-then = child .seen-then z;
+              count = omega (arith, g .count, ap length (child .layers z refl));
+              first-is = λ starts. sym (first-first unlisted own _) ∙ ap (first unlisted) (ap (λ (m : ℕ). first m (firstUnlisted e directory (layers + 1) (layersAt file x (c .next)))) (of ∙ ap (λ (ns : List ℕ). unless (listsLayer e directory layers ns) (suc layers)) (numbers-are starts n n-is)) ∙ ap (λ (m : ℕ). first (unless (listsLayer e directory layers (listed e own-layer)) (suc layers)) (firstUnlisted e directory m (layersAt file x (c .next)))) (add-one layers) ∙ sym (ap (firstUnlisted e directory layers) (child .layers z refl))) ∙ g .first-is (inr header);
+              kept = λ starts. ap₂ (λ (m : ℕ) (hs : List ℕ). keep e m hs (layersAt file x (c .next))) (add-one layers) (more-is ∙ ap (keptIn e first-numbers layers) (numbers-are starts n n-is)) ∙ sym (ap (keep e layers first-numbers) (child .layers z refl)) ∙ g .kept (inr header);
+            })
 
   -- the end
   module _ (end : x .records ≤ at) where
@@ -167,7 +269,7 @@ module _ (file : List ℕ) (x : Extent) (k : ℕ) (directory : List (List ℕ)) 
     none-left : layersAt file x at ≡ []
     none-left = rw (views-end file x (g .extent-of) at end)
 
-    pub layers-end : (w : WalkedLayers) → w ≡ passedLayersOf low s layers unlisted first-layers → WholeBody file x k w
+    pub layers-end : (w : WalkedLayers) → w ≡ passedLayersOf low s layers unlisted first-numbers → WholeBody file x k w
     layers-end w q = rw q (record {
       fails = λ h. absurd (h refl);
       passes = λ z. subst (λ (n : ℕ). JoinsTo file x k 0 n 0 low) over (g .joins);
@@ -175,20 +277,20 @@ module _ (file : List ℕ) (x : Extent) (k : ℕ) (directory : List (List ℕ)) 
       seen-then = λ z. subst (λ (n : ℕ). SeenUpTo n s) over (g .seen-then);
     })
 
-    pub layers-listed : (w : WalkedLayers) → w ≡ passedLayersOf low s layers unlisted first-layers → w .number ≡ 0 → Listing file x k directory e (w .layers) (w .unlisted) (w .«first_layers»)
+    pub layers-listed : (w : WalkedLayers) → w ≡ passedLayersOf low s layers unlisted first-numbers → w .number ≡ 0 → Listing file x k directory e (w .layers) (w .unlisted) (w .«first_numbers»)
     layers-listed w q z = rw q (record {
       count = omega (arith, g .count, ap length none-left);
-      first-is = sym (first-alone unlisted) ∙ ap (λ (ls : List Layer). first unlisted (firstUnlisted e directory layers ls)) (sym none-left) ∙ g .first-is;
-      kept = sym (ap (keep layers first-layers) none-left) ∙ g .kept;
+      first-is = sym (first-alone unlisted) ∙ ap (λ (ls : List Layer). first unlisted (firstUnlisted e directory layers ls)) (sym none-left) ∙ g .first-is (inl end);
+      kept = sym (ap (keep e layers first-numbers) none-left) ∙ g .kept (inl end);
     })
 
 -- a walk that fails lists nothing
-pub no-listing : (file : List ℕ) (x : Extent) (k : ℕ) (directory : List (List ℕ)) (e : Edition) (w : WalkedLayers) (number : ℕ) → (number ≡ 0 → ⊥) → w .number ≡ number → w .number ≡ 0 → Listing file x k directory e (w .layers) (w .unlisted) (w .«first_layers»)
+pub no-listing : (file : List ℕ) (x : Extent) (k : ℕ) (directory : List (List ℕ)) (e : Edition) (w : WalkedLayers) (number : ℕ) → (number ≡ 0 → ⊥) → w .number ≡ number → w .number ≡ 0 → Listing file x k directory e (w .layers) (w .unlisted) (w .«first_numbers»)
 no-listing file x k directory e w number ne q z = absurd (ne (sym q ∙ z))
 
 -- ---- `unlisted`
-pub short-lists-none : (e : Edition) (directory : List ℕ) (layer header : ℕ) → length directory < 84 → layer + 1 ≡ unless (listsHeader e (recordsOf Plain directory) layer header) (suc layer)
-short-lists-none e directory layer header h = add-one layer ∙ sym (ap (λ (t : Bool). unless t (suc layer)) (ap (λ (rs : List (List ℕ)). listsHeader e rs layer header) (plain-records directory ∙ ap (λ (n : ℕ). chunks n directory) (let q : length directory / 84 ≡ 0 = omega arith in q)) ∙ nothing-lists e layer header))
+pub short-lists-none : (e : Edition) (directory : List ℕ) (layer : ℕ) (n : LayerNumbers) → length directory < 84 → layer + 1 ≡ unless (listsLayer e (recordsOf Plain directory) layer (listedOf e n)) (suc layer)
+short-lists-none e directory layer n h = add-one layer ∙ sym (ap (λ (t : Bool). unless t (suc layer)) (ap (λ (rs : List (List ℕ)). listsLayer e rs layer (listedOf e n)) (plain-records directory ∙ ap (λ (n : ℕ). chunks n directory) (let q : length directory / 84 ≡ 0 = omega arith in q)) ∙ nothing-lists e layer n))
 
 pub listed-none : (t own : Bool) (n : ℕ) → t ≡ own → t ≡ true → 0 ≡ unless own n
 listed-none t own n e h = rw (← e, h)
@@ -197,5 +299,5 @@ pub not-listed : (t own : Bool) (n : ℕ) → t ≡ own → t ≡ false → n + 
 not-listed t own n e h = rw (← e, h) (add-one n)
 
 -- ---- `walk_whole`
-pub begun-layers : (file : List ℕ) (x : Extent) (k begun : ℕ) (directory : List (List ℕ)) (e : Edition) (w : WalkedLayers) → begun ≡ k → (WholeBody file x begun w) × (w .number ≡ 0 → Listing file x begun directory e (w .layers) (w .unlisted) (w .«first_layers»)) → (WholeBody file x k w) × (w .number ≡ 0 → Listing file x k directory e (w .layers) (w .unlisted) (w .«first_layers»))
+pub begun-layers : (file : List ℕ) (x : Extent) (k begun : ℕ) (directory : List (List ℕ)) (e : Edition) (w : WalkedLayers) → begun ≡ k → (WholeBody file x begun w) × (w .number ≡ 0 → Listing file x begun directory e (w .layers) (w .unlisted) (w .«first_numbers»)) → (WholeBody file x k w) × (w .number ≡ 0 → Listing file x k directory e (w .layers) (w .unlisted) (w .«first_numbers»))
 begun-layers file x k begun directory e w begins walked = rw begins at walked

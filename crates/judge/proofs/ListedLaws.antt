@@ -23,7 +23,7 @@ use Rattle.judge.specs.declared.ListedSheet.{ListedSheet}
 use Rattle.judge.specs.declared.opening.Against.{Against}
 use Rattle.judge.specs.Walks.{OpenedAgainst}
 use Rattle.judge.specs.Sheet.{openedIn}
-use Rattle.judge.specs.Listed.{firstUnlisted, firstHeaders, refusedListed, listedSheet, listedIn}
+use Rattle.judge.specs.Listed.{firstUnlisted, firstNumbers, keptLayers, refusedListed, listedSheet, listedIn}
 use Rattle.judge.proofs.FileLaws.{sheet-opened}
 use Rattle.judge.proofs.Opened.{Opened, opened-sheet, sheet-refused-is}
 
@@ -35,7 +35,7 @@ pub record OpenedListed (e : Edition) (used : ℕ) (buffer : List ℕ) (director
   pub part-is : r .part ≡ partLength (chunks (used / 84) buffer)
   pub layers-are : r .layers ≡ length (layersOf (chunks (used / 84) buffer))
   pub unlisted-is : r .unlisted ≡ firstUnlisted e directory 0 (layersOf (chunks (used / 84) buffer))
-  pub first-layers-are : r .«first_layers» ≡ firstHeaders 32 (layersOf (chunks (used / 84) buffer))
+  pub first-numbers-are : r .«first_numbers» ≡ firstNumbers e (keptLayers e) (layersOf (chunks (used / 84) buffer))
 
 module _ (used : ℕ) (buffer : List ℕ) (directory : List (List ℕ)) (e : Edition) where
   by : (answer : Answer Counts) → judgeSheet used buffer ≡ answer → listedIn e used buffer directory ≡ listedSheet e answer (chunks (used / 84) buffer) directory
@@ -63,13 +63,13 @@ module _ (used : ℕ) (buffer : List ℕ) (directory : List (List ℕ)) (e : Edi
       pub listed-refused : (r : ListedSheet) → (s .fault ≡ 0 → ⊥) → r ≡ refusedListed (s .fault) (s .at) → r ≡ listedIn e used buffer directory
       listed-refused r ne q = q ∙ sym (by (refused (s .fault) (s .at)) (sheet-refused-is used buffer 0 s is ne))
 
-      pub listed-given : s .fault ≡ 0 → record { fault = 0; at = 0; items = s .items; part = s .part; layers = a .layers; unlisted = a .unlisted; «first_layers» = a .«first_layers» } ≡ listedIn e used buffer directory
+      pub listed-given : s .fault ≡ 0 → record { fault = 0; at = 0; items = s .items; part = s .part; layers = a .layers; unlisted = a .unlisted; «first_numbers» = a .«first_numbers» } ≡ listedIn e used buffer directory
       listed-given z = same ∙ sym (by (given (o .accepted .counts)) (o .accepted .judged))
         where
           o : Opened used buffer 0 s
           o = opened-sheet used buffer 0 s is z
 
-          same : record { fault = 0; at = 0; items = s .items; part = s .part; layers = a .layers; unlisted = a .unlisted; «first_layers» = a .«first_layers» } ≡ listedSheet e (given (o .accepted .counts)) (chunks (used / 84) buffer) directory
+          same : record { fault = 0; at = 0; items = s .items; part = s .part; layers = a .layers; unlisted = a .unlisted; «first_numbers» = a .«first_numbers» } ≡ listedSheet e (given (o .accepted .counts)) (chunks (used / 84) buffer) directory
           same = λ i. record {
             fault = 0;
             at = 0;
@@ -77,7 +77,7 @@ module _ (used : ℕ) (buffer : List ℕ) (directory : List (List ℕ)) (e : Edi
             part = o .part-is i;
             layers = (opened .count z ∙ ap (λ (rs : List (List ℕ)). length (layersOf rs)) same-records) i;
             unlisted = (opened .first-is z ∙ ap (λ (rs : List (List ℕ)). firstUnlisted e directory 0 (layersOf rs)) same-records) i;
-            «first_layers» = (opened .kept z ∙ ap (λ (rs : List (List ℕ)). firstHeaders 32 (layersOf rs)) same-records) i;
+            «first_numbers» = (opened .kept z ∙ ap (λ (rs : List (List ℕ)). firstNumbers e (keptLayers e) (layersOf rs)) same-records) i;
           }
 
   -- ---- what callers cite
@@ -102,6 +102,6 @@ module _ (used : ℕ) (buffer : List ℕ) (directory : List (List ℕ)) (e : Edi
               part-is = ap (λ (x : ListedSheet). x .part) fields;
               layers-are = ap (λ (x : ListedSheet). x .layers) fields;
               unlisted-is = ap (λ (x : ListedSheet). x .unlisted) fields;
-              first-layers-are = ap (λ (x : ListedSheet). x .«first_layers») fields;
+              first-numbers-are = ap (λ (x : ListedSheet). x .«first_numbers») fields;
             }
         go (refused number at) q = absurd (omega (arith, z, ap (λ (x : ListedSheet). x .fault) (is ∙ by (refused number at) q), sheet-numbered used buffer number at q))

@@ -12,7 +12,7 @@ use Rattle.format.specs.Judge.{walk, faultAt, headersAndItems, items, countUnde
 use Rattle.format.specs.Edit.{lastHeader}
 use Rattle.format.specs.Above.{lastStart}
 use Rattle.format_directory.specs.declared.Edition.{Edition}
-use Rattle.format_directory.specs.Directory.{Layer, layerBody, layersFrom, layersOf}
+use Rattle.format_directory.specs.Directory.{Layer, layerBody, layersFrom, layersOf, perLayer}
 use Rattle.files.specs.Records.{recordsOf}
 use Rattle.records.specs.declared.items.Entry.{Entry}
 use Rattle.part_and_index.specs.declared.SheetPart.{SheetPart}
@@ -25,7 +25,7 @@ use Rattle.judge.specs.declared.walk.WalkedLayers.{WalkedLayers}
 use Rattle.judge.specs.declared.opening.Against.{Against}
 use Rattle.judge.specs.declared.Sheet.{Sheet}
 use Rattle.judge.specs.Sheet.{values, startBefore, headerBefore, acceptedSheet, sheetFor, recordsSheet}
-use Rattle.judge.specs.Listed.{firstUnlisted, firstHeaders}
+use Rattle.judge.specs.Listed.{firstUnlisted, firstNumbers, keptLayers}
 
 -- ---- The records of a file, which count from 0 here; record k has number k + 1
 -- the file has as many records as the walk is told
@@ -112,6 +112,7 @@ pub record Joins (openLevel i : ℕ) (rs : List View) (openLevel′ i′ : ℕ) 
 -- what is seen at rs, and what is seen then at rs′: how many items, the last header or item before the place, the last header of each level
 pub record Sees (before i : ℕ) (rs : List View) (s : Seen) (i′ : ℕ) (rs′ : List View) (s′ : Seen) : Type 0 where
   pub all : s .items + items (entries rs) ≡ s′ .items + items (entries rs′)
+  pub no-fewer : s .items ≤ s′ .items
   pub last : lastStart 0 i (s .start) (upTo before i rs) ≡ lastStart 0 i′ (s′ .start) (upTo before i′ rs′)
   pub above : (level : ℕ) → level ≤ 8 → lastHeader level 0 i (getD (s .headers) level 0) (upTo before i rs) ≡ lastHeader level 0 i′ (getD (s′ .headers) level 0) (upTo before i′ rs′)
 
@@ -186,18 +187,23 @@ pub record WholeBody (file : List ℕ) (x : Extent) (k : ℕ) (w : WalkedLayers)
   pub sees : w .number ≡ 0 → SeesTo file x k (seenNone k) (x .records) (w .seen)
   pub seen-then : w .number ≡ 0 → SeenUpTo (x .records) (w .seen)
 
--- the header of layer n, counted from 0, kept where there is room for it
-abbrev pub keptIn : List ℕ → (n header : ℕ) → List ℕ
-keptIn kept n header = cond (ltb n 32) (set kept n header) kept
+-- numbers put into a list from place k on
+abbrev pub putIn : List ℕ → (k : ℕ) → List ℕ → List ℕ
+putIn kept k [] = kept
+putIn kept k (n ∷ ns) = putIn (set kept k n) (suc k) ns
+
+-- what is listed of layer n, counted from 0, kept where there is room for it
+unfoldable pub keptIn : Edition → List ℕ → (n : ℕ) → (numbers : List ℕ) → List ℕ
+keptIn e kept n numbers = cond (ltb n (keptLayers e)) (putIn kept (perLayer e * n) numbers) kept
 
 -- and of the layers against the records of a directory
-pub record Listing (file : List ℕ) (x : Extent) (k : ℕ) (directory : List (List ℕ)) (e : Edition) (layers unlisted : ℕ) (first-layers : List ℕ) : Type 0 where
+pub record Listing (file : List ℕ) (x : Extent) (k : ℕ) (directory : List (List ℕ)) (e : Edition) (layers unlisted : ℕ) (first-numbers : List ℕ) : Type 0 where
   pub count : layers ≡ length (layersAt file x k)
   pub first-is : unlisted ≡ firstUnlisted e directory 0 (layersAt file x k)
-  pub kept : first-layers ≡ firstHeaders 32 (layersAt file x k)
+  pub kept : first-numbers ≡ firstNumbers e (keptLayers e) (layersAt file x k)
 
 abbrev pub passedLayersOf : (low : ℕ) → Seen → (layers unlisted : ℕ) → List ℕ → WalkedLayers
-passedLayersOf low seen layers unlisted first-layers = record { number = 0; at = 0; low = low; seen = seen; layers = layers; unlisted = unlisted; «first_layers» = first-layers }
+passedLayersOf low seen layers unlisted first-numbers = record { number = 0; at = 0; low = low; seen = seen; layers = layers; unlisted = unlisted; «first_numbers» = first-numbers }
 
 -- a sheet, by what its sheet part came to
 abbrev pub bodyOf : List ℕ → Extent → SheetPart → File
@@ -237,10 +243,10 @@ bodySheet file x part = sheetFor (judge (bodyOf file x part)) (part .unit) (part
 -- the same against the records of a directory
 pub record BodyAgainst (file : List ℕ) (x : Extent) (part : SheetPart) (directory : List (List ℕ)) (e : Edition) (r : Against) : Type 0 where
   pub sheet-is : r .sheet ≡ bodySheet file x part
-  pub listing : r .sheet .fault ≡ 0 → Listing file x (part .length) directory e (r .layers) (r .unlisted) (r .«first_layers»)
+  pub listing : r .sheet .fault ≡ 0 → Listing file x (part .length) directory e (r .layers) (r .unlisted) (r .«first_numbers»)
 
 pub record OpenedAgainst (records : List (List ℕ)) (before : ℕ) (directory : List (List ℕ)) (e : Edition) (r : Against) : Type 0 where
   pub sheet-is : r .sheet ≡ recordsSheet records before
   pub count : r .sheet .fault ≡ 0 → r .layers ≡ length (layersOf records)
   pub first-is : r .sheet .fault ≡ 0 → r .unlisted ≡ firstUnlisted e directory 0 (layersOf records)
-  pub kept : r .sheet .fault ≡ 0 → r .«first_layers» ≡ firstHeaders 32 (layersOf records)
+  pub kept : r .sheet .fault ≡ 0 → r .«first_numbers» ≡ firstNumbers e (keptLayers e) (layersOf records)

@@ -12,11 +12,9 @@ ghost use Rattle.files.specs.Records.{recordsOf};
 ghost use Rattle.judge.specs.Sheet.{judgeBy, openedIn};
 ghost use Rattle.judge.specs.Listed.{refusedListed, listedIn};
 
-// So many layers' headers are kept by the walk that judges, so that who lists the layers of a sheet does not look for them again.
-pub const KEPT: usize = 32;
-
-// The record numbers of the headers of the first layers; 0 where there is none.
-pub type FirstLayers = [usize; 32];
+// What a directory lists of the first layers, of 33 or, in the second edition, of 11, kept by the walk that judges, so that who lists the layers of a sheet does
+// not look for them again; 0 where there is no layer.
+pub type FirstNumbers = [usize; 33];
 
 mod body_records;
 mod opening;
@@ -49,8 +47,8 @@ pub fn open_sheet(buffer: &[u8], used: usize, before: usize) -> Sheet
 }
 
 // A sheet against the records of a directory: the fault, 0 for none, and its record; else how many items it has, how many records its sheet part, how many
-// layers, the first of these, counted from 1, that the directory does not list with its header, 0 where it lists every one, and the record numbers of the
-// headers of the first 32, 0 where there is none.
+// layers, the first of these, counted from 1, that the directory does not list with its numbers, 0 where it lists every one, and what one of this edition lists of
+// the first ones.
 pub struct ListedSheet {
     pub fault: u8,
     pub at: usize,
@@ -58,7 +56,7 @@ pub struct ListedSheet {
     pub part: usize,
     pub layers: usize,
     pub unlisted: usize,
-    pub first_layers: FirstLayers,
+    pub first_numbers: FirstNumbers,
 }
 
 // One that is refused: no values.
@@ -72,7 +70,7 @@ fn refused_listed(fault: u8, at: usize) -> ListedSheet
         part: 0,
         layers: 0,
         unlisted: 0,
-        first_layers: [0; 32],
+        first_numbers: [0; 33],
     }
 }
 
@@ -88,7 +86,7 @@ pub fn open_listed(buffer: &[u8], used: usize, directory: &[u8], edition: Editio
     if sheet.fault != 0 {
         return refused_listed(sheet.fault, sheet.at);
     }
-    let first_layers = opened.first_layers;
+    let first_numbers = opened.first_numbers;
     ListedSheet {
         fault: 0,
         at: 0,
@@ -96,7 +94,7 @@ pub fn open_listed(buffer: &[u8], used: usize, directory: &[u8], edition: Editio
         part: sheet.part,
         layers: opened.layers,
         unlisted: opened.unlisted,
-        first_layers,
+        first_numbers,
     }
 }
 

@@ -1,5 +1,5 @@
 // Opening a sheet whose length is right: its sheet part, its body, stage three, and what stands before the place.
-use super::FirstLayers;
+use super::FirstNumbers;
 use super::Sheet;
 use super::body_records;
 use super::body_records::Extent;
@@ -130,7 +130,7 @@ pub(crate) struct Against {
     pub sheet: Sheet,
     pub layers: usize,
     pub unlisted: usize,
-    pub first_layers: FirstLayers,
+    pub first_numbers: FirstNumbers,
 }
 
 // The same of a sheet that is refused.
@@ -141,7 +141,7 @@ fn refused_against(fault: u8, at: usize) -> Against
         sheet: refused(fault, at),
         layers: 0,
         unlisted: 0,
-        first_layers: [0; 32],
+        first_numbers: [0; 33],
     }
 }
 
@@ -174,12 +174,12 @@ fn open_body(
     if body.number != 0 {
         return refused_against(body.number, body.at);
     }
-    let first_layers = body.first_layers;
+    let first_numbers = body.first_numbers;
     Against {
         sheet: stage_three(file, extent, part, body),
         layers: body.layers,
         unlisted: body.unlisted,
-        first_layers,
+        first_numbers,
     }
 }
 

@@ -1,9 +1,9 @@
 // The walk of stage two over the body. It also counts, so that stage three reads no more than each header's own counts, and keeps what stands
 // before the place.
-use super::FirstLayers;
-use super::KEPT;
+use super::FirstNumbers;
 use super::body_records;
 use super::body_records::Extent;
+use directory_columns::LayerNumbers;
 use files::RECORD;
 use format_directory::Edition;
 use records::Entry;
@@ -13,7 +13,7 @@ ghost use Prim.Native.Nat.{suc, _<_, _≤_};
 ghost use Rattle.format.specs.Basics.{first, unless};
 ghost use Rattle.files.specs.declared.Stride.the-variants.{Plain};
 ghost use Rattle.files.specs.Records.{recordsOf};
-ghost use Rattle.directory_columns.specs.Numbers.{listsHeader};
+ghost use Rattle.directory_columns.specs.Numbers.{listedOf, listsLayer};
 ghost use Rattle.records.specs.Entry.{toData};
 ghost use Rattle.judge.specs.Walks.{ExtentOf, lastBefore, seenNone, withHeader, SeenUpTo, passedOf, passedGroupOf, passedBodyOf};
 ghost use Rattle.judge.specs.Walks.{Item, HeaderAt, Child, Body, WholeBody, Listing, keptIn, passedLayersOf};
@@ -61,7 +61,7 @@ pub(crate) struct WalkedLayers {
     pub seen: Seen,
     pub layers: usize,
     pub unlisted: usize,
-    pub first_layers: FirstLayers,
+    pub first_numbers: FirstNumbers,
 }
 
 // A walk that found a fault.
@@ -110,7 +110,7 @@ fn failed_layers(number: u8, at: usize, seen: Seen) -> WalkedLayers
         seen,
         layers: 0,
         unlisted: 0,
-        first_layers: [0; 32],
+        first_numbers: [0; 33],
     }
 }
 
@@ -155,9 +155,9 @@ fn passed_layers(
     seen: Seen,
     layers: usize,
     unlisted: usize,
-    first_layers: FirstLayers,
+    first_numbers: FirstNumbers,
 ) -> WalkedLayers
-    ensures { λ r. ⌜ r ≡ passedLayersOf low seen layers unlisted «first_layers» ⌝ }
+    ensures { λ r. ⌜ r ≡ passedLayersOf low seen layers unlisted «first_numbers» ⌝ }
 {
     WalkedLayers {
         number: 0,
@@ -166,16 +166,27 @@ fn passed_layers(
         seen,
         layers,
         unlisted,
-        first_layers,
+        first_numbers,
     }
 }
 
-// Keeps the header of a layer, counted from 0, where there is room for it.
-fn keep(first_layers: &mut FirstLayers, layer: usize, header: usize)
-    ensures { λ _. ⌜ now («first_layers» .exit) ≡ keptIn (now («first_layers» .entry)) layer header ⌝ }
+// Keeps what a directory lists of a layer, counted from 0, where there is room for it.
+fn keep(first_numbers: &mut FirstNumbers, edition: Edition, layer: usize, numbers: LayerNumbers)
+    ensures { λ _. ⌜ now («first_numbers» .exit) ≡ keptIn edition (now («first_numbers» .entry)) layer (listedOf edition numbers) ⌝ }
 {
-    if layer < KEPT {
-        first_layers[layer] = header;
+    match edition {
+        Edition::One => {
+            if layer < 33 {
+                first_numbers[layer] = numbers.header;
+            }
+        }
+        Edition::Two => {
+            if layer < 11 {
+                first_numbers[3 * layer] = numbers.header;
+                first_numbers[3 * layer + 1] = numbers.total;
+                first_numbers[3 * layer + 2] = numbers.last;
+            }
+        }
     }
 }
 
@@ -299,15 +310,15 @@ fn walk_body(file: &[u8], extent: Extent, k: usize, open_level: usize, given: Se
     passed_body(at, low, tally, seen)
 }
 
-// The number of a layer, counted from 1, where a directory does not list it with its header; else 0. What is shorter than a record lists nothing.
-fn unlisted(directory: &[u8], edition: Edition, layer: usize, header: usize) -> usize
-    requires { ⌜ layer < header ⌝ }
-    ensures { λ r. ⌜ r ≡ unless (listsHeader edition (recordsOf Plain (now (directory .entry))) layer header) (suc layer) ⌝ }
+// The number of a layer, counted from 1, where a directory does not list it with its numbers; else 0. What is shorter than a record lists nothing.
+fn unlisted(directory: &[u8], edition: Edition, layer: usize, numbers: LayerNumbers) -> usize
+    requires { ⌜ layer < numbers .header ⌝ }
+    ensures { λ r. ⌜ r ≡ unless (listsLayer edition (recordsOf Plain (now (directory .entry))) layer (listedOf edition numbers)) (suc layer) ⌝ }
 {
     if directory.len() < RECORD {
         return layer + 1;
     }
-    if directory_columns::is_listed(directory, edition, layer, header) {
+    if directory_columns::is_listed(directory, edition, layer, numbers) {
         0
     } else {
         layer + 1
@@ -323,14 +334,14 @@ fn walk_layers(
     edition: Edition,
 ) -> WalkedLayers
     requires { ⌜ (ExtentOf (now file) extent) × (k ≤ extent .records) ⌝ }
-    ensures { λ r. ⌜ (WholeBody (now (file .entry)) extent k r) × (r .number ≡ 0 → Listing (now (file .entry)) extent k (recordsOf Plain (now (directory .entry))) edition (r .layers) (r .unlisted) (r .«first_layers»)) ⌝ }
+    ensures { λ r. ⌜ (WholeBody (now (file .entry)) extent k r) × (r .number ≡ 0 → Listing (now (file .entry)) extent k (recordsOf Plain (now (directory .entry))) edition (r .layers) (r .unlisted) (r .«first_numbers»)) ⌝ }
 {
     let mut at = k;
     let mut low = 0;
     let mut seen = seen_none(k);
     let mut layers = 0;
     let mut wrong = 0;
-    let mut first_layers = [0; 32];
+    let mut first_numbers = [0; 33];
     while at < extent.records {
         let entry = body_records::entry_at(file, extent, at);
         let fault = body_records::entry_fault(entry, 0);
@@ -341,14 +352,19 @@ fn walk_layers(
         if layer.number != 0 {
             return failed_layers(layer.number, layer.at, seen);
         }
-        wrong = first_of(wrong, unlisted(directory, edition, layers, at + 1));
-        keep(&mut first_layers, layers, at + 1);
+        let numbers = LayerNumbers {
+            header: at + 1,
+            total: layer.seen.items - seen.items,
+            last: layer.next,
+        };
+        wrong = first_of(wrong, unlisted(directory, edition, layers, numbers));
+        keep(&mut first_numbers, edition, layers, numbers);
         layers += 1;
         at = layer.next;
         low = first_of(low, layer.low);
         seen = layer.seen;
     }
-    passed_layers(low, seen, layers, wrong, first_layers)
+    passed_layers(low, seen, layers, wrong, first_numbers)
 }
 
 // All of the body, behind a sheet part of so many records.
@@ -360,7 +376,7 @@ pub(crate) fn walk_whole(
     edition: Edition,
 ) -> WalkedLayers
     requires { ⌜ (ExtentOf (now file) extent) × (part ≤ extent .records) ⌝ }
-    ensures { λ r. ⌜ (WholeBody (now (file .entry)) extent part r) × (r .number ≡ 0 → Listing (now (file .entry)) extent part (recordsOf Plain (now (directory .entry))) edition (r .layers) (r .unlisted) (r .«first_layers»)) ⌝ }
+    ensures { λ r. ⌜ (WholeBody (now (file .entry)) extent part r) × (r .number ≡ 0 → Listing (now (file .entry)) extent part (recordsOf Plain (now (directory .entry))) edition (r .layers) (r .unlisted) (r .«first_numbers»)) ⌝ }
 {
     let first = body_records::begin(file, part);
     walk_layers(file, extent, first, directory, edition)

@@ -1,5 +1,5 @@
--- `is_listed` compares the column that the edition has for the layer. Assumes nothing.
-use Rattle.directory_columns.proofs.Numbers.{some-each, listed-is}
+-- `is_listed` compares the columns that the edition has for the layer. Assumes nothing.
+use Rattle.directory_columns.proofs.Numbers.{some-each, place-small, place-fits, listed-is}
 use borrow.Author.Needs.{needs}
 use Rattle.directory_columns.proofs.is_listed.Statement.{statement}
 use Rattle.directory_columns.proofs.is_listed.Tie as tie
@@ -13,11 +13,17 @@ div-record-at c = search some-each
 record-at-requires : tie.Need-record-at-requires
 record-at-requires c κs = search needs
 
-rem-number-is : tie.Need-rem-number-is
-rem-number-is c = search some-each
+per-layer-requires : tie.Need-per-layer-requires
+per-layer-requires c κs = search needs
 
-number-is-requires : tie.Need-number-is-requires
-number-is-requires c κs = search needs
+rem-numbers-are : tie.Need-rem-numbers-are
+rem-numbers-are c = search some-each
+
+mul-numbers-are : tie.Need-mul-numbers-are
+mul-numbers-are c = search place-small
+
+numbers-are-requires : tie.Need-numbers-are-requires
+numbers-are-requires c κs = search place-fits
 
 returns : tie.Need-returns
 returns c = search listed-is
@@ -29,6 +35,8 @@ is-listed-spec =
     per-record-requires
     div-record-at
     record-at-requires
-    rem-number-is
-    number-is-requires
+    per-layer-requires
+    rem-numbers-are
+    mul-numbers-are
+    numbers-are-requires
     returns)
