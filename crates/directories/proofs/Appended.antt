@@ -27,12 +27,12 @@ use Rattle.files.specs.Buffers.{putAt}
 use Rattle.files.proofs.Buffers.{put-behind}
 use Rattle.files.proofs.Records.{front-records, length-records}
 use Rattle.format_directory.specs.declared.Edition.{Edition}
-use Rattle.format_directory.specs.declared.Edition.the-variants.{One}
+use Rattle.format_directory.specs.declared.Edition.the-variants.{One, Two}
 use Rattle.format_directory.specs.Directory.{Layer, layersFrom, layersOf, perRecord, row, closing, shared, directoryOf, appendTo, appendDirectory}
 use Rattle.format_directory.proofs.DirectoryRecords.{most, length-row, length-closing, length-shared, length-directory, wide-rows}
 use Rattle.format_directory.proofs.DirectoryJudged.{Accepted, accepted-of, few-layers}
 use Rattle.judge.specs.declared.ListedSheet.{ListedSheet}
-use Rattle.judge.specs.Listed.{firstHeaders, listedIn}
+use Rattle.judge.specs.Listed.{firstNumbers, keptLayers, listedIn}
 use Rattle.judge.proofs.ListedLaws.{OpenedListed, listed-refusal, opened-listed}
 use Rattle.directories.specs.declared.writing.Row.{Row}
 use Rattle.directories.specs.Steps.{viewsIn, layersIn, Kept, RowFrom, rowsPut, directoryPut}
@@ -90,6 +90,7 @@ module _ (e : Edition) (used k : ℕ) (buffer₀ : List ℕ) where
 -- ---- so many layers stand before a record of the directory
 pub before-few : (e : Edition) (each rows i : ℕ) → each ≡ perRecord e → i < rows → rows ≤ 200000 → each * i ≤ 200000 * 11
 before-few One each rows i q h m = rw q (omega arith)
+before-few Two each rows i q h m = rw q (omega arith)
 
 pub before-fits : (e : Edition) (each rows i : ℕ) → each ≡ perRecord e → i < rows → rows ≤ 200000 → Fits w64 (each * i)
 before-fits e each rows i q h m = record { fits = omega (arith, before-few e each rows i q h m) }
@@ -128,10 +129,10 @@ module _ (e : Edition) (used k rows : ℕ) (buffer₀ buffer : List ℕ) (at i :
   records-few h = omega (arith, ap length (front-records used buffer sheet-inside) ∙ length-chunks (used / 84) buffer)
 
   -- the layers before those of this record
-  pub rows-kept : (first : List ℕ) (each : ℕ) → first ≡ firstHeaders 32 (layersIn (take used buffer₀) k) → each ≡ perRecord e → Kept (take used buffer) first (each * i) at
+  pub rows-kept : (first : List ℕ) (each : ℕ) → first ≡ firstNumbers e (keptLayers e) (layersIn (take used buffer₀) k) → each ≡ perRecord e → Kept (take used buffer) e first (each * i) at
   rows-kept first each first-is each-is = record {
     part = k;
-    are = first-is ∙ ap (λ (x : List ℕ). firstHeaders 32 (layersIn x k)) (sym kept);
+    are = first-is ∙ ap (λ (x : List ℕ). firstNumbers e (keptLayers e) (layersIn x k)) (sym kept);
     left = ap (λ (x : List ℕ). layersIn x at) kept ∙ g .left ∙ ap₂ (λ (n : ℕ) (x : List ℕ). drop (n * i) (layersIn x k)) (sym each-is) (sym kept);
   }
 
@@ -236,8 +237,8 @@ module _ (e : Edition) (used : ℕ) (buffer : List ℕ) (directory : List (List 
     unfolding viewsIn layersOf
     layers-same = ap₂ (λ (k : ℕ) (x : List (List ℕ)). layersFrom 0 (suc k) (map view (drop k x))) (o .part-is) (front-records used buffer (form .inside))
 
-    pub first-kept : listed .«first_layers» ≡ firstHeaders 32 (layersIn (take used buffer) (listed .part))
-    first-kept = o .first-layers-are ∙ ap (firstHeaders 32) (sym layers-same)
+    pub first-kept : listed .«first_numbers» ≡ firstNumbers e (keptLayers e) (layersIn (take used buffer) (listed .part))
+    first-kept = o .first-numbers-are ∙ ap (firstNumbers e (keptLayers e)) (sym layers-same)
 
     pub layers-counted : listed .layers ≡ length (layersIn (take used buffer) (listed .part))
     layers-counted = o .layers-are ∙ ap length (sym layers-same)

@@ -2,5 +2,5 @@ mod OneRecord
 mod Rows
 mod Different
 mod Written
-mod Judged
+mod Judging
 mod Appended

@@ -22,8 +22,8 @@ use Rattle.format_directory.specs.Directory.{columnsOf, recordOf}
 use Rattle.format_directory.proofs.DirectoryRecords.{TwoLetters, Short, column-at, short-get, spaces-replicate, length-record, length-columns, same-self}
 use Rattle.format_directory.proofs.DirectoryColumns.{columns-from, spaces-from}
 use Rattle.format_directory.proofs.DirectoryChecks.{spaces-each}
-use Rattle.directory_columns.specs.Numbers.{numberIs}
-use Rattle.directories.specs.Steps.{framed, numbersAre}
+use Rattle.directory_columns.specs.Numbers.{numberIs, numbersAre}
+use Rattle.directories.specs.Steps.{framed}
 
 -- two tests that follow from each other are one
 both : (a b : Bool) → (a ≡ true → b ≡ true) → (b ≡ true → a ≡ true) → a ≡ b

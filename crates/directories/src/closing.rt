@@ -4,8 +4,9 @@ ghost use mathlib.Core.List.{[], _∷_};
 ghost use Prim.Native.Nat.{_+_, _*_, _≤_, _<_};
 ghost use lib.ListN.{length};
 ghost use Rattle.format.specs.Layout.{column};
-ghost use Rattle.format_directory.specs.Directory.{endLetters, endColumns, numberIn, isWritten, closingOk};
-ghost use Rattle.directories.specs.Steps.{framed, closingIs};
+ghost use Rattle.format_directory.specs.Directory.{endLetters, endColumns, numberIn, isWritten, closingOk, isSecond};
+ghost use Rattle.directory_columns.specs.Numbers.{numberIs};
+ghost use Rattle.directories.specs.Steps.{framed, othersWritten, closingIs};
 use directory_columns::LETTERS;
 use directory_columns::WIDTH;
 use files::RECORD;
@@ -36,6 +37,7 @@ fn is_end(record: &[u8], edition: Edition) -> bool
 {
     match edition {
         Edition::One => is_framed(record, b'Z', b'E', 2),
+        Edition::Two => is_framed(record, b'Y', b'E', 3),
     }
 }
 
@@ -61,6 +63,20 @@ pub(crate) fn number_in(record: &[u8], k: usize) -> usize
     columns::number_at(record, LETTERS + WIDTH * k, WIDTH)
 }
 
+// The columns behind the pointer are in written form.
+fn others_written(record: &[u8], edition: Edition) -> bool
+    requires { ⌜ length (now «record») ≡ 84 ⌝ }
+    ensures { λ r. ⌜ r ≡ othersWritten edition (now («record» .entry)) ⌝ }
+{
+    if !is_written(record, 1) {
+        return false;
+    }
+    match edition {
+        Edition::One => true,
+        Edition::Two => is_written(record, 2),
+    }
+}
+
 // A closing record that is well formed, and whose pointer lies from 1 to its own number.
 pub(crate) fn closing_ok(record: &[u8], edition: Edition, number: usize) -> bool
     requires { ⌜ length (now «record») ≡ 84 ⌝ }
@@ -72,7 +88,7 @@ pub(crate) fn closing_ok(record: &[u8], edition: Edition, number: usize) -> bool
     if !is_written(record, 0) {
         return false;
     }
-    if !is_written(record, 1) {
+    if !others_written(record, edition) {
         return false;
     }
     let pointer = number_in(record, 0);
@@ -92,5 +108,29 @@ pub(crate) fn is_closing(record: &[u8], edition: Edition, pointer: usize, layers
     if !directory_columns::number_is(record, 0, pointer) {
         return false;
     }
-    directory_columns::number_is(record, 1, layers)
+    if !directory_columns::number_is(record, 1, layers) {
+        return false;
+    }
+    match edition {
+        Edition::One => true,
+        Edition::Two => states_two(record),
+    }
+}
+
+// The edition column holds 2 in written form.
+pub(crate) fn states_two(record: &[u8]) -> bool
+    ensures { λ r. ⌜ r ≡ numberIs (now («record» .entry)) 2 2 ⌝ }
+{
+    directory_columns::number_is(record, 2, 2)
+}
+
+// A record that starts as the second edition's closing one.
+pub(crate) fn is_second(record: &[u8]) -> bool
+    requires { ⌜ length (now «record») ≡ 84 ⌝ }
+    ensures { λ r. ⌜ r ≡ isSecond (now («record» .entry)) ⌝ }
+{
+    if record[0] != b'Y' {
+        return false;
+    }
+    record[1] == b'E'
 }

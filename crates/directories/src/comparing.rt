@@ -1,4 +1,4 @@
-// The records of a directory against the right ones. That each layer is listed with its header was looked at when the sheet was judged; what is left are the
+// The records of a directory against the right ones. That each layer is listed with its numbers was looked at when the sheet was judged; what is left are the
 // letters, the spaces, the closing record and what stands behind it.
 ghost use mathlib.Core.Path.{_≡_};
 ghost use Prim.Native.Nat.{_*_, _≤_};
@@ -17,6 +17,7 @@ fn is_row(record: &[u8], edition: Edition, layers: usize) -> bool
 {
     match edition {
         Edition::One => closing::is_framed(record, b'Z', b' ', layers),
+        Edition::Two => closing::is_framed(record, b'Y', b' ', 3 * layers),
     }
 }
 

@@ -1,5 +1,5 @@
 -- `judge_from`: the sheet before the pointer, then the records from there on. Assumes nothing.
-use Rattle.directories.proofs.Judged.{from-refused, layers-most, different-fits, from-different, from-same}
+use Rattle.directories.proofs.Judging.{from-refused, layers-most, different-fits, from-different, from-same}
 use borrow.Author.Needs.{needs}
 use Rattle.directories.proofs.judge_from.Statement.{statement}
 use Rattle.directories.proofs.judge_from.Tie as tie

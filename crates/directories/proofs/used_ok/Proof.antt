@@ -1,5 +1,5 @@
 -- `used_ok`: three tests of the length. Assumes nothing.
-use Rattle.directories.proofs.Judged.{none-used, above-buffer, even-only}
+use Rattle.directories.proofs.Judging.{none-used, above-buffer, even-only}
 use Rattle.directories.proofs.used_ok.Statement.{statement}
 use Rattle.directories.proofs.used_ok.Tie as tie
 

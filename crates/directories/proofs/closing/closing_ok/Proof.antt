@@ -1,5 +1,5 @@
--- `closing_ok`: the frame, both columns, and the pointer. Assumes nothing.
-use Rattle.directories.proofs.OneRecord.{no-frame, no-pointer, no-count, pointer-low, pointer-high}
+-- `closing_ok`: letters, columns, pointer. Assumes nothing.
+use Rattle.directories.proofs.OneRecord.{no-frame, no-pointer, no-others, pointer-low, pointer-high}
 use borrow.Author.Needs.{needs}
 use Rattle.directories.proofs.closing.closing_ok.Statement.{statement}
 use Rattle.directories.proofs.closing.closing_ok.Tie as tie
@@ -16,11 +16,11 @@ is-written-requires c κs = search needs
 returns-2 : tie.Need-returns-2
 returns-2 c = search no-pointer
 
-is-written-requires-2 : tie.Need-is-written-requires-2
-is-written-requires-2 c κs = search needs
+others-written-requires : tie.Need-others-written-requires
+others-written-requires c κs = search needs
 
 returns-3 : tie.Need-returns-3
-returns-3 c = search no-count
+returns-3 c = search no-others
 
 number-in-requires : tie.Need-number-in-requires
 number-in-requires c κs = search needs
@@ -39,7 +39,7 @@ closing-ok-spec =
     returns
     is-written-requires
     returns-2
-    is-written-requires-2
+    others-written-requires
     returns-3
     number-in-requires
     returns-4

@@ -1,24 +1,21 @@
--- `next_layer` goes from one header or item to the next. The loop's invariant: the layers from here on are those from the start on; its measure the records
--- left. Assumes nothing.
-use mathlib.Core.Path.{_≡_, refl}
+-- `next_layer` goes from one header or item to the next. The loop's invariant is `Passing`, its measure the records left. Assumes nothing.
 use Prim.Native.Nat.{_-_}
 use borrow.Author.Needs.{needs}
-use Rattle.directories.specs.Steps.{layersIn}
-use Rattle.directories.proofs.Written.{few-data, at-small, layer-there, hops, hop-on, no-layer}
+use Rattle.directories.proofs.Written.{Passing, passing, few-data, at-small, item-fits, layer-there, hops, hop-on, no-layer}
 use Rattle.directories.proofs.writing.next_layer.Statement.{statement}
 use Rattle.directories.proofs.writing.next_layer.Tie as tie
 
 abbrev Inv-loop : tie.InvT-loop
-Inv-loop file k count at₀ at = layersIn file k ≡ layersIn file at
+Inv-loop file k count at₀ items₀ at items = Passing file k at items
 
 abbrev μ-loop : tie.MeasureT-loop
-μ-loop file k count at₀ at = count - at
+μ-loop file k count at₀ items₀ at items = count - at
 
 count-requires : tie.Need-count-requires Inv-loop μ-loop
 count-requires c κs = search needs
 
 loop-holds : tie.Need-loop-holds Inv-loop μ-loop
-loop-holds c = refl
+loop-holds c = search passing
 
 record-at-requires : tie.Need-record-at-requires Inv-loop μ-loop
 record-at-requires c κs = search needs
@@ -31,6 +28,12 @@ is-layer-requires c κs = search needs
 
 returns : tie.Need-returns Inv-loop μ-loop
 returns c = search layer-there
+
+one-if-item-requires : tie.Need-one-if-item-requires Inv-loop μ-loop
+one-if-item-requires c κs = search needs
+
+add-items : tie.Need-add-items Inv-loop μ-loop
+add-items c = search item-fits
 
 behind-requires : tie.Need-behind-requires Inv-loop μ-loop
 behind-requires c κs = (search few-data, search at-small)
@@ -56,6 +59,8 @@ next-layer-spec =
     outline-requires
     is-layer-requires
     returns
+    one-if-item-requires
+    add-items
     behind-requires
     loop-less
     loop-again

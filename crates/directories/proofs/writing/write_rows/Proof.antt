@@ -4,14 +4,14 @@ use Prim.Native.Nat.{_+_, _-_, _*_, _≤_}
 use lib.ListN.{length, take}
 use borrow.Author.Needs.{needs}
 use Rattle.format_directory.specs.Directory.{perRecord}
-use Rattle.judge.specs.Listed.{firstHeaders}
+use Rattle.judge.specs.Listed.{firstNumbers, keptLayers}
 use Rattle.directories.specs.Steps.{layersIn}
 use Rattle.directories.proofs.Appended.{RowsSoFar, no-rows, before-few, before-fits, rows-kept, long-kept, sheet-inside, sheet-taken, records-few, row-end, row-put, all-rows}
 use Rattle.directories.proofs.writing.write_rows.Statement.{statement}
 use Rattle.directories.proofs.writing.write_rows.Tie as tie
 
 abbrev Inv-loop : tie.InvT-loop
-Inv-loop buffer₀ used edition k rows first each start end at₀ i₀ buffer at i = (each ≡ perRecord edition) × (first ≡ firstHeaders 32 (layersIn (take used buffer₀) k)) × (start ≡ 0) × (end ≡ 84) × (used ≤ 84 * 200000) × (rows ≤ 200000) × (used + 84 * rows ≤ length buffer₀) × RowsSoFar edition used k rows buffer₀ buffer at i
+Inv-loop buffer₀ used edition k rows first each start end at₀ i₀ buffer at i = (each ≡ perRecord edition) × (first ≡ firstNumbers edition (keptLayers edition) (layersIn (take used buffer₀) k)) × (start ≡ 0) × (end ≡ 84) × (used ≤ 84 * 200000) × (rows ≤ 200000) × (used + 84 * rows ≤ length buffer₀) × RowsSoFar edition used k rows buffer₀ buffer at i
 
 abbrev μ-loop : tie.MeasureT-loop
 μ-loop buffer₀ used edition k rows first each start end at₀ i₀ buffer at i = rows - i
