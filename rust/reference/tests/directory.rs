@@ -1,54 +1,21 @@
 //! Order 5 by its own sentences, on small files, each answer stated here by hand; and the commands of the batch protocol.
 
+mod small;
+
 use reference::directory::{append, jump, sheet};
 use reference::judge;
 use reference::protocol::{hex, reply};
-use reference::sheets::{EXAMPLE_ITEM, EXAMPLE_LAYER, EXAMPLE_PART};
-use reference::{Refusal, RECORD};
-
-/// The sheet part of document 01's example, for so many elements and records behind it.
-fn part(elements: usize, records: usize) -> String {
-    let mut part = EXAMPLE_PART.map(str::to_string);
-    part[1].replace_range(31..44, &format!("{elements:>6}{records:>7}"));
-    part.concat()
-}
-
-/// The example of document 01: nine records, a layer at record 6 and one item.
-fn example() -> String {
-    [part(1, 4).as_str(), EXAMPLE_LAYER, &EXAMPLE_ITEM.concat()].concat()
-}
-
-/// A layer without groups and items.
-fn empty_layer() -> String {
-    let mut layer = EXAMPLE_LAYER.to_string();
-    layer.replace_range(18..68, &"    0".repeat(10));
-    layer
-}
-
-/// A sheet of so many empty layers, from record 6 on.
-fn layers(count: usize) -> String {
-    part(0, count) + &empty_layer().repeat(count)
-}
-
-/// Some letters, and spaces behind them to the end of the record.
-fn record(text: &str) -> String {
-    format!("{text:<84}")
-}
+use reference::sheets::{EXAMPLE_ITEM, EXAMPLE_LAYER};
+use reference::RECORD;
+use small::{empty_layer, example, layers, part, put_behind, record, refused, with};
 
 fn judged(file: &str) -> Result<(usize, usize), (u8, usize)> {
     sheet(file.as_bytes(), file.len()).map(|c| (c.records, c.items)).map_err(|r| (r.number, r.record))
 }
 
-fn refused<T>(answer: Result<T, Refusal>) -> Option<(u8, usize)> {
-    answer.err().map(|refusal| (refusal.number, refusal.record))
-}
-
 /// What appending puts behind a sheet.
 fn appended(sheet: &str) -> String {
-    let mut buffer = [sheet.as_bytes(), &[b'.'; 6 * RECORD]].concat();
-    let used = append(&mut buffer, sheet.len()).expect("an accepted sheet, and room");
-    assert!(buffer.starts_with(sheet.as_bytes()) && buffer[used..].iter().all(|b| *b == b'.'));
-    String::from_utf8(buffer[sheet.len()..used].to_vec()).expect("text")
+    put_behind(sheet, append)
 }
 
 #[test]
@@ -135,7 +102,7 @@ fn the_sheet_before_the_pointer() {
 
 #[test]
 fn nineteen_with_the_first_record_that_differs() {
-    let after = |sheet: &str, texts: &[&str]| judged(&(sheet.to_string() + &texts.iter().map(|t| record(t)).collect::<String>()));
+    let after = |sheet: &str, texts: &[&str]| judged(&with(sheet, texts));
     let one = |text: &str| after(&example(), &[text, "ZE     10      1"]);
     assert_eq!(one("Z       6"), Ok((9, 1)));
     let numbers = [
@@ -175,7 +142,7 @@ fn nineteen_with_the_first_record_that_differs() {
 #[test]
 fn only_the_last_record_holds_fewer_than_eleven() {
     let eleven = "Z       6      7      8      9     10     11     12     13     14     15     16";
-    let file = |texts: &[&str]| judged(&(layers(12) + &texts.iter().map(|t| record(t)).collect::<String>()));
+    let file = |texts: &[&str]| judged(&with(&layers(12), texts));
     assert_eq!(file(&[eleven, "Z      17", "ZE     18     12"]), Ok((17, 0)));
     assert_eq!(file(&["Z      17", eleven, "ZE     18     12"]), Err((19, 18)));
     assert_eq!(file(&[&eleven[..72], "Z      16     17", "ZE     18     12"]), Err((19, 18)));
