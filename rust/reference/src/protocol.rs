@@ -88,20 +88,27 @@ fn leaf(command: &str, w: &mut Words) -> Result<String, String> {
     }
 }
 
-/// The commands of order 5, on sheets with a directory.
-fn order_5(command: &str, w: &mut Words) -> Result<String, String> {
+/// The commands of orders 5 and 13, on sheets with a directory: the old calls, and those of the second edition.
+fn with_directory(command: &str, w: &mut Words) -> Result<String, String> {
     match command {
-        "directory" => {
+        "directory" | "directory2" => {
             let (used, buffer) = (used(w)?, bytes(w)?);
-            Ok(said(directory::sheet(&buffer, used).map(|c| format!("{} {}", c.records, c.items))))
+            let reader = if command == "directory" { directory::OLD } else { directory::NEW };
+            Ok(said(reader.sheet(&buffer, used).map(|c| format!("{} {}", c.records, c.items))))
         }
-        "append" => {
+        "append" | "append2" => {
             let (used, mut buffer) = (used(w)?, bytes(w)?);
-            Ok(said(directory::append(&mut buffer, used).map(|n| format!("{n} {}", hex(&buffer)))))
+            let edition = if command == "append" { directory::FIRST } else { directory::SECOND };
+            Ok(said(edition.append(&mut buffer, used).map(|n| format!("{n} {}", hex(&buffer)))))
         }
         "jump" => {
             let (used, buffer, layer) = (used(w)?, bytes(w)?, number(w)?);
             Ok(said(directory::jump(&buffer, used, layer).map(|header| header.to_string())))
+        }
+        "jump2" => {
+            let (used, buffer, layer) = (used(w)?, bytes(w)?, number(w)?);
+            let found = directory::NEW.jump(&buffer, used, layer);
+            Ok(said(found.map(|layer| format!("{} {} {}", layer.header, layer.total, layer.last))))
         }
         other => leaf(other, w),
     }
@@ -120,7 +127,7 @@ fn order_1(command: &str, w: &mut Words) -> Result<String, String> {
             let write = if command == "to86" { lines::to_lines } else { lines::from_lines };
             Ok(said(write(&buffer, used, &mut target).map(|n| format!("{n} {}", hex(&target)))))
         }
-        other => order_5(other, w),
+        other => with_directory(other, w),
     }
 }
 

@@ -1,9 +1,10 @@
-//! Order 13 by its own sentences, on small files, each answer stated here by hand.
+//! Order 13 by its own sentences, on small files, each answer stated here by hand; and the commands of the batch protocol.
 
 mod small;
 
 use reference::directory::{self, Layer, NEW, SECOND};
 use reference::judge;
+use reference::protocol::{hex, reply};
 use reference::sheets::{EXAMPLE_ITEM, EXAMPLE_LAYER};
 use reference::RECORD;
 use small::{empty_layer, example, layers, part, put_behind, record, refused, with};
@@ -381,4 +382,27 @@ fn a_total_that_no_header_states() {
     for row in ["Y       6   1392   1400", "Y       6  98000 198008", "Y       6      2 198008"] {
         assert_eq!(judged(&with(&sheet, &[row, "YE 198009      1      2"])), Err((19, 198_009)), "{row}");
     }
+}
+
+#[test]
+fn the_commands_of_the_batch_protocol() {
+    let sheet = hex(example().as_bytes());
+    let second = hex((example() + &appended(&example())).as_bytes());
+    let first = hex((example() + &put_behind(&example(), directory::append)).as_bytes());
+    assert_eq!(reply(&format!("directory2 924 {second}")), "ok 9 1");
+    assert_eq!(reply(&format!("directory2 924 {first}")), "ok 9 1");
+    assert_eq!(reply(&format!("directory 924 {second}")), "no 19 11");
+    assert_eq!(reply(&format!("directory2 756 {sheet}")), "no 19 9");
+    assert_eq!(reply(&format!("directory2 84 {}", hex(record("YE").as_bytes()))), "no 27 1");
+    assert_eq!(reply(&format!("append2 756 {sheet}")), "no 15 0");
+    assert_eq!(reply(&format!("append2 756 {sheet}{}", "2e".repeat(170))), format!("ok 924 {second}2e2e"));
+    assert_eq!(reply(&format!("append2 924 {first}")), "no 4 10");
+    assert_eq!(reply(&format!("jump2 924 {second} 1")), "ok 6 1 9");
+    assert_eq!(reply(&format!("jump2 924 {first} 1")), "ok 6 0 0");
+    assert_eq!(reply(&format!("jump 924 {second} 1")), "no 19 11");
+    assert_eq!(reply(&format!("jump2 924 {second} 18446744073709551615")), "no 17 0");
+    assert_eq!(reply("jump2 0 - 0"), "no 1 0");
+    assert_eq!(reply(&format!("jump2 924 {second}")), "error a word is missing");
+    assert_eq!(reply("directory2 0"), "error a word is missing");
+    assert_eq!(reply("append2 0 - -"), "error one word too many: -");
 }
