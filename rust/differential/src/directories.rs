@@ -2,7 +2,7 @@
 
 use crate::files::counted;
 use crate::Answers;
-use reference::directory;
+use reference::directory::{self, FIRST};
 use reference::directory_calls::{self, Jumping};
 use reference::line_calls::Lent;
 use reference::protocol::hex;
@@ -51,7 +51,7 @@ fn append(call: &Lent, answers: &mut Answers) -> Result<Option<Vec<u8>>, String>
 
 pub fn judging(r: &mut Random, cases: usize, answers: &mut Answers) -> Result<(), String> {
     (0..cases).try_for_each(|_| {
-        let lent = directory_calls::judging(r);
+        let lent = directory_calls::judging(r, &FIRST);
         judge(&lent.buffer, lent.used, answers)
     })
 }
@@ -70,7 +70,7 @@ fn ours_passes(file: &[u8], sheet: usize) -> Result<(), String> {
 
 pub fn appending(r: &mut Random, cases: usize, answers: &mut Answers) -> Result<(), String> {
     (0..cases).try_for_each(|_| {
-        let call = directory_calls::appending(r);
+        let call = directory_calls::appending(r, &FIRST);
         let file = append(&call, answers)?;
         file.map_or(Ok(()), |file| ours_passes(&file, call.used))
     })
@@ -78,7 +78,7 @@ pub fn appending(r: &mut Random, cases: usize, answers: &mut Answers) -> Result<
 
 pub fn jumping(r: &mut Random, cases: usize, answers: &mut Answers) -> Result<(), String> {
     (0..cases).try_for_each(|_| {
-        let Jumping { from, layer } = directory_calls::jumping(r);
+        let Jumping { from, layer } = directory_calls::jumping(r, &FIRST);
         jump(&from.buffer, from.used, layer, answers)
     })
 }

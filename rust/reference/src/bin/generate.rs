@@ -1,5 +1,5 @@
 //! Makes commands of the batch protocol from a seed: `generate leaves SEED COUNT` on columns and corners, `generate lines SEED COUNT` on files with
-//! line ends, `generate directories SEED COUNT` on sheets with a directory.
+//! line ends, `generate directories SEED COUNT` on sheets with a directory of the first edition, `generate editions SEED COUNT` with one of either.
 
 use reference::vectors::leaves;
 use reference::{directory_calls, line_calls};
@@ -18,8 +18,10 @@ fn main() -> io::Result<()> {
         ["directories", seed, count] => {
             io::stdout().write_all(&directory_calls::commands(seed.parse().expect("a seed"), count.parse().expect("a count")))
         }
+        ["editions", seed, count] => io::stdout()
+            .write_all(&directory_calls::commands_of_both(seed.parse().expect("a seed"), count.parse().expect("a count"))),
         _ => {
-            eprintln!("usage: generate leaves|lines|directories SEED COUNT");
+            eprintln!("usage: generate leaves|lines|directories|editions SEED COUNT");
             std::process::exit(2);
         }
     }

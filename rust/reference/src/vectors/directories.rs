@@ -6,7 +6,7 @@
 //! A judgement answers `ok RECORDS ITEMS` or `no NUMBER RECORD`; an append `ok USED` or `no NUMBER RECORD`, and behind it the digest of the whole
 //! buffer; a jump `ok RECORD` or `no NUMBER RECORD`.
 
-use crate::directory::{self, record};
+use crate::directory::{self, record, FIRST};
 use crate::directory_calls::{appending, judging, jumping, Jumping};
 use crate::layout::Layouts;
 use crate::line_calls::{marked, Lent};
@@ -278,10 +278,10 @@ fn fixed() -> Vec<Case> {
 
 fn drawn(r: &mut Random, call: Call) -> Case {
     match call {
-        Call::Directory => Case { call, lent: judging(r), layer: 0 },
-        Call::Append => Case { call, lent: appending(r), layer: 0 },
+        Call::Directory => Case { call, lent: judging(r, &FIRST), layer: 0 },
+        Call::Append => Case { call, lent: appending(r, &FIRST), layer: 0 },
         Call::Jump => {
-            let Jumping { from, layer } = jumping(r);
+            let Jumping { from, layer } = jumping(r, &FIRST);
             Case { call, lent: from, layer }
         }
     }
