@@ -1,9 +1,10 @@
 //! Every byte of a small file replaced by every other byte, every pair of bytes for a line end, and every pointer of a directory.
 
-use crate::{directories, files, lines, Answers};
+use crate::directories::{Calls, OLD_CALLS};
+use crate::{files, lines, Answers};
 use reference::lines::{with_ends, LINE};
 use reference::random::Random;
-use reference::{directory, sheets, RECORD};
+use reference::{sheets, RECORD};
 
 /// Judges a file, whole, by both.
 type Judge = fn(bool, &[u8], usize, &mut Answers) -> Result<(), String>;
@@ -66,39 +67,47 @@ pub fn every_line_end(seed: u64) -> Result<Answers, String> {
     Ok(answers)
 }
 
-/// The sheet with its directory behind it.
-fn with_directory(sheet: &[u8]) -> Vec<u8> {
+/// The sheet with a directory of the calls' edition behind it.
+fn with_directory(calls: &Calls, sheet: &[u8]) -> Vec<u8> {
     let mut file = sheet.to_vec();
     file.resize(2 * sheet.len() + RECORD, b' ');
-    let used = directory::append(&mut file, sheet.len()).expect("an accepted sheet");
+    let used = calls.edition.append(&mut file, sheet.len()).expect("an accepted sheet");
     file.truncate(used);
     file
 }
 
-/// A sheet of twelve empty layers: every byte of the three records of its directory.
-pub fn every_byte_of_a_directory(seed: u64) -> Result<Answers, String> {
-    let mut r = Random(seed);
-    let sheet = sheets::sheet_of(&mut r, vec![sheets::layer(&[]); 12], 0);
-    let mut file = with_directory(&sheet);
+/// Every byte of the records of a sheet's directory.
+fn every_byte_behind(calls: &Calls, sheet: &[u8]) -> Result<Answers, String> {
+    let mut file = with_directory(calls, sheet);
     let mut answers = Answers::default();
     for (at, byte) in (sheet.len()..file.len()).flat_map(|at| (0..=255).map(move |byte| (at, byte))) {
         let before = std::mem::replace(&mut file[at], byte);
-        directories::judge(&file, file.len(), &mut answers)?;
+        calls.judged(&file, file.len(), &mut answers)?;
         file[at] = before;
     }
     Ok(answers)
 }
 
-/// Some sheet of 10 to 20 records with its directory: every pointer from below 0 to past the file, with the right count and those around it.
-pub fn every_pointer(seed: u64) -> Result<Answers, String> {
-    let mut r = Random(seed);
-    let file = with_directory(&small(20, || sheets::sheet(&mut r, 2)));
+/// Every pointer from below 0 to past the file, with the right count and those around it.
+fn every_pointer_by(calls: &Calls, sheet: &[u8]) -> Result<Answers, String> {
+    let file = with_directory(calls, sheet);
     let last = file.len() - RECORD;
     let mut answers = Answers::default();
     let pointers = -2..=(file.len() / RECORD + 3) as i64;
-    for numbers in pointers.flat_map(|pointer| (-2..=5).map(move |count| [pointer, count])) {
-        let twin = [&file[..last], &directory::record("ZE", &numbers)].concat();
-        directories::judge(&twin, twin.len(), &mut answers)?;
+    for (pointer, count) in pointers.flat_map(|pointer| (-2..=5).map(move |count| (pointer, count))) {
+        let twin = [&file[..last], &calls.edition.closing(pointer, count)].concat();
+        calls.judged(&twin, twin.len(), &mut answers)?;
     }
     Ok(answers)
+}
+
+/// A sheet of twelve empty layers: every byte of the three records of its directory.
+pub fn every_byte_of_a_directory(seed: u64) -> Result<Answers, String> {
+    every_byte_behind(&OLD_CALLS, &sheets::sheet_of(&mut Random(seed), vec![sheets::layer(&[]); 12], 0))
+}
+
+/// Some sheet of 10 to 20 records with its directory: every pointer.
+pub fn every_pointer(seed: u64) -> Result<Answers, String> {
+    let mut r = Random(seed);
+    every_pointer_by(&OLD_CALLS, &small(20, || sheets::sheet(&mut r, 2)))
 }

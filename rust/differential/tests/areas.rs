@@ -45,6 +45,7 @@ areas! {
     judging_with_directory: "judging with directory", 20_000;
     appending_a_directory: "appending a directory", 10_000;
     jumping_by_a_directory: "jumping by a directory", 20_000;
+    old_calls_on_the_second_edition: "old calls, second edition", 20_000;
     lists_of_edits: "lists of edits", 30_000;
 }
 

@@ -66,7 +66,7 @@ impl Edition {
     }
 
     /// What a jump finds by this edition: "the same headers, with total and last beside them, both 0 for edition 1".
-    fn finds(&self, layer: &Layer) -> Layer {
+    pub fn finds(&self, layer: &Layer) -> Layer {
         let stated = |place: usize, n: usize| if place < self.numbers { n } else { 0 };
         Layer { header: layer.header, total: stated(1, layer.total), last: stated(2, layer.last) }
     }
