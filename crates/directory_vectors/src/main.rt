@@ -1,13 +1,15 @@
-// Runs stored calls on sheets with a directory: judges them, appends a directory, jumps to a layer. What it prints is held to the answers of
-// an implementation that shares nothing with the library.
+// Runs stored calls on sheets with a directory of either edition: judges them, appends a directory, jumps to a layer. What it prints is held to the
+// answers of an implementation that shares nothing with the library.
 //
-// A case is a line of 39 bytes: `directory`, `append` or `jump` in ten bytes; the used length in ten digits, a space, the layer in ten digits, a
-// space, the buffer's length in six digits and a line end; then the buffer's bytes.
+// A case is a line of 39 bytes: a word in ten bytes, `directory`, `append` or `jump` for the calls of the first edition, `either`, `second` or `layer`
+// for those that know both; the used length in ten digits, a space, the layer in ten digits, a space, the buffer's length in six digits and a line
+// end; then the buffer's bytes.
 ghost use Prim.Native.Nat.{_≤_, _<_};
 ghost use lib.ListN.{length};
 use format::Edited;
 use format::Judged;
 use format_directory::Jumped;
+use format_directory::JumpedEither;
 use libc::STDIN_FILENO;
 use libc::STDOUT_FILENO;
 
@@ -84,6 +86,20 @@ fn print_jumped(answer: Jumped) {
     io::write_all(STDOUT_FILENO, b"\n");
 }
 
+// A jump in either edition: the layer's header, total and last record, or the refusal.
+fn print_jumped_either(answer: JumpedEither) {
+    match answer {
+        JumpedEither::Layer(header, total, last) => {
+            io::write_all(STDOUT_FILENO, b"ok");
+            print_number(header);
+            print_number(total);
+            print_number(last);
+        }
+        JumpedEither::Refused(refusal, at) => print_refusal(refusal, at),
+    }
+    io::write_all(STDOUT_FILENO, b"\n");
+}
+
 // What an append answers: the new used length, or the refusal; and the digest of the whole buffer.
 fn print_appended(answer: Edited, buffer: &[u8]) {
     match answer {
@@ -98,8 +114,22 @@ fn print_appended(answer: Edited, buffer: &[u8]) {
     io::write_all(STDOUT_FILENO, b"\n");
 }
 
-// One call, told apart by its word's first letter.
-fn answer(word: u8, buffer: &mut [u8], used: usize, layer: usize) {
+// One call that knows both editions, told apart by its word's first letter.
+fn answer_either(word: u8, buffer: &mut [u8], used: usize, layer: usize) {
+    if word == b'e' {
+        print_judged(directories::judge_either_edition(buffer, used));
+        return;
+    }
+    if word == b'l' {
+        print_jumped_either(directories::jump_either_edition(buffer, used, layer));
+        return;
+    }
+    let appended = directories::append_second_edition(buffer, used);
+    print_appended(appended, buffer);
+}
+
+// One call of the first edition, so told apart.
+fn answer_first(word: u8, buffer: &mut [u8], used: usize, layer: usize) {
     if word == b'd' {
         print_judged(directories::judge_directory(buffer, used));
         return;
@@ -112,10 +142,19 @@ fn answer(word: u8, buffer: &mut [u8], used: usize, layer: usize) {
     print_appended(appended, buffer);
 }
 
+// Whether a word of this first letter is one of those that know both editions.
+fn knows_both(word: u8) -> bool {
+    word == b'e' || word == b'l' || word == b's'
+}
+
 // Reads a case's bytes into a buffer of their length, and answers it.
 fn read_case(word: u8, used: usize, layer: usize, buffer: &mut [u8]) {
     io::read_full(STDIN_FILENO, buffer);
-    answer(word, buffer, used, layer);
+    if knows_both(word) {
+        answer_either(word, buffer, used, layer);
+    } else {
+        answer_first(word, buffer, used, layer);
+    }
 }
 
 // The case that a line heads.

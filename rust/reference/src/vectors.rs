@@ -5,3 +5,4 @@ pub mod edits;
 pub mod files;
 pub mod leaves;
 pub mod lines;
+mod second_edition;

@@ -33,7 +33,10 @@ fn every_answer_is_among_them() {
         *seen.entry((word, number.map_or(0, |n| n.parse().expect("a number")))).or_default() += 1;
     }
     let due = |word: &'static str, last: &[u8]| (0..=10).chain(last.to_vec()).map(move |n| (word, n)).collect::<Vec<_>>();
-    let due: Vec<(&str, u8)> = [due("append", &[15]), due("directory", &[19]), due("jump", &[17, 19])].concat();
+    let old = [due("append", &[15]), due("directory", &[19]), due("jump", &[17, 19])].concat();
+    let new = [due("second", &[15]), due("either", &[19, 27]), due("layer", &[17, 19, 27])].concat();
+    let mut due: Vec<(&str, u8)> = [old, new].concat();
+    due.sort();
     assert!(due.iter().all(|answer| seen.get(answer).is_some_and(|times| *times >= 2)), "{seen:?}");
     assert_eq!(seen.into_keys().collect::<Vec<_>>(), due, "no other answer");
 }

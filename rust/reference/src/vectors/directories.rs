@@ -1,13 +1,15 @@
 //! Calls on sheets with a directory, for the program `directory_vectors`.
 //!
-//! A case is a line of 39 bytes: `directory`, `append` or `jump` in ten bytes, the used length and the layer in ten digits each with a space behind
-//! them, the buffer's length in six digits, and a line end; then the buffer's bytes.
+//! A case is a line of 39 bytes: its word in ten bytes, the used length and the layer in ten digits each with a space behind them, the buffer's
+//! length in six digits, and a line end; then the buffer's bytes. `directory`, `append` and `jump` are the calls of order 5; those of order 13 are
+//! `either`, which judges either edition, `second`, which appends the second, and `layer`, which jumps in either. Their first letters differ.
 //!
 //! A judgement answers `ok RECORDS ITEMS` or `no NUMBER RECORD`; an append `ok USED` or `no NUMBER RECORD`, and behind it the digest of the whole
-//! buffer; a jump `ok RECORD` or `no NUMBER RECORD`.
+//! buffer; a jump `ok RECORD`, in either edition `ok RECORD TOTAL LAST`, or `no NUMBER RECORD`.
 
-use crate::directory::{self, record, FIRST};
-use crate::directory_calls::{appending, judging, jumping, Jumping};
+use super::second_edition;
+use crate::directory::{record, Edition, FIRST, NEW, OLD, SECOND};
+use crate::directory_calls::{appending, judging, jumping, some_edition, Jumping};
 use crate::layout::Layouts;
 use crate::line_calls::{marked, Lent};
 use crate::random::Random;
@@ -22,10 +24,13 @@ const MOST: usize = 9_999_999_999;
 const ROOM: usize = 13 * RECORD;
 
 #[derive(Clone, Copy, PartialEq, Eq, PartialOrd, Ord)]
-enum Call {
+pub(super) enum Call {
     Directory,
     Append,
     Jump,
+    Either,
+    Second,
+    Layer,
 }
 
 impl Call {
@@ -34,17 +39,23 @@ impl Call {
             Call::Directory => "directory",
             Call::Append => "append",
             Call::Jump => "jump",
+            Call::Either => "either",
+            Call::Second => "second",
+            Call::Layer => "layer",
         }
     }
 }
 
-const CALLS: [Call; 3] = [Call::Directory, Call::Append, Call::Jump];
+const OLD_CALLS: [Call; 3] = [Call::Directory, Call::Append, Call::Jump];
 
-struct Case {
-    call: Call,
-    lent: Lent,
+const NEW_CALLS: [Call; 3] = [Call::Either, Call::Second, Call::Layer];
+
+#[derive(Clone)]
+pub(super) struct Case {
+    pub call: Call,
+    pub lent: Lent,
     /// The layer of a jump; 0 for the other calls.
-    layer: u64,
+    pub layer: u64,
 }
 
 impl Case {
@@ -54,38 +65,41 @@ impl Case {
         out.extend(buffer);
     }
 
-    /// The two numbers of an accepted judgement, or the one that the other calls answer and 0; and the buffer afterwards.
-    fn run(&self) -> (Result<(usize, usize), Refusal>, Vec<u8>) {
+    /// The numbers of an accepted call, and the buffer afterwards.
+    fn run(&self) -> (Result<Vec<usize>, Refusal>, Vec<u8>) {
         let (mut buffer, used) = (self.lent.buffer.clone(), self.lent.used);
         let answer = match self.call {
-            Call::Directory => directory::sheet(&buffer, used).map(|c| (c.records, c.items)),
-            Call::Append => directory::append(&mut buffer, used).map(|after| (after, 0)),
-            Call::Jump => directory::jump(&buffer, used, self.layer).map(|header| (header, 0)),
+            Call::Directory => OLD.sheet(&buffer, used).map(|c| vec![c.records, c.items]),
+            Call::Append => FIRST.append(&mut buffer, used).map(|after| vec![after]),
+            Call::Jump => OLD.jump(&buffer, used, self.layer).map(|layer| vec![layer.header]),
+            Call::Either => NEW.sheet(&buffer, used).map(|c| vec![c.records, c.items]),
+            Call::Second => SECOND.append(&mut buffer, used).map(|after| vec![after]),
+            Call::Layer => NEW.jump(&buffer, used, self.layer).map(|layer| vec![layer.header, layer.total, layer.last]),
         };
         (answer, buffer)
     }
 
     fn answer(&self) -> String {
         let (answer, buffer) = self.run();
-        let said = match (answer, self.call) {
-            (Ok((records, items)), Call::Directory) => format!("ok {records} {items}"),
-            (Ok((number, _)), _) => format!("ok {number}"),
-            (Err(r), _) => format!("no {} {}", r.number, r.record),
+        let (word, numbers) = match answer {
+            Ok(numbers) => ("ok", numbers),
+            Err(r) => ("no", vec![r.number.into(), r.record]),
         };
+        let said: String = numbers.iter().map(|n| format!(" {n}")).collect();
         match self.call {
-            Call::Append => format!("{said} {}", digest(&buffer)),
-            _ => said,
+            Call::Append | Call::Second => format!("{word}{said} {}", digest(&buffer)),
+            _ => format!("{word}{said}"),
         }
     }
 }
 
 /// The example of document 01: nine records, a layer at record 6.
-fn example() -> Vec<u8> {
+pub(super) fn example() -> Vec<u8> {
     [&EXAMPLE_PART.concat(), EXAMPLE_LAYER, &EXAMPLE_ITEM.concat()].concat().into_bytes()
 }
 
 /// The sheet part of the example, and so many layers without groups and items from record 6 on.
-fn empty_layers(count: usize) -> Vec<u8> {
+pub(super) fn empty_layers(count: usize) -> Vec<u8> {
     let mut sheet = [EXAMPLE_PART.concat().into_bytes(), sheets::layer(&[]).repeat(count)].concat();
     for (name, n) in [("elements", 0), ("records", count)] {
         Layouts::shared().sheet_b.put(name, &mut sheet[RECORD..2 * RECORD], n as i64);
@@ -94,30 +108,35 @@ fn empty_layers(count: usize) -> Vec<u8> {
 }
 
 /// A sheet and records behind it, each some letters and then spaces.
-fn with(sheet: &[u8], records: &[&str]) -> Vec<u8> {
+pub(super) fn with(sheet: &[u8], records: &[&str]) -> Vec<u8> {
     let behind: String = records.iter().map(|text| format!("{text:<84}")).collect();
     [sheet, behind.as_bytes()].concat()
 }
 
-/// The sheet with its right directory.
-fn listed(sheet: &[u8]) -> Vec<u8> {
-    let mut buffer = [sheet, &vec![b'.'; (sheet.len() / 11).next_multiple_of(RECORD) + RECORD]].concat();
-    let used = directory::append(&mut buffer, sheet.len()).expect("an accepted sheet");
+/// The sheet with its right directory of an edition.
+pub(super) fn listed_in(edition: &Edition, sheet: &[u8]) -> Vec<u8> {
+    let mut buffer = [sheet, &vec![b'.'; sheet.len() + RECORD]].concat();
+    let used = edition.append(&mut buffer, sheet.len()).expect("an accepted sheet");
     buffer.truncate(used);
     buffer
 }
 
+/// The sheet with its right directory of the first edition.
+fn listed(sheet: &[u8]) -> Vec<u8> {
+    listed_in(&FIRST, sheet)
+}
+
 /// A judgement of a whole buffer.
-fn whole(buffer: Vec<u8>) -> Case {
+pub(super) fn whole(buffer: Vec<u8>) -> Case {
     Case { call: Call::Directory, lent: Lent { used: buffer.len(), buffer }, layer: 0 }
 }
 
-fn jump(buffer: Vec<u8>, layer: usize) -> Case {
+pub(super) fn jump(buffer: Vec<u8>, layer: usize) -> Case {
     Case { call: Call::Jump, layer: layer as u64, ..whole(buffer) }
 }
 
 /// A sheet with so many bytes behind it.
-fn append(sheet: Vec<u8>, room: usize) -> Case {
+pub(super) fn append(sheet: Vec<u8>, room: usize) -> Case {
     let lent = Lent { used: sheet.len(), buffer: [sheet, marked(room)].concat() };
     Case { call: Call::Append, lent, layer: 0 }
 }
@@ -276,36 +295,55 @@ fn fixed() -> Vec<Case> {
         .collect()
 }
 
-fn drawn(r: &mut Random, call: Call) -> Case {
+/// A call on a file of an edition.
+fn drawn(r: &mut Random, call: Call, edition: &'static Edition) -> Case {
     match call {
-        Call::Directory => Case { call, lent: judging(r, &FIRST), layer: 0 },
-        Call::Append => Case { call, lent: appending(r, &FIRST), layer: 0 },
+        Call::Directory | Call::Either => Case { call, lent: judging(r, edition), layer: 0 },
+        Call::Append | Call::Second => Case { call, lent: appending(r, edition), layer: 0 },
         Call::Jump => {
-            let Jumping { from, layer } = jumping(r, &FIRST);
+            let Jumping { from, layer } = jumping(r, edition);
             Case { call, lent: from, layer }
         }
+        // files as they are judged, most of which are refused, so that each refusal comes soon
+        Call::Layer => Case { call, lent: judging(r, edition), layer: r.word() % 6 },
     }
 }
 
-/// Random calls: so many of each answer number, at records as different as may be.
-fn random(seed: u64) -> Vec<Case> {
-    let mut r = Random(seed);
-    let mut seen: BTreeMap<(Call, u8), Vec<usize>> = BTreeMap::new();
-    let mut cases = Vec::new();
-    for n in 0..36_000 {
-        let case = drawn(&mut r, CALLS[n % 3]);
+/// The answer numbers that were drawn for each call, with their records.
+#[derive(Default)]
+struct Drawn(BTreeMap<(Call, u8), Vec<usize>>);
+
+impl Drawn {
+    /// Whether a case is one to store: so many of each answer number, at records as different as may be, and numbers that its line can state.
+    fn takes(&mut self, case: &Case, most: impl Fn(usize) -> usize) -> bool {
         if case.lent.buffer.len() > ROOM || case.lent.used > MOST || case.layer > MOST as u64 {
-            continue;
+            return false;
         }
-        let (number, record) = case.run().0.map_or_else(|e| (e.number, e.record), |(first, _)| (0, first));
-        let records = seen.entry((case.call, number)).or_default();
-        let (most, alike) = if record == 0 { (2, 2) } else { (3, 2) };
-        if records.len() < most && records.iter().filter(|x| **x == record).count() < alike {
+        let (number, record) = case.run().0.map_or_else(|e| (e.number, e.record), |numbers| (0, numbers[0]));
+        let records = self.0.entry((case.call, number)).or_default();
+        let takes = records.len() < most(record) && records.iter().filter(|x| **x == record).count() < 2;
+        if takes {
             records.push(record);
-            cases.push(case);
         }
+        takes
     }
-    cases
+}
+
+/// Random calls of order 5.
+fn random(seed: u64) -> Vec<Case> {
+    let (mut r, mut drawn_so_far) = (Random(seed), Drawn::default());
+    let cases = (0..36_000).map(|n| drawn(&mut r, OLD_CALLS[n % 3], &FIRST));
+    cases.filter(|case| drawn_so_far.takes(case, |record| if record == 0 { 2 } else { 3 })).collect()
+}
+
+/// Random calls of order 13, on either edition: two of each of the 39 answer numbers that the three calls have.
+fn random_of_both(seed: u64) -> Vec<Case> {
+    let (mut r, mut drawn_so_far) = (Random(seed), Drawn::default());
+    let next = |n: usize| {
+        let edition = some_edition(&mut r);
+        drawn(&mut r, NEW_CALLS[n % 3], edition)
+    };
+    (0..).map(next).filter(|case| drawn_so_far.takes(case, |_| 2)).take(2 * 39).collect()
 }
 
 fn read(mut bytes: &[u8]) -> Vec<Case> {
@@ -315,7 +353,7 @@ fn read(mut bytes: &[u8]) -> Vec<Case> {
         let head = std::str::from_utf8(head).expect("a case's line");
         let (buffer, rest) = rest.split_at(head[32..38].parse().expect("a length"));
         let used = head[10..20].parse().expect("a used length");
-        let call = CALLS.into_iter().find(|call| call.word() == head[..10].trim_end()).expect("a call");
+        let call = OLD_CALLS.into_iter().chain(NEW_CALLS).find(|call| call.word() == head[..10].trim_end()).expect("a call");
         let layer = head[21..31].parse().expect("a layer");
         cases.push(Case { call, lent: Lent { buffer: buffer.to_vec(), used }, layer });
         bytes = rest;
@@ -323,10 +361,11 @@ fn read(mut bytes: &[u8]) -> Vec<Case> {
     cases
 }
 
-/// The fixed cases, and random ones from a seed.
+/// The fixed cases, and random ones from a seed; those of order 5 first.
 pub fn make(seed: u64) -> Vec<u8> {
     let mut out = Vec::new();
-    fixed().iter().chain(&random(seed)).for_each(|case| case.put(&mut out));
+    let cases = [fixed(), random(seed), second_edition::fixed(), random_of_both(seed)].concat();
+    cases.iter().for_each(|case| case.put(&mut out));
     out
 }
 
