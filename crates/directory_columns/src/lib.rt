@@ -95,10 +95,6 @@ pub fn is_listed(directory: &[u8], edition: Edition, layer: usize, numbers: Laye
 {
     let each = per_record(edition);
     let record = files::record_at(directory, Stride::Plain, layer / each);
-    numbers_are(
-        record,
-        per_layer(edition) * (layer % each),
-        edition,
-        numbers,
-    )
+    let start = per_layer(edition) * (layer % each);
+    numbers_are(record, start, edition, numbers)
 }

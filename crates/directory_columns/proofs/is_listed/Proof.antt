@@ -16,11 +16,11 @@ record-at-requires c κs = search needs
 per-layer-requires : tie.Need-per-layer-requires
 per-layer-requires c κs = search needs
 
-rem-numbers-are : tie.Need-rem-numbers-are
-rem-numbers-are c = search some-each
+rem-start : tie.Need-rem-start
+rem-start c = search some-each
 
-mul-numbers-are : tie.Need-mul-numbers-are
-mul-numbers-are c = search place-small
+mul-start : tie.Need-mul-start
+mul-start c = search place-small
 
 numbers-are-requires : tie.Need-numbers-are-requires
 numbers-are-requires c κs = search place-fits
@@ -36,7 +36,7 @@ is-listed-spec =
     div-record-at
     record-at-requires
     per-layer-requires
-    rem-numbers-are
-    mul-numbers-are
+    rem-start
+    mul-start
     numbers-are-requires
     returns)
