@@ -249,7 +249,7 @@ fn main() {
         ["lines"] => lines::rows(),
         ["directories"] => directories::rows(),
         ["once", what @ ("index" | "normal-index"), records] => once_index(what, records.parse().expect("a number of c records")),
-        ["once", what, records] if what.starts_with("directory-") || what.starts_with("append-") || what == "jump" => {
+        ["once", what, records] if directories::has(what) => {
             directories::once(what, records.parse().expect("a number of records"))
         }
         ["once", what, records] if what.contains("lines") => lines::once(what, records.parse().expect("a number of records")),
@@ -258,7 +258,7 @@ fn main() {
             eprintln!(
                 "usage: bench [lines|directories] | bench once WHAT RECORDS, where WHAT is SHEET|insert|insert-last|insert-layers|remove|\
                  remove-last|normal|way-up|way-up-last|way-up-layers|index|normal-index|judge-lines-grids|judge-lines-mixed|\
-                 judge-lines-elements|judge-lines-index|to-lines|from-lines|directory-SHEET|append-SHEET|jump, and SHEET is \
+                 judge-lines-elements|judge-lines-index|to-lines|from-lines|directory-SHEET|append-SHEET|jump|second-SHEET|append2-SHEET|jump2, and SHEET is \
                  grids|mixed|elements|hundred|points|tens|attributes|layers"
             );
             std::process::exit(2);
