@@ -16,6 +16,11 @@ pub const LETTERS: usize = 2;
 
 pub const WIDTH: usize = 7;
 
+// The second edition lists three numbers of a layer, and three layers in a record.
+const NUMBERS: usize = 3;
+
+const LAYERS: usize = 3;
+
 // A number of more than seven digits stands in no column.
 const MOST: usize = 9999999;
 
@@ -32,7 +37,7 @@ pub fn per_layer(edition: Edition) -> usize
 {
     match edition {
         Edition::One => 1,
-        Edition::Two => 3,
+        Edition::Two => NUMBERS,
     }
 }
 
@@ -42,7 +47,7 @@ pub fn per_record(edition: Edition) -> usize
 {
     match edition {
         Edition::One => COLUMNS,
-        Edition::Two => 3,
+        Edition::Two => LAYERS,
     }
 }
 
