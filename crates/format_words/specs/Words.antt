@@ -1,7 +1,9 @@
 -- What a program may show: the words of each refusal, and a column of a layout by two numbers. Assumes nothing.
+use mathlib.Core.Bool.{cond}
 use mathlib.Core.List.{List, [], _∷_}
 use Prim.Native.Nat.{ℕ, zero, suc}
 use Prim.Native.String.{String}
+use lib.Dec.{eqb}
 use Rattle.format.specs.Basics.{Answer, given, refused, Outcome}
 use Rattle.format.specs.Text.{bytes}
 use Rattle.format.specs.Program.{lineTo}
@@ -43,13 +45,21 @@ refusals =
     "a record does not end in carriage return and line feed" ∷
     "the directory of layers is missing, or differs here from the right one" ∷ []
 
+-- those of 27, of the second edition of a directory; no call is refused with 20 to 26
+unfoldable pub editionWords : String
+editionWords = "the edition column of the directory of layers is not 2 in written form"
+
+-- the words of a number; one that is no refusal is 16
+unfoldable pub refusalWords : (number : ℕ) → Answer String
+refusalWords number = cond (eqb number 27) (given editionWords) (entry number refusals)
+
 -- a text at the start of a lent buffer, without an end mark; the bytes behind it stay. "a buffer is too short for the result" is 15
 abbrev pub textTo : Answer String → (out : List ℕ) → Outcome ℕ
 textTo (given t) out = lineTo (bytes t) out
 textTo (refused n r) out = record { answer = refused n r; bytes = out }
 
 unfoldable pub refusalTo : (number : ℕ) → (out : List ℕ) → Outcome ℕ
-refusalTo number out = textTo (entry number refusals) out
+refusalTo number out = textTo (refusalWords number) out
 
 -- a column of a layout: the layouts number from 1 in the order of document 01, the columns from 1 in that of the record
 abbrev pub columnIn : Answer (List Col) → (column : ℕ) → Answer Col

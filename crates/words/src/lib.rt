@@ -14,7 +14,7 @@ type Row = [u8; 45];
 
 const ROW_BYTES: usize = 45;
 
-// The words of a refusal, put at the start of a buffer: 15 where it has no room for them, 16 for a number that is not 1 to 19.
+// The words of a refusal, put at the start of a buffer: 15 where it has no room for them, 16 for a number that is not 1 to 19 or 27.
 pub fn refusal_text(number: u64, out: &mut [u8]) -> Written
     ensures { λ r. ⌜ record { answer = writtenAnswer r; bytes = now (out .exit) } ≡ refusalTo number (now (out .entry)) ⌝ }
 {
@@ -38,6 +38,7 @@ pub fn refusal_text(number: u64, out: &mut [u8]) -> Written
         17 => report::put_text_line(out, &refusals::RECORD_NUMBER),
         18 => report::put_text_line(out, &refusals::LINE_END),
         19 => report::put_text_line(out, &refusals::DIRECTORY),
+        27 => report::put_text_line(out, &refusals::EDITION),
         _ => Written::Refused(16, 0),
     }
 }

@@ -65,3 +65,7 @@ pub const LINE_END: [u8; 54] = *b"a record does not end in carriage return and l
 // 19.
 pub const DIRECTORY: [u8; 70] =
     *b"the directory of layers is missing, or differs here from the right one";
+
+// 27.
+pub const EDITION: [u8; 70] =
+    *b"the edition column of the directory of layers is not 2 in written form";
