@@ -182,6 +182,36 @@ static void directories(const uint8_t *buffer)
     check("zv_jump damaged", layer.refusal == ZV_DIRECTORY && layer.at == 10 && layer.header == 0);
 }
 
+/* A directory of edition 2 appended to the sheet, judged with it, and used to find the layer with its total and last record. */
+static void second_edition(const uint8_t *buffer)
+{
+    static uint8_t file[LISTED];
+    struct zv_length appended;
+    struct zv_counts counts;
+    struct zv_layer_entry layer;
+    memcpy(file, buffer, USED);
+    appended = zv_append_second_edition(file, LISTED, USED);
+    printf("zv_append_second_edition: %zu bytes, \"%.24s\"\n", appended.length, (const char *)file + LISTED - ZV_RECORD_BYTES);
+    check("zv_append_second_edition", appended.refusal == ZV_ACCEPTED && appended.length == LISTED && memcmp(file, SHEET, USED) == 0
+          && memcmp(file + USED, "Y       6      1      9 ", 24) == 0
+          && memcmp(file + LISTED - ZV_RECORD_BYTES, "YE     10      1      2 ", 24) == 0);
+    counts = zv_judge_either_edition(file, LISTED, LISTED);
+    printf("zv_judge_either_edition: %zu records %zu items\n", counts.records, counts.items);
+    check("zv_judge_either_edition", counts.refusal == ZV_ACCEPTED && counts.records == 9 && counts.items == 1);
+    counts = zv_judge_directory(file, LISTED, LISTED);
+    check("zv_judge_directory of edition 2", counts.refusal == ZV_DIRECTORY && counts.at == 11);
+    layer = zv_jump_either_edition(file, LISTED, LISTED, 1);
+    printf("zv_jump_either_edition to layer 1: record %zu, total %zu, last %zu\n", layer.header, layer.total, layer.last);
+    check("zv_jump_either_edition", layer.refusal == ZV_ACCEPTED && layer.header == 6 && layer.total == 1 && layer.last == 9);
+    zv_write_column(file + LISTED - ZV_RECORD_BYTES + 16, 7, 3);
+    layer = zv_jump_either_edition(file, LISTED, LISTED, 1);
+    printf("zv_jump_either_edition in edition 3: refused %llu at record %zu\n", (unsigned long long)layer.refusal, layer.at);
+    check("zv_jump_either_edition in edition 3", layer.refusal == ZV_EDITION && layer.at == 11 && layer.header == 0);
+    zv_append_directory(file, LISTED, USED);
+    layer = zv_jump_either_edition(file, LISTED, LISTED, 1);
+    check("zv_jump_either_edition in edition 1", layer.refusal == ZV_ACCEPTED && layer.header == 6 && layer.total == 0 && layer.last == 0);
+}
+
 static void report_line(const uint8_t *buffer)
 {
     uint8_t line[ZV_LINE_BYTES];
@@ -283,6 +313,7 @@ int main(int argc, char **argv)
     edits(buffer);
     ways_up(buffer);
     directories(buffer);
+    second_edition(buffer);
     report_line(buffer);
     refusal_texts();
     layout_columns();

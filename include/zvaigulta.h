@@ -7,8 +7,10 @@
  * In the form with line ends, carriage return and line feed (13, 10) stand behind each record, 86 bytes in all. `zv_judge_sheet_lines`,
  * `zv_judge_index_lines` and `zv_from_lines` read it, `zv_to_lines` writes it; every other call reads and writes plain records alone.
  *
- * Behind the last record of a sheet a directory of its layers may stand, in records of its own. `zv_append_directory` writes it,
- * `zv_judge_directory` and `zv_jump` read a sheet with it; every other call takes the sheet without it, and `zv_judge_sheet` refuses its records.
+ * Behind the last record of a sheet a directory of its layers may stand, in records of its own, of one of two editions. Edition 1 lists the header of
+ * each layer: `zv_append_directory` writes it, `zv_judge_directory` and `zv_jump` read it alone. Edition 2 lists header, item total and last record of
+ * each: `zv_append_second_edition` writes it; `zv_judge_either_edition` and `zv_jump_either_edition` read a directory of either edition. Every other
+ * call takes the sheet without a directory, and `zv_judge_sheet` refuses its records.
  *
  * Every call answers every content of its buffers and every number, and returns. A refused call changes no byte of any buffer. No call keeps
  * a pointer, takes memory from the heap or has state of its own, so calls on different buffers may run at the same time.
@@ -40,9 +42,9 @@
 extern "C" {
 #endif
 
-/* The version of this header as one number, 400 for 0.4.0; `zv_version` answers that of the library. */
+/* The version of this header as one number, 500 for 0.5.0; `zv_version` answers that of the library. */
 #define ZV_VERSION_MAJOR 0
-#define ZV_VERSION_MINOR 4
+#define ZV_VERSION_MINOR 5
 #define ZV_VERSION_PATCH 0
 #define ZV_VERSION (ZV_VERSION_MAJOR * 10000 + ZV_VERSION_MINOR * 100 + ZV_VERSION_PATCH)
 
@@ -103,9 +105,11 @@ enum zv_refusal {
     ZV_LINE_END = 18,
     /*
      * The directory of layers is wrong: the last record is no well-formed ZE whose pointer lies from 1 to its own number (the last record); a record
-     * differs from the right directory of the sheet (the first such record).
+     * differs from the right directory of the sheet (the first such record). The calls that read either edition take a well-formed YE as well.
      */
-    ZV_DIRECTORY = 19
+    ZV_DIRECTORY = 19,
+    /* The last record starts YE, but its edition column is not 2 in written form (the last record). Only of the calls that read either edition. */
+    ZV_EDITION = 27
 };
 
 /* The nineteen record layouts, in the order of document 01. */
@@ -204,6 +208,17 @@ struct zv_layer {
     size_t header;
 };
 
+/* A layer that was jumped to by a directory of either edition. */
+struct zv_layer_entry {
+    uint64_t refusal;
+    size_t at;
+    /* The record number of its header. */
+    size_t header;
+    /* How many items it holds, at any level, and the number of its last record; both 0 for a directory of edition 1, which does not state them. */
+    size_t total;
+    size_t last;
+};
+
 /* A column of a layout. */
 struct zv_column {
     uint64_t refusal;
@@ -248,6 +263,10 @@ ZV_ASSERT_FIELD(way, header, 16);
 ZV_ASSERT_FIELD(way, passed, 24);
 ZV_ASSERT_SIZE(layer, 24);
 ZV_ASSERT_FIELD(layer, header, 16);
+ZV_ASSERT_SIZE(layer_entry, 40);
+ZV_ASSERT_FIELD(layer_entry, header, 16);
+ZV_ASSERT_FIELD(layer_entry, total, 24);
+ZV_ASSERT_FIELD(layer_entry, last, 32);
 ZV_ASSERT_SIZE(column, 56);
 ZV_ASSERT_FIELD(column, start, 16);
 ZV_ASSERT_FIELD(column, width, 24);
@@ -356,6 +375,26 @@ struct zv_length zv_append_directory(uint8_t *buffer, size_t length, size_t used
 struct zv_layer zv_jump(const uint8_t *buffer, size_t length, size_t used, size_t layer);
 
 /*
+ * Judges the first `used` bytes of a buffer as a sheet with a directory of either edition. One of edition 2 is accepted exactly where it lists
+ * header, item total and last record of every layer of an accepted sheet, in order, and nothing else; one of edition 1 as `zv_judge_directory`
+ * says. Answers the sheet's records and items. Refusals: 1 for the length against 0, the buffer and 84; 27 with the last record, if that starts YE
+ * and its edition column is not 2 in written form; then 19 and 1 to 10 as `zv_judge_directory`, with YE for ZE in edition 2.
+ */
+struct zv_counts zv_judge_either_edition(const uint8_t *buffer, size_t length, size_t used);
+
+/*
+ * Appends the directory of its layers in edition 2 to a sheet: a record for each three layers, one for what is left of them, and one that closes it.
+ * Answers the new used length; bytes of the buffer past it stay. Refusals as `zv_append_directory`.
+ */
+struct zv_length zv_append_second_edition(uint8_t *buffer, size_t length, size_t used);
+
+/*
+ * The header of layer `layer`, numbered from 1, of a sheet with a directory of either edition, with its item total and its last record, which are 0
+ * for edition 1. Judges first, as `zv_judge_either_edition` (1 to 10, 19 and 27), then 17; then one record of the directory is read.
+ */
+struct zv_layer_entry zv_jump_either_edition(const uint8_t *buffer, size_t length, size_t used, size_t layer);
+
+/*
  * Puts the line that the program dm prints on an input, with its line end, at the start of a buffer, and answers the line's length. Bytes behind it
  * stay. Refusal 15 where the buffer is too short, ZV_LINE_BYTES are always enough.
  */
@@ -363,7 +402,8 @@ struct zv_length zv_report(const uint8_t *input, size_t input_length, uint8_t *o
 
 /*
  * Puts the words of a refusal at the start of a buffer, and answers their length: ASCII, no end mark. Bytes behind them stay. Refusals: 15 where the
- * buffer is too short, ZV_TEXT_BYTES are always enough; 16 for a number that is no refusal: 0, which is no refusal but an answer, and any above 19.
+ * buffer is too short, ZV_TEXT_BYTES are always enough; 16 for a number that is no refusal: 0, which is no refusal but an answer, 20 to 26,
+ * and any above 27.
  */
 struct zv_length zv_refusal_text(uint64_t number, uint8_t *out, size_t out_length);
 

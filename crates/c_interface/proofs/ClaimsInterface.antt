@@ -16,23 +16,24 @@ use Rattle.format.specs.Run.{Buffer, call}
 use Rattle.format.specs.Normal.{normalSheet, normalIndex}
 use Rattle.format.specs.Program.{reportTo}
 use Rattle.format_lines.specs.LineEnds.{judgeSheetLines, judgeIndexLines, toLines, fromLines}
-use Rattle.format_directory.specs.declared.Edition.the-variants.{One}
-use Rattle.format_directory.specs.Directory.{judgeDirectory, appendDirectory, jump}
+use Rattle.format_directory.specs.declared.Edition.the-variants.{One, Two}
+use Rattle.format_directory.specs.Directory.{judgeDirectory, appendDirectory, jump, judgeEitherEdition, LayerEntry, jumpEitherEdition}
 use Rattle.c_interface.specs.declared.ZvWay.{ZvWay}
 use Rattle.c_interface.specs.declared.ZvNumber.{ZvNumber}
 use Rattle.c_interface.specs.declared.ZvCorner.{ZvCorner}
 use Rattle.c_interface.specs.declared.ZvCounts.{ZvCounts}
 use Rattle.c_interface.specs.declared.ZvLength.{ZvLength}
 use Rattle.c_interface.specs.declared.ZvLayer.{ZvLayer}
+use Rattle.c_interface.specs.declared.ZvLayerEntry.{ZvLayerEntry}
 use Rattle.c_interface.specs.declared.ZvColumn.{ZvColumn}
 use Rattle.format.specs.Layout.{Col}
 use Rattle.format_words.specs.declared.Described.{Described}
 use Rattle.format_words.specs.declared.Described.the-variants as Described
 use Rattle.format_words.specs.Words.{refusalTo, layoutColumn, describedOf, nameTo}
-use Rattle.c_interface.specs.Interface.{numberOf, cornerOf, countsOf, lengthOf, wayOf, layerOf, columnOf, Numbered, answers, refuses, WayNumbered, hasNone, hasHeader, refusesWay}
+use Rattle.c_interface.specs.Interface.{numberOf, cornerOf, countsOf, lengthOf, wayOf, layerOf, layerEntryOf, columnOf, Numbered, answers, refuses, WayNumbered, hasNone, hasHeader, refusesWay}
 use lib.ListN.{length}
 use Rattle.c_interface.proofs.Rooms.{line-has-room, refusal-has-room, name-has-room}
-use Rattle.c_interface.proofs.Numbered.{column-read, column-written, joined, parted, judged-sheet, judged-index, judged-sheet-lines, judged-index-lines, lines-written, plain-written, way-numbered, sheet-written, index-written, line-written, refusal-written, column-found, name-written, edited, judged-directory, directory-written, jumped, jumped-to}
+use Rattle.c_interface.proofs.Numbered.{column-read, column-written, joined, parted, judged-sheet, judged-index, judged-sheet-lines, judged-index-lines, lines-written, plain-written, way-numbered, sheet-written, index-written, line-written, refusal-written, column-found, name-written, edited, judged-directory, directory-written, jumped, jumped-to, judged-either, jumped-either, jumped-either-to}
 
 -- ---- what the calls answer
 pub read-numbered : (column : List ℕ) → Numbered (readAlone column)
@@ -81,13 +82,25 @@ pub directory-numbered : (used : ℕ) (buffer : List ℕ) → Numbered (judgeDir
 directory-numbered = judged-directory
 
 pub append-numbered : (used : ℕ) (buffer : List ℕ) → Numbered ((appendDirectory One used buffer) .answer)
-append-numbered = directory-written
+append-numbered = directory-written One
 
 pub jump-numbered : (used : ℕ) (buffer : List ℕ) (layer : ℕ) → Numbered (jump used buffer layer)
 jump-numbered = jumped
 
 pub jump-header : (used : ℕ) (buffer : List ℕ) (layer header : ℕ) → jump used buffer layer ≡ given header → 1 ≤ header
 jump-header = jumped-to
+
+pub either-numbered : (used : ℕ) (buffer : List ℕ) → Numbered (judgeEitherEdition used buffer)
+either-numbered = judged-either
+
+pub append-second-numbered : (used : ℕ) (buffer : List ℕ) → Numbered ((appendDirectory Two used buffer) .answer)
+append-second-numbered = directory-written Two
+
+pub jump-either-numbered : (used : ℕ) (buffer : List ℕ) (layer : ℕ) → Numbered (jumpEitherEdition used buffer layer)
+jump-either-numbered = jumped-either
+
+pub jump-either-header : (used : ℕ) (buffer : List ℕ) (layer : ℕ) (found : LayerEntry) → jumpEitherEdition used buffer layer ≡ given found → 1 ≤ found .header
+jump-either-header = jumped-either-to
 
 pub report-numbered : (input out : List ℕ) → Numbered ((reportTo input out) .answer)
 report-numbered = line-written
@@ -158,6 +171,15 @@ layer-tells answers answers e = ap given (ap (λ (r : ZvLayer). r .header) e)
 layer-tells answers (refuses {n}) e = let z : 0 ≡ suc n = ap (λ (r : ZvLayer). r .refusal) e in absurd (omega arith)
 layer-tells (refuses {n}) answers e = let z : suc n ≡ 0 = ap (λ (r : ZvLayer). r .refusal) e in absurd (omega arith)
 layer-tells refuses refuses e = ap₂ refused (ap (λ (r : ZvLayer). r .refusal) e) (ap (λ (r : ZvLayer). r .at) e)
+
+same-entry : {h t l h′ t′ l′ : ℕ} → h ≡ h′ → t ≡ t′ → l ≡ l′ → _≡_ {A = LayerEntry} (record { header = h; total = t; last = l }) (record { header = h′; total = t′; last = l′ })
+same-entry e f g = rw (e, f, g)
+
+pub layer-entry-tells : {a b : Answer LayerEntry} → Numbered a → Numbered b → layerEntryOf a ≡ layerEntryOf b → a ≡ b
+layer-entry-tells answers answers e = ap given (same-entry (ap (λ (r : ZvLayerEntry). r .header) e) (ap (λ (r : ZvLayerEntry). r .total) e) (ap (λ (r : ZvLayerEntry). r .last) e))
+layer-entry-tells answers (refuses {n}) e = let z : 0 ≡ suc n = ap (λ (r : ZvLayerEntry). r .refusal) e in absurd (omega arith)
+layer-entry-tells (refuses {n}) answers e = let z : suc n ≡ 0 = ap (λ (r : ZvLayerEntry). r .refusal) e in absurd (omega arith)
+layer-entry-tells refuses refuses e = ap₂ refused (ap (λ (r : ZvLayerEntry). r .refusal) e) (ap (λ (r : ZvLayerEntry). r .at) e)
 
 same-column : {s w l s′ w′ l′ : ℕ} {v g v′ g′ : ℤ} → s ≡ s′ → w ≡ w′ → l ≡ l′ → v ≡ v′ → g ≡ g′ → Described.Column s w l v g ≡ Described.Column s′ w′ l′ v′ g′
 same-column e f h i j = rw (e, f, h, i, j)

@@ -26,19 +26,23 @@ use Rattle.format.specs.declared.Edited.the-variants as Edited
 use Rattle.format.specs.Answers.{stepFor}
 use Rattle.format.specs.declared.WayUp.{WayUp}
 use Rattle.format.specs.declared.WayUp.the-variants as WayUp
-use Rattle.format_directory.specs.Answers.{jumpedAnswer}
+use Rattle.format_directory.specs.Directory.{LayerEntry}
+use Rattle.format_directory.specs.Answers.{jumpedAnswer, jumpedEitherAnswer}
 use Rattle.format_directory.specs.declared.Jumped.{Jumped}
 use Rattle.format_directory.specs.declared.Jumped.the-variants as Jumped
+use Rattle.format_directory.specs.declared.JumpedEither.{JumpedEither}
+use Rattle.format_directory.specs.declared.JumpedEither.the-variants as JumpedEither
 use Rattle.c_interface.specs.declared.ZvWay.{ZvWay}
 use Rattle.c_interface.specs.declared.ZvNumber.{ZvNumber}
 use Rattle.c_interface.specs.declared.ZvCorner.{ZvCorner}
 use Rattle.c_interface.specs.declared.ZvCounts.{ZvCounts}
 use Rattle.c_interface.specs.declared.ZvLength.{ZvLength}
 use Rattle.c_interface.specs.declared.ZvLayer.{ZvLayer}
+use Rattle.c_interface.specs.declared.ZvLayerEntry.{ZvLayerEntry}
 use Rattle.c_interface.specs.declared.ZvColumn.{ZvColumn}
 use Rattle.format_words.specs.declared.Described.{Described}
 use Rattle.format_words.specs.declared.Described.the-variants as Described
-use Rattle.c_interface.specs.Interface.{numberOf, cornerOf, countsOf, lengthOf, wayOf, layerOf, columnOf, Wrote, wroteOf, editedOf}
+use Rattle.c_interface.specs.Interface.{numberOf, cornerOf, countsOf, lengthOf, wayOf, layerOf, layerEntryOf, columnOf, Wrote, wroteOf, editedOf}
 
 pub is-number : {a : Number} {v z : ℤ} → a ≡ Number.Is v → z ≡ v → _≡_ {A = ZvNumber} (record { refusal = 0; at = 0; value = z }) (numberOf (numberAnswer a))
 unfolding numberAnswer
@@ -92,6 +96,14 @@ pub no-header : {a : Jumped} {n r : ℕ} → a ≡ Jumped.Refused n r → _≡_ 
 unfolding jumpedAnswer
 no-header e = rw e
 
+pub is-entry : {a : JumpedEither} {h t l : ℕ} → a ≡ JumpedEither.Layer h t l → _≡_ {A = ZvLayerEntry} (record { refusal = 0; at = 0; header = h; total = t; last = l }) (layerEntryOf (jumpedEitherAnswer a))
+unfolding jumpedEitherAnswer
+is-entry e = rw e
+
+pub no-entry : {a : JumpedEither} {n r : ℕ} → a ≡ JumpedEither.Refused n r → _≡_ {A = ZvLayerEntry} (record { refusal = n; at = r; header = 0; total = 0; last = 0 }) (layerEntryOf (jumpedEitherAnswer a))
+unfolding jumpedEitherAnswer
+no-entry e = rw e
+
 pub is-column : {d : Described} {s w l : ℕ} {v g y z : ℤ} → d ≡ Described.Column s w l v g → y ≡ v → z ≡ g → _≡_ {A = ZvColumn} (record { refusal = 0; at = 0; start = s; width = w; content = l; least = y; greatest = z }) (columnOf d)
 is-column e f g = rw (e, f, g)
 
@@ -113,6 +125,9 @@ ways e f = e ∙ ap wayOf f
 
 pub layers : {r : ZvLayer} {a b : Answer ℕ} → r ≡ layerOf a → a ≡ b → r ≡ layerOf b
 layers e f = e ∙ ap layerOf f
+
+pub entries : {r : ZvLayerEntry} {a b : Answer LayerEntry} → r ≡ layerEntryOf a → a ≡ b → r ≡ layerEntryOf b
+entries e f = e ∙ ap layerEntryOf f
 
 pub columns : {r : ZvColumn} {d e : Described} → r ≡ columnOf d → d ≡ e → r ≡ columnOf e
 columns e f = e ∙ ap columnOf f

@@ -2,6 +2,7 @@
 use mathlib.Core.Path.{_≡_, refl, sym, ap, _∙_}
 use mathlib.Core.Bool.{Bool, true, false, cond, _&&_}
 use mathlib.Core.List.{List, [], _∷_, _++_, map}
+use mathlib.Core.Logic.{_⊎_, inl, inr}
 use Prim.Native.Nat.{ℕ, zero, suc, pred, _+_, _-_, _*_, _/_, _<_, _≤_}
 use Prim.Native.String.{String}
 use native.Mathlib.Omega.{arith}
@@ -30,11 +31,13 @@ use Rattle.format.specs.Program.{printed, lineTo, reportTo}
 use Rattle.format.specs.Text.{bytes, same}
 use Rattle.format.specs.Layout.{Col, layouts}
 use Rattle.format_lines.specs.LineEnds.{lines, endOk, endFault, plainFault, lineFault, plainTwin, lineTwin, otherwise, judgeSheetLines, judgeIndexLines, writeTo, targetFault, toLines, fromLines}
-use Rattle.format_directory.specs.declared.Edition.the-variants.{One}
-use Rattle.format_directory.specs.Directory.{layersOf, directoryOf, usedOk, lastRecord, pointerIn, layerCount, closingOk, recordsBefore, recordsFrom, differs, afterSheet, judgeFrom, afterClosing, judgeEdition, judgeDirectory, appendTo, appendDirectory, listedIn, directoryIn, jump}
+use Rattle.format_directory.specs.declared.Edition.{Edition}
+use Rattle.format_directory.specs.declared.Edition.the-variants.{One, Two}
+use Rattle.format_directory.specs.Directory.{layersOf, directoryOf, usedOk, lastRecord, pointerIn, layerCount, closingOk, recordsBefore, recordsFrom, differs, afterSheet, judgeFrom, afterClosing, judgeEdition, judgeDirectory, appendTo, appendDirectory, listedIn, directoryIn, jump, editionOf, editionOk, afterEdition, judgeEitherEdition, LayerEntry, entryIn, jumpEitherEdition}
 use Rattle.format_directory.specs.Directory as Directory
-use Rattle.format_directory.proofs.Claims.{jump-counts, jump-refuses}
-use Rattle.format_words.specs.Words.{fromZero, entry, refusals, textTo, refusalTo, columnIn, layoutColumn, nameOf, nameTo}
+use Rattle.format_directory.specs.DirectoryChecks.{ListsLayers}
+use Rattle.format_directory.proofs.Claims.{jump-counts, jump-refuses, either-exactly, jump-either-counts, jump-either-refuses}
+use Rattle.format_words.specs.Words.{fromZero, entry, refusals, editionWords, refusalWords, textTo, refusalTo, columnIn, layoutColumn, nameOf, nameTo}
 use Rattle.c_interface.specs.Interface.{Numbered, answers, refuses, WayNumbered, hasNone, hasHeader, refusesWay}
 
 -- what holds of both sides of a test holds of what it chooses
@@ -122,9 +125,9 @@ sheet-first answers no-fault = answers
 sheet-first answers some-fault = refuses
 sheet-first refuses q = refuses
 
-judged-from : (pointer used : ℕ) (buffer : List ℕ) → Numbered (judgeFrom One pointer used buffer)
+judged-from : (e : Edition) (pointer used : ℕ) (buffer : List ℕ) → Numbered (judgeFrom e pointer used buffer)
 unfolding judgeFrom
-judged-from pointer used buffer = sheet-first (judged-sheet (84 * pred pointer) buffer) (differs-numbered pointer (recordsFrom pointer used buffer) (directoryOf One pointer (layersOf (recordsBefore pointer buffer))))
+judged-from e pointer used buffer = sheet-first (judged-sheet (84 * pred pointer) buffer) (differs-numbered pointer (recordsFrom pointer used buffer) (directoryOf e pointer (layersOf (recordsBefore pointer buffer))))
 
 closing-first : (t : Bool) (number : ℕ) {a : Answer Counts} → Numbered a → Numbered (afterClosing t number a)
 closing-first true number q = q
@@ -134,19 +137,31 @@ length-first : (t : Bool) {a : Answer Counts} → Numbered a → Numbered (after
 length-first true q = q
 length-first false q = refuses
 
+judged-edition : (e : Edition) (used : ℕ) (buffer : List ℕ) → Numbered (judgeEdition e used buffer)
+unfolding judgeEdition
+judged-edition e used buffer = closing-first (closingOk e (used / 84) (lastRecord used buffer)) (used / 84) (judged-from e (pointerIn (lastRecord used buffer)) used buffer)
+
 pub judged-directory : (used : ℕ) (buffer : List ℕ) → Numbered (judgeDirectory used buffer)
-unfolding judgeDirectory judgeEdition
-judged-directory used buffer = length-first (usedOk used buffer) (closing-first (closingOk One (used / 84) (lastRecord used buffer)) (used / 84) (judged-from (pointerIn (lastRecord used buffer)) used buffer))
+unfolding judgeDirectory
+judged-directory used buffer = length-first (usedOk used buffer) (judged-edition One used buffer)
+
+edition-first : (t : Bool) (number : ℕ) {a : Answer Counts} → Numbered a → Numbered (afterEdition t number a)
+edition-first true number q = q
+edition-first false number q = refuses
+
+pub judged-either : (used : ℕ) (buffer : List ℕ) → Numbered (judgeEitherEdition used buffer)
+unfolding judgeEitherEdition
+judged-either used buffer = length-first (usedOk used buffer) (edition-first (editionOk (lastRecord used buffer)) (used / 84) (judged-edition (editionOf (lastRecord used buffer)) used buffer))
 
 appended : {a : Answer Counts} (used : ℕ) (directory : List (List ℕ)) (buffer : List ℕ) → Numbered a → Numbered ((appendTo a used directory buffer) .answer)
 appended used directory buffer answers = written-or 14 (leb (used + 84 * length directory) (length buffer)) (used + 84 * length directory) (take used buffer ++ (flat directory ++ drop (used + 84 * length directory) buffer)) buffer
 appended used directory buffer refuses = refuses
 
-pub directory-written : (used : ℕ) (buffer : List ℕ) → Numbered ((appendDirectory One used buffer) .answer)
+pub directory-written : (e : Edition) (used : ℕ) (buffer : List ℕ) → Numbered ((appendDirectory e used buffer) .answer)
 unfolding appendDirectory
-directory-written used buffer = appended used (directoryOf One (suc (used / 84)) (layersOf (chunks (used / 84) buffer))) buffer (judged-sheet used buffer)
+directory-written e used buffer = appended used (directoryOf e (suc (used / 84)) (layersOf (chunks (used / 84) buffer))) buffer (judged-sheet used buffer)
 
-jump-judged : {a : Answer Counts} {w : Answer ℕ} → Numbered a → Numbered w → Numbered (Directory.afterJudging a w)
+jump-judged : {A : Type 0} {a : Answer Counts} {w : Answer A} → Numbered a → Numbered w → Numbered (Directory.afterJudging a w)
 jump-judged answers q = q
 jump-judged refuses q = refuses
 
@@ -165,6 +180,25 @@ jumped-to used buffer n h e = go (judgeDirectory used buffer) refl
     go : (a : Answer Counts) → judgeDirectory used buffer ≡ a → 1 ≤ h
     go (given counts) f = omega (arith, (jump-counts used buffer counts n h f) .0 e .header .numbered)
     go (refused k r) f = let d : 1 ≡ h = ap headerIn (sym (jump-refuses used buffer k r n f) ∙ e) in omega arith
+
+pub jumped-either : (used : ℕ) (buffer : List ℕ) (n : ℕ) → Numbered (jumpEitherEdition used buffer n)
+unfolding jumpEitherEdition
+jumped-either used buffer n = jump-judged (judged-either used buffer) (given-or 16 (leb 1 n && leb n (layerCount (lastRecord used buffer))) (entryIn (editionOf (lastRecord used buffer)) (directoryIn used buffer) n))
+
+abbrev entryHeaderIn : Answer LayerEntry → ℕ
+entryHeaderIn (given l) = l .header
+entryHeaderIn (refused n r) = 1
+
+pub jumped-either-to : (used : ℕ) (buffer : List ℕ) (n : ℕ) (l : LayerEntry) → jumpEitherEdition used buffer n ≡ given l → 1 ≤ l .header
+jumped-either-to used buffer n l e = go (judgeEitherEdition used buffer) refl
+  where
+    of : (counts : Counts) → ListsLayers One used buffer counts ⊎ ListsLayers Two used buffer counts → 1 ≤ l .header
+    of counts (inl p) = omega (arith, (jump-either-counts One used buffer counts n l p) .0 e .0 .header .numbered)
+    of counts (inr p) = omega (arith, (jump-either-counts Two used buffer counts n l p) .0 e .0 .header .numbered)
+
+    go : (a : Answer Counts) → judgeEitherEdition used buffer ≡ a → 1 ≤ l .header
+    go (given counts) f = of counts ((either-exactly used buffer counts) .0 f)
+    go (refused k r) f = let d : 1 ≡ l .header = ap entryHeaderIn (sym (jump-either-refuses used buffer k r n f) ∙ e) in omega arith
 
 -- ---- columns and corners
 column-said : (c : Column) → Numbered (columnAnswer c)
@@ -252,9 +286,13 @@ unfolding lineTo
 text-written (answers {a}) out = written-or 14 (leb (length (bytes a)) (length out)) (length (bytes a)) (bytes a ++ drop (length (bytes a)) out) out
 text-written refuses out = refuses
 
+words-answer : (number : ℕ) → Numbered (refusalWords number)
+unfolding refusalWords
+words-answer number = chosen Numbered (eqb number 27) (answers {a = editionWords}) (entry-answers number refusals)
+
 pub refusal-written : (number : ℕ) (out : List ℕ) → Numbered ((refusalTo number out) .answer)
 unfolding refusalTo
-refusal-written number out = text-written (entry-answers number refusals) out
+refusal-written number out = text-written (words-answer number) out
 
 name-found : {a : Answer Col} → Numbered a → Numbered (nameOf a)
 name-found answers = answers

@@ -1,12 +1,12 @@
 -- A buffer as long as the header's number for it holds every text: no call is refused there for want of room. Assumes nothing.
 use mathlib.Core.Path.{_≡_, refl, ap}
-use mathlib.Core.Bool.{Bool, true, _&&_}
+use mathlib.Core.Bool.{Bool, true, false, cond, _&&_}
 use mathlib.Core.List.{List, [], _∷_}
 use Prim.Native.Nat.{ℕ, zero, suc, _≤_}
 use Prim.Native.String.{String}
 use native.Mathlib.Omega.{arith}
 use borrow.Author.Tests.{le-leb, leb-true}
-use lib.Dec.{leb}
+use lib.Dec.{leb, eqb}
 use lib.ListN.{length}
 use Rattle.format.specs.Basics.{Answer, given, refused}
 use Rattle.format.specs.Text.{bytes}
@@ -14,7 +14,7 @@ use Rattle.format.specs.Layout.{Col, every, layouts, indexA, indexB, indexC, sh
 use Rattle.format.specs.Program.{lineTo, reportTo}
 use Rattle.format.proofs.Basics.{and-true}
 use Rattle.report.proofs.Laws.{always-room}
-use Rattle.format_words.specs.Words.{fromZero, entry, refusals, textTo, refusalTo, columnIn, layoutColumn, nameOf, nameTo}
+use Rattle.format_words.specs.Words.{fromZero, entry, refusals, editionWords, refusalWords, textTo, refusalTo, columnIn, layoutColumn, nameOf, nameTo}
 
 -- a text that so many bytes hold, or a refusal of another kind
 data Held (most : ℕ) : Answer String → Type 0 where
@@ -44,10 +44,22 @@ refusals-held : allHeld 90 refusals ≡ true
 unfolding refusals bytes
 refusals-held = refl
 
-refusal-at : (number : ℕ) → Held 90 (entry number refusals)
+listed-at : (number : ℕ) → Held 90 (entry number refusals)
 unfolding entry
-refusal-at zero = other
-refusal-at (suc n) = text-at 90 refusals refusals-held n
+listed-at zero = other
+listed-at (suc n) = text-at 90 refusals refusals-held n
+
+edition-held : leb (length (bytes editionWords)) 90 ≡ true
+unfolding editionWords bytes
+edition-held = refl
+
+refusal-at : (number : ℕ) → Held 90 (refusalWords number)
+unfolding refusalWords
+refusal-at number = go (eqb number 27)
+  where
+    go : (t : Bool) → Held 90 (cond t (given editionWords) (entry number refusals))
+    go true = held (leb-true (length (bytes editionWords)) 90 edition-held)
+    go false = listed-at number
 
 pub refusal-has-room : (number : ℕ) (out : List ℕ) → 90 ≤ length out → (refusalTo number out) .answer ≡ refused 15 0 → ⊥
 unfolding refusalTo

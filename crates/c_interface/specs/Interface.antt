@@ -7,6 +7,7 @@ use Rattle.format.specs.Corner.{Corner}
 use Rattle.format.specs.Judge.{Counts}
 use Rattle.format.specs.Above.{Way, noHeader, toHeader}
 use Rattle.format.specs.Run.{Step}
+use Rattle.format_directory.specs.Directory.{LayerEntry}
 use Rattle.format_words.specs.declared.Described.{Described}
 use Rattle.format_words.specs.declared.Described.the-variants as Described
 use Rattle.c_interface.specs.declared.ZvWay.{ZvWay}
@@ -15,11 +16,12 @@ use Rattle.c_interface.specs.declared.ZvCorner.{ZvCorner}
 use Rattle.c_interface.specs.declared.ZvCounts.{ZvCounts}
 use Rattle.c_interface.specs.declared.ZvLength.{ZvLength}
 use Rattle.c_interface.specs.declared.ZvLayer.{ZvLayer}
+use Rattle.c_interface.specs.declared.ZvLayerEntry.{ZvLayerEntry}
 use Rattle.c_interface.specs.declared.ZvColumn.{ZvColumn}
 
--- 0.4.0: 10,000 times the major number, 100 times the minor one, and the patch
+-- 0.5.0: 10,000 times the major number, 100 times the minor one, and the patch
 unfoldable pub version : ℕ
-version = 0 * 10000 + 4 * 100 + 0
+version = 0 * 10000 + 5 * 100 + 0
 
 abbrev pub numberOf : Answer ℤ → ZvNumber
 numberOf (given z) = record { refusal = 0; at = 0; value = z }
@@ -46,6 +48,10 @@ wayOf (refused number at) = record { refusal = number; at = at; header = 0; pass
 abbrev pub layerOf : Answer ℕ → ZvLayer
 layerOf (given n) = record { refusal = 0; at = 0; header = n }
 layerOf (refused number at) = record { refusal = number; at = at; header = 0 }
+
+abbrev pub layerEntryOf : Answer LayerEntry → ZvLayerEntry
+layerEntryOf (given l) = record { refusal = 0; at = 0; header = l .header; total = l .total; last = l .last }
+layerEntryOf (refused number at) = record { refusal = number; at = at; header = 0; total = 0; last = 0 }
 
 abbrev pub columnOf : Described → ZvColumn
 columnOf (Described.Column start width letter least greatest) =

@@ -13,11 +13,11 @@ ghost use Rattle.format.specs.Normal.{normalSheet, normalIndex};
 ghost use Rattle.format.specs.Answers.{numberAnswer, writtenAnswer, partsAnswer, judgedAnswer, wayUpAnswer, editedAnswer};
 ghost use Rattle.format.specs.Program.{reportTo};
 ghost use Rattle.format_lines.specs.LineEnds.{judgeSheetLines, judgeIndexLines, toLines, fromLines};
-ghost use Rattle.format_directory.specs.declared.Edition.the-variants.{One};
-ghost use Rattle.format_directory.specs.Directory.{judgeDirectory, appendDirectory, jump};
-ghost use Rattle.format_directory.specs.Answers.{jumpedAnswer};
+ghost use Rattle.format_directory.specs.declared.Edition.the-variants.{One, Two};
+ghost use Rattle.format_directory.specs.Directory.{judgeDirectory, appendDirectory, jump, judgeEitherEdition, jumpEitherEdition};
+ghost use Rattle.format_directory.specs.Answers.{jumpedAnswer, jumpedEitherAnswer};
 ghost use Rattle.format_words.specs.Words.{refusalTo, layoutColumn, describedOf, nameTo};
-ghost use Rattle.c_interface.specs.Interface.{version, numberOf, cornerOf, countsOf, lengthOf, wayOf, layerOf, columnOf, wroteOf, editedOf};
+ghost use Rattle.c_interface.specs.Interface.{version, numberOf, cornerOf, countsOf, lengthOf, wayOf, layerOf, layerEntryOf, columnOf, wroteOf, editedOf};
 use format::Edited;
 use format::Judged;
 use format::Number;
@@ -25,10 +25,11 @@ use format::Parts;
 use format::WayUp;
 use format::Written;
 use format_directory::Jumped;
+use format_directory::JumpedEither;
 use format_words::Described;
 
 // The version: 10,000 times the major number, 100 times the minor one, and the patch.
-const VERSION: u64 = 400;
+const VERSION: u64 = 500;
 
 #[repr(C)]
 pub struct ZvNumber {
@@ -74,6 +75,16 @@ pub struct ZvLayer {
     pub refusal: u64,
     pub at: usize,
     pub header: usize,
+}
+
+// `total` and `last` are 0 for a directory of the first edition, which does not state them.
+#[repr(C)]
+pub struct ZvLayerEntry {
+    pub refusal: u64,
+    pub at: usize,
+    pub header: usize,
+    pub total: usize,
+    pub last: usize,
 }
 
 // `content` is the letter for what may stand in the column.
@@ -366,6 +377,50 @@ pub extern "C" fn zv_jump(buffer: &[u8], used: usize, layer: usize) -> ZvLayer
     ensures { λ r. ⌜ r ≡ layerOf (jump used (now (buffer .entry)) layer) ⌝ }
 {
     layer_struct(directories::jump(buffer, used, layer))
+}
+
+// A sheet with a directory of either edition judged; and one of the second edition appended to a sheet: the answer's length is the new used length.
+#[no_mangle]
+pub extern "C" fn zv_judge_either_edition(buffer: &[u8], used: usize) -> ZvCounts
+    ensures { λ r. ⌜ r ≡ countsOf (judgeEitherEdition used (now (buffer .entry))) ⌝ }
+{
+    counts(directories::judge_either_edition(buffer, used))
+}
+
+#[no_mangle]
+pub extern "C" fn zv_append_second_edition(buffer: &mut [u8], used: usize) -> ZvLength
+    ensures { λ r. ⌜ record { result = r; bytes = now (buffer .exit) } ≡ wroteOf (appendDirectory Two used (now (buffer .entry))) ⌝ }
+{
+    edited(directories::append_second_edition(buffer, used))
+}
+
+fn layer_entry(answer: JumpedEither) -> ZvLayerEntry
+    ensures { λ r. ⌜ r ≡ layerEntryOf (jumpedEitherAnswer answer) ⌝ }
+{
+    match answer {
+        JumpedEither::Layer(begin, items, end) => ZvLayerEntry {
+            refusal: 0,
+            at: 0,
+            header: begin,
+            total: items,
+            last: end,
+        },
+        JumpedEither::Refused(refusal, at) => ZvLayerEntry {
+            refusal: refusal as u64,
+            at,
+            header: 0,
+            total: 0,
+            last: 0,
+        },
+    }
+}
+
+// The header of a layer, counted from 1, with its total of items and its last record, by the directory of either edition.
+#[no_mangle]
+pub extern "C" fn zv_jump_either_edition(buffer: &[u8], used: usize, layer: usize) -> ZvLayerEntry
+    ensures { λ r. ⌜ r ≡ layerEntryOf (jumpEitherEdition used (now (buffer .entry)) layer) ⌝ }
+{
+    layer_entry(directories::jump_either_edition(buffer, used, layer))
 }
 
 // The line that the program prints on an input, put at the start of a buffer: the answer's length is the line's, its end included. 65 bytes always hold it.
