@@ -39,6 +39,18 @@ pub struct WayUp {
     pub passed: usize,
 }
 
+/// A layer as a directory lists it.
+#[derive(Clone, Copy, Debug, PartialEq, Eq, Hash)]
+#[non_exhaustive]
+pub struct LayerEntry {
+    /// The record number of its header.
+    pub header: usize,
+    /// Its items, at any level; 0 for a directory of the first edition, which does not state them.
+    pub total: usize,
+    /// The number of its last record; 0 for a directory of the first edition.
+    pub last: usize,
+}
+
 /// The answer of a call, whose refusal number is 0 where it was accepted.
 fn answer<T>(refusal: u64, record: usize, value: T) -> Result<T, Refusal> {
     match refusal {
@@ -424,6 +436,87 @@ pub fn append_directory(buffer: &mut [u8], used: usize) -> Result<usize, Refusal
 pub fn jump(buffer: &[u8], used: usize, layer: usize) -> Result<usize, Refusal> {
     let raw = raw::jump(buffer, used, layer);
     answer(raw.refusal, raw.at, raw.header)
+}
+
+/// Judges a sheet with a directory of layers of either edition behind it, the first `used` bytes of the buffer. One of the second edition is accepted
+/// where it lists header, item total and last record of each layer of an accepted sheet, in order, and nothing else; one of the first as
+/// [`judge_directory`] says. Answers what the sheet holds, without the records of the directory.
+///
+/// # Errors
+/// 1, by the buffer and multiples of 84 alone; then 27 with the last record, if that starts `YE` and its edition column is not 2 in written form; then
+/// those of [`judge_directory`], with `YE` for `ZE` in the second edition.
+///
+/// ```
+/// use zvaigulta::{append_second_edition, judge_directory, judge_either_edition, write_column, Reason, EXAMPLE};
+///
+/// let mut file = EXAMPLE.to_vec();
+/// file.resize(11 * 84, 0);
+/// assert_eq!(append_second_edition(&mut file, EXAMPLE.len())?, file.len());
+/// assert_eq!(judge_either_edition(&file, file.len())?.to_string(), "accepted 9 records 1 items");
+/// // The call of the first edition does not read the second.
+/// let refusal = judge_directory(&file, file.len()).unwrap_err();
+/// assert_eq!((refusal.reason, refusal.record), (Reason::Directory, Some(11)));
+/// // The one layer holds 1 item, not 2.
+/// let mut wrong = file.clone();
+/// write_column(&mut wrong[9 * 84 + 9..9 * 84 + 16], 2)?;
+/// let refusal = judge_either_edition(&wrong, wrong.len()).unwrap_err();
+/// assert_eq!((refusal.reason, refusal.record), (Reason::Directory, Some(10)));
+/// // A record that starts YE states edition 2, in written form.
+/// file[10 * 84 + 21] = b'0';
+/// let refusal = judge_either_edition(&file, file.len()).unwrap_err();
+/// assert_eq!((refusal.reason, refusal.record), (Reason::Edition, Some(11)));
+/// # Ok::<(), zvaigulta::Refusal>(())
+/// ```
+pub fn judge_either_edition(buffer: &[u8], used: usize) -> Result<Counts, Refusal> {
+    counts(raw::judge_either_edition(buffer, used))
+}
+
+/// Appends a directory of its layers in the second edition to a sheet, the first `used` bytes of the buffer; answers the new used length. The directory
+/// is a record for each three layers, or the rest of them, and one that closes it. Bytes past the new used length stay.
+///
+/// # Errors
+/// Those of judging the sheet, 1 to 10; then 15 where the buffer has no room for the directory behind the sheet.
+///
+/// ```
+/// use zvaigulta::{append_second_edition, EXAMPLE};
+///
+/// let mut file = EXAMPLE.to_vec();
+/// file.resize(11 * 84, 0);
+/// assert_eq!(append_second_edition(&mut file, EXAMPLE.len())?, 11 * 84);
+/// // Layer 1: its header is record 6, it holds 1 item, its last record is 9. The directory starts at record 10 and lists one layer, in edition 2.
+/// assert!(file[9 * 84..].starts_with(b"Y       6      1      9 "));
+/// assert!(file[10 * 84..].starts_with(b"YE     10      1      2 "));
+/// # Ok::<(), zvaigulta::Refusal>(())
+/// ```
+pub fn append_second_edition(buffer: &mut [u8], used: usize) -> Result<usize, Refusal> {
+    length(raw::append_second_edition(buffer, used))
+}
+
+/// The record number of the header of a layer, numbered from 1, in a sheet with a directory of either edition, the first `used` bytes of the buffer;
+/// with it the layer's item total and its last record, where the edition states them. Once the file is judged, one record of the directory is read
+/// for it.
+///
+/// # Errors
+/// Those of [`judge_either_edition`], 1 to 10, 19 and 27; then 17 where the sheet has no such layer.
+///
+/// ```
+/// use zvaigulta::{append_directory, append_second_edition, jump_either_edition, Reason, EXAMPLE};
+///
+/// let mut file = EXAMPLE.to_vec();
+/// file.resize(11 * 84, 0);
+/// append_second_edition(&mut file, EXAMPLE.len())?;
+/// let layer = jump_either_edition(&file, file.len(), 1)?;
+/// assert_eq!((layer.header, layer.total, layer.last), (6, 1, 9));
+/// assert_eq!(jump_either_edition(&file, file.len(), 2).unwrap_err().reason, Reason::RecordNumber);
+/// // The first edition lists the headers alone.
+/// append_directory(&mut file, EXAMPLE.len())?;
+/// let layer = jump_either_edition(&file, file.len(), 1)?;
+/// assert_eq!((layer.header, layer.total, layer.last), (6, 0, 0));
+/// # Ok::<(), zvaigulta::Refusal>(())
+/// ```
+pub fn jump_either_edition(buffer: &[u8], used: usize, layer: usize) -> Result<LayerEntry, Refusal> {
+    let raw = raw::jump_either_edition(buffer, used, layer);
+    answer(raw.refusal, raw.at, LayerEntry { header: raw.header, total: raw.total, last: raw.last })
 }
 
 /// Puts the line that the program `dm` prints on an input, with its line end, at the start of a buffer; answers the line's length. Bytes

@@ -1,30 +1,36 @@
-//! A directory of layers behind a sheet, right or not: where it stands, and whether a file has one. The library judges it.
+//! A directory of layers behind a sheet, right or not, of either edition: where it stands, and whether a file has one. The library judges it.
 
-use crate::layout::{Column, DIRECTORY, DIRECTORY_END, SHEET_B};
-use crate::outline::{directory_layout, part, record, Outline, What};
-use crate::{judge_sheet, write_column, FileKind, Form, RECORD_BYTES};
+use crate::layout::{Column, SHEET_B};
+use crate::outline::{directory_record, part, record, Outline, What};
+use crate::{judge_sheet, write_column, Edition, FileKind, Form, RECORD_BYTES};
 
-/// So many layers are listed in one record of a directory.
-pub const LAYERS_TO_A_RECORD: usize = 11;
+/// So many layers are listed in one record of a directory of the first edition.
+pub const LAYERS_TO_A_RECORD: usize = Edition::First.layers_to_a_record();
 
-/// The least records of a sheet part: a, b, c, d and e.
-const LEAST_PART: usize = 5;
-
-/// The most records of a directory: of a sheet of 200,000 records that has a sheet part and layer headers alone.
+/// The most records of a directory of either edition: of a sheet of 200,000 records that has a sheet part and layer headers alone.
 ///
 /// ```
-/// assert_eq!(zvaigulta::MOST_DIRECTORY_RECORDS, 18_183);
+/// use zvaigulta::{Edition, MOST_DIRECTORY_RECORDS};
+///
+/// assert_eq!((Edition::First.most_records(), Edition::Second.most_records()), (18_183, 66_666));
+/// assert_eq!(MOST_DIRECTORY_RECORDS, 66_666);
 /// ```
-pub const MOST_DIRECTORY_RECORDS: usize = (crate::MOST_RECORDS - LEAST_PART).div_ceil(LAYERS_TO_A_RECORD) + 1;
+pub const MOST_DIRECTORY_RECORDS: usize = Edition::Second.most_records();
 
 /// Whether a record is one of a directory by its letters, and not the last.
 pub fn is_row(record: &[u8]) -> bool {
-    record.starts_with(b"Z ")
+    Edition::of_row(record).is_some()
 }
 
 /// Whether a record is the last of a directory by its letters.
 pub fn is_end(record: &[u8]) -> bool {
-    record.starts_with(b"ZE")
+    Edition::of_end(record).is_some()
+}
+
+/// The edition of the directory at the end of some records: by the letters of the last, or of the one before it; the first where neither tells.
+pub fn edition_in(bytes: &[u8]) -> Edition {
+    let edition = |record| Edition::of_end(record).or_else(|| Edition::of_row(record));
+    bytes.chunks_exact(RECORD_BYTES).rev().take(2).find_map(edition).unwrap_or_default()
 }
 
 /// Whether a column holds a number in written form.
@@ -39,10 +45,15 @@ pub fn written(number: i64, width: usize) -> Option<Vec<u8>> {
     write_column(&mut column, number).ok().map(|()| column)
 }
 
-/// Whether both numbers of a directory's last record are in written form, and the rest spaces.
+/// Whether pointer and layer count of a directory's last record are in written form, and the rest spaces. In an edition column any number may stand, or
+/// none: that the edition is wrong is for the judge to say.
 fn is_formed(end: &[u8]) -> bool {
-    let column = |name| DIRECTORY_END.column(name).map_or(&[][..], |column: &Column| column.bytes(end));
-    is_written(column("pointer")) && is_written(column("layers")) && column("rest").iter().all(|byte| *byte == b' ')
+    let is_so = |column: &Column| match column.name {
+        "rest" => column.is_spaces(end),
+        "edition" => column.is_spaces(end) || column.value(end).is_some(),
+        _ => is_written(column.bytes(end)),
+    };
+    Edition::of_end(end).is_some_and(|edition| edition.end_layout().columns.iter().skip(1).all(is_so))
 }
 
 /// The last record of a file in a form, without its line end; none where the file is no whole records.
@@ -52,8 +63,8 @@ pub fn last_record(form: Form, bytes: &[u8]) -> Option<&[u8]> {
     bytes.get(start..start + RECORD_BYTES)
 }
 
-/// Whether a sheet in a form has a directory behind it: its last record starts `ZE`. Where the columns of that record are not of a directory's form, it
-/// may be text of the last item: not if it is due as data of that.
+/// Whether a sheet in a form has a directory behind it: its last record starts `ZE` or `YE`. Where the columns of that record are not of a directory's
+/// form, it may be text of the last item: not if it is due as data of that.
 pub fn is_behind(form: Form, bytes: &[u8]) -> bool {
     let end = last_record(form, bytes).filter(|last| is_end(last) && FileKind::of(bytes) == FileKind::Sheet);
     let is_data = || Outline::of(&form.records(bytes)).last().is_some_and(|last| matches!(last.what, What::Data { .. }));
@@ -68,13 +79,14 @@ pub fn sheet(bytes: &[u8]) -> Option<&[u8]> {
     judge_sheet(sheet, sheet.len()).ok().map(|_| sheet)
 }
 
-/// The sheet before a directory, right or wrong, if it is sure where that starts: the records at the start of a plain file, as many as they state themselves,
-/// are accepted as a sheet, and each record behind them, also one that is cut off, starts `Z ` or `ZE`. The whole of a sheet without a directory.
+/// The sheet before a directory of either edition, right or wrong, if it is sure where that starts: the records at the start of a plain file, as many as
+/// they state themselves, are accepted as a sheet, and each record behind them, also one that is cut off, starts `Z `, `ZE`, `Y ` or `YE`. The whole of a
+/// sheet without a directory.
 ///
 /// ```
-/// use zvaigulta::{sheet_before_directory, Sheet, EXAMPLE};
+/// use zvaigulta::{sheet_before_directory, Edition, Sheet, EXAMPLE};
 ///
-/// let mut file = Sheet::from(EXAMPLE.to_vec()).with_directory()?;
+/// let mut file = Sheet::from(EXAMPLE.to_vec()).with_edition(Edition::Second)?;
 /// file[10 * 84 + 8] = b'7';
 /// assert_eq!(sheet_before_directory(&file), Some(EXAMPLE.as_slice()));
 /// // Not where a record of the sheet is missing.
@@ -89,10 +101,10 @@ pub fn sheet_before_directory(plain: &[u8]) -> Option<&[u8]> {
 
 /// The bytes before a directory that stands whole at the end of a plain file, by its own count of layers, where these are no whole records.
 pub fn ragged_before(bytes: &[u8]) -> Option<&[u8]> {
-    let (_, end) =
-        bytes.split_at_checked(bytes.len().checked_sub(RECORD_BYTES)?).filter(|(_, end)| is_end(end) && is_formed(end))?;
-    let layers = DIRECTORY_END.value("layers", end).and_then(|layers| usize::try_from(layers).ok())?;
-    let records = layers.div_ceil(LAYERS_TO_A_RECORD).checked_add(1)?;
+    let (_, end) = bytes.split_at_checked(bytes.len().checked_sub(RECORD_BYTES)?).filter(|(_, end)| is_formed(end))?;
+    let edition = Edition::of_end(end)?;
+    let layers = edition.end_layout().value("layers", end).and_then(|layers| usize::try_from(layers).ok())?;
+    let records = edition.rows(layers).checked_add(1)?;
     let (before, directory) = bytes.split_at_checked(bytes.len().checked_sub(records.checked_mul(RECORD_BYTES)?)?)?;
     let rows = directory.chunks_exact(RECORD_BYTES).take(records - 1).all(is_row);
     Some(before).filter(|before| rows && !before.len().is_multiple_of(RECORD_BYTES))
@@ -107,9 +119,10 @@ pub fn records_before(bytes: &[u8], sheet: Option<&[u8]>) -> usize {
 /// The same where no sheet is accepted.
 fn before_rows(bytes: &[u8]) -> usize {
     let records = bytes.len() / RECORD_BYTES;
-    if directory_layout(record(bytes, records), true).is_none() {
+    if directory_record(record(bytes, records), true, edition_in(bytes)).is_none() {
         return records;
     }
-    let rows = bytes.chunks_exact(RECORD_BYTES).rev().skip(1).take_while(|row| is_row(row) && DIRECTORY.fits(row));
+    let fits = |row: &&[u8]| Edition::of_row(row).is_some_and(|edition| edition.layout().fits(row));
+    let rows = bytes.chunks_exact(RECORD_BYTES).rev().skip(1).take_while(fits);
     records - 1 - rows.count()
 }

@@ -108,7 +108,7 @@ pub fn explain_in(form: Form, bytes: &[u8], refusal: Refusal) -> Explanation {
     }
 }
 
-/// Explains a refusal of a file as it was read: also of one with a directory of layers behind its sheet (19).
+/// Explains a refusal of a file as it was read: also of one with a directory of layers behind its sheet (19, 27).
 ///
 /// ```
 /// use zvaigulta::{explain::explain_as, write_column, Reading, Sheet, EXAMPLE};
@@ -358,13 +358,14 @@ mod tests {
             let mut file = damaged(&mut r, n);
             for _ in 0..r.below(200) {
                 let at = r.below(file.len() + 1);
-                let byte = if r.once_in(2) { *r.pick(b" -09HEGTMIZ1\r\n\0") } else { r.below(256) as u8 };
+                let byte = if r.once_in(2) { *r.pick(b" -09HEGTMIZY12\r\n\0") } else { r.below(256) as u8 };
                 if let Some(old) = file.get_mut(at) {
                     *old = byte;
                 }
             }
             let record = Some(r.below(file.len() / RECORD_BYTES + 3)).filter(|record| *record > 0 || n % 2 == 0);
-            let refusal = Refusal { reason: Reason::from_number(r.below(20) as u64), record };
+            let number = if r.once_in(10) { 27 } else { r.below(20) as u64 };
+            let refusal = Refusal { reason: Reason::from_number(number), record };
             let block = damaged(&mut r, n + 1);
             let at = r.below(block.len() / RECORD_BYTES + 1) * RECORD_BYTES;
             let place = *r.pick(&[0, 1, 7, file.len() / RECORD_BYTES, usize::MAX]);

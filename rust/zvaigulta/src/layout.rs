@@ -1,4 +1,4 @@
-//! The nineteen record layouts of document 01, and the two of a directory: each column's name, place, width and what may stand in it.
+//! The nineteen record layouts of document 01, and two of each edition of a directory: each column's name, place, width and what may stand in it.
 //!
 //! The library judges; this module says where its columns lie, for programs that show or explain a record.
 //!

@@ -8,9 +8,9 @@
 //! [`from_lines`] makes the plain file of one, which every other call takes, and [`to_lines`] goes back. [`Form`] tells which of the two
 //! forms a file has.
 //!
-//! A sheet may have a directory of its layers behind its last record: [`append_directory`] writes it, [`judge_directory`] judges a sheet with it,
-//! and [`jump`] finds the header of a layer by it. Every other call takes the sheet without its directory, which [`Sheet::without_directory`] takes
-//! off.
+//! A sheet may have a directory of its layers behind its last record, of one of two editions: [`append_directory`] and [`append_second_edition`] write
+//! it, [`judge_either_edition`] judges a sheet with it, and [`jump_either_edition`] finds a layer by it; [`judge_directory`] and [`jump`] read the first
+//! [`Edition`] alone. Every other call takes the sheet without its directory, which [`Sheet::without_directory`] takes off.
 //!
 //! ```
 //! // The example of document 01: five sheet records, one layer, one line of seven points.
@@ -33,6 +33,7 @@
 
 mod calls;
 mod directory;
+mod edition;
 pub mod explain;
 mod form;
 mod kind;
@@ -47,10 +48,12 @@ pub mod text;
 mod unit;
 
 pub use calls::{
-    append_directory, from_lines, insert, join, judge_directory, judge_index, judge_index_lines, judge_sheet, judge_sheet_lines,
-    jump, normal_index, normal_sheet, read_column, remove, report, split, to_lines, way_up, write_column, Corner, Counts, WayUp,
+    append_directory, append_second_edition, from_lines, insert, join, judge_directory, judge_either_edition, judge_index,
+    judge_index_lines, judge_sheet, judge_sheet_lines, jump, jump_either_edition, normal_index, normal_sheet, read_column,
+    remove, report, split, to_lines, way_up, write_column, Corner, Counts, LayerEntry, WayUp,
 };
 pub use directory::{sheet_before_directory, LAYERS_TO_A_RECORD, MOST_DIRECTORY_RECORDS};
+pub use edition::Edition;
 pub use form::{Form, LINE_END};
 pub use kind::FileKind;
 pub use line_ends::Mended;

@@ -1,7 +1,7 @@
 //! The lines of a file whose records have line ends, right or not.
 
-use crate::{directory, explain, judge_directory, Counts, FileKind, Form, Reading, Reason, Refusal};
-use crate::{LINE_END, LINE_RECORD_BYTES, MOST_DIRECTORY_RECORDS, MOST_RECORDS, RECORD_BYTES};
+use crate::{directory, explain, judge_either_edition, Counts, FileKind, Form, Reading, Reason, Refusal};
+use crate::{LINE_END, LINE_RECORD_BYTES, MOST_RECORDS, RECORD_BYTES};
 
 /// How many bytes of records may lack their ends one behind the other and still be told by where the next line end stands: twenty records.
 const FARTHEST: usize = 20 * LINE_RECORD_BYTES;
@@ -206,7 +206,7 @@ impl Mended {
 pub fn is_allowed(plain: &[u8]) -> bool {
     let most = match directory::is_behind(Form::Plain, plain) {
         false => MOST_RECORDS,
-        true => MOST_RECORDS + MOST_DIRECTORY_RECORDS,
+        true => MOST_RECORDS + directory::edition_in(plain).most_records(),
     };
     (1..=most).contains(&(plain.len() / RECORD_BYTES))
 }
@@ -232,5 +232,5 @@ pub fn reads_as_plain(bytes: &[u8]) -> bool {
     let kind = FileKind::of(bytes);
     let counts = |refusal: Refusal| refusal.reason == Reason::Count && kind == FileKind::Sheet;
     let read = |judged: Result<Counts, Refusal>| judged.map_or_else(counts, |_| true);
-    read(kind.judge(bytes, bytes.len())) || read(judge_directory(bytes, bytes.len())) || explain::is_block(bytes)
+    read(kind.judge(bytes, bytes.len())) || read(judge_either_edition(bytes, bytes.len())) || explain::is_block(bytes)
 }

@@ -8,7 +8,7 @@ pub use items::{natural, Sort, Stated, COUNTS};
 pub use layers::{layers, Layer};
 
 use crate::layout::*;
-use crate::{directory, FileKind, RECORD_BYTES};
+use crate::{directory, Edition, FileKind, RECORD_BYTES};
 
 use What::{Data, Directory, Entry, Part, Unknown};
 
@@ -140,16 +140,19 @@ pub struct Outline<'a> {
     due: Option<Due>,
     /// How many records stand before the directory of layers; all of them where there is none.
     before: usize,
+    /// The edition of the directory.
+    edition: Edition,
 }
 
 impl<'a> Outline<'a> {
     /// Of a whole file without a directory of layers.
     pub fn of(bytes: &'a [u8]) -> Outline<'a> {
         let records = bytes.chunks(RECORD_BYTES).enumerate();
-        Outline { kind: FileKind::of(bytes), part: part(bytes), records, due: None, before: usize::MAX }
+        let (kind, edition) = (FileKind::of(bytes), Edition::default());
+        Outline { kind, part: part(bytes), records, due: None, before: usize::MAX, edition }
     }
 
-    /// Of a sheet with a directory of layers behind it.
+    /// Of a sheet with a directory of layers behind it, of either edition.
     ///
     /// ```
     /// use zvaigulta::{outline::Outline, Sheet, EXAMPLE};
@@ -160,7 +163,8 @@ impl<'a> Outline<'a> {
     /// # Ok::<(), zvaigulta::Refusal>(())
     /// ```
     pub fn with_directory(bytes: &'a [u8]) -> Outline<'a> {
-        Outline { before: directory::records_before(bytes, directory::sheet(bytes)), ..Outline::of(bytes) }
+        let before = directory::records_before(bytes, directory::sheet(bytes));
+        Outline { before, edition: directory::edition_in(bytes), ..Outline::of(bytes) }
     }
 
     /// The next data record of the item whose data is due.
@@ -180,25 +184,42 @@ impl<'a> Outline<'a> {
     }
 }
 
-/// The layout of a record that stands in a directory, the last of the file or not: by its letters, else by its columns; none where it has neither.
-pub(crate) fn directory_layout(bytes: &[u8], last: bool) -> Option<&'static Layout> {
-    match bytes {
-        _ if directory::is_end(bytes) => Some(&DIRECTORY_END),
-        _ if directory::is_row(bytes) => Some(&DIRECTORY),
-        _ if last && reads_as(&DIRECTORY_END, bytes) => Some(&DIRECTORY_END),
-        _ if reads_as(&DIRECTORY, bytes) => Some(&DIRECTORY),
+/// What a record of a directory is: of which edition, and whether it lists layers or ends the directory.
+#[derive(Clone, Copy, Debug, PartialEq, Eq)]
+pub(crate) enum DirectoryRecord {
+    Row(Edition),
+    End(Edition),
+}
+
+impl DirectoryRecord {
+    pub(crate) fn layout(self) -> &'static Layout {
+        match self {
+            DirectoryRecord::Row(edition) => edition.layout(),
+            DirectoryRecord::End(edition) => edition.end_layout(),
+        }
+    }
+}
+
+/// What a record is that stands in a directory, the last of the file or not: by its letters, else by its columns, read in the edition of the others; none
+/// where it has neither.
+pub(crate) fn directory_record(bytes: &[u8], last: bool, edition: Edition) -> Option<DirectoryRecord> {
+    match (Edition::of_end(bytes), Edition::of_row(bytes)) {
+        (Some(edition), _) => Some(DirectoryRecord::End(edition)),
+        (None, Some(edition)) => Some(DirectoryRecord::Row(edition)),
+        _ if last && reads_as(edition.end_layout(), bytes) => Some(DirectoryRecord::End(edition)),
+        _ if reads_as(edition.layout(), bytes) => Some(DirectoryRecord::Row(edition)),
         _ => None,
     }
 }
 
-/// Whether the columns of a record are those of a directory's layout.
+/// Whether the columns of a whole record are those of a directory's layout.
 fn reads_as(layout: &Layout, bytes: &[u8]) -> bool {
-    layout.fits(bytes) && layout.column("rest").is_some_and(|rest| rest.is_spaces(bytes))
+    bytes.len() == RECORD_BYTES && layout.fits(bytes) && layout.column("rest").is_some_and(|rest| rest.is_spaces(bytes))
 }
 
 /// A record that stands in a directory.
-fn in_directory(record: Record, last: bool) -> Record {
-    match directory_layout(record.bytes, last) {
+fn in_directory(record: Record, last: bool, edition: Edition) -> Record {
+    match directory_record(record.bytes, last, edition).map(DirectoryRecord::layout) {
         Some(layout) => Record { what: Directory, layout: Some(layout), judged: layout.columns.len(), ..record },
         None => record,
     }
@@ -215,7 +236,7 @@ impl<'a> Iterator for Outline<'a> {
             return Some(unknown);
         }
         if place >= self.before {
-            return Some(in_directory(unknown, self.records.len() == 0));
+            return Some(in_directory(unknown, self.records.len() == 0, self.edition));
         }
         if let Some(layout) = self.part.get(place) {
             return Some(Record { what: Part, layout: Some(layout), judged: layout.columns.len(), ..unknown });

@@ -48,6 +48,15 @@ pub struct Layer {
     pub header: usize,
 }
 
+#[repr(C)]
+pub struct LayerEntry {
+    pub refusal: u64,
+    pub at: usize,
+    pub header: usize,
+    pub total: usize,
+    pub last: usize,
+}
+
 extern "C" {
     fn zv_read_column(column: *const u8, width: usize) -> Number;
     fn zv_write_column(column: *mut u8, width: usize, value: i64) -> Length;
@@ -67,6 +76,9 @@ extern "C" {
     fn zv_judge_directory(buffer: *const u8, length: usize, used: usize) -> Counts;
     fn zv_append_directory(buffer: *mut u8, length: usize, used: usize) -> Length;
     fn zv_jump(buffer: *const u8, length: usize, used: usize, layer: usize) -> Layer;
+    fn zv_judge_either_edition(buffer: *const u8, length: usize, used: usize) -> Counts;
+    fn zv_append_second_edition(buffer: *mut u8, length: usize, used: usize) -> Length;
+    fn zv_jump_either_edition(buffer: *const u8, length: usize, used: usize, layer: usize) -> LayerEntry;
     fn zv_report(input: *const u8, input_length: usize, out: *mut u8, out_length: usize) -> Length;
 }
 
@@ -158,6 +170,21 @@ pub fn append_directory(buffer: &mut [u8], used: usize) -> Length {
 pub fn jump(buffer: &[u8], used: usize, layer: usize) -> Layer {
     // SAFETY: the slice lends `length` bytes to read for the call; `used` and `layer` may be any numbers; no pointer is kept.
     unsafe { zv_jump(buffer.as_ptr(), buffer.len(), used, layer) }
+}
+
+pub fn judge_either_edition(buffer: &[u8], used: usize) -> Counts {
+    // SAFETY: the slice lends `length` bytes to read for the call; `used` may be any number; no pointer is kept.
+    unsafe { zv_judge_either_edition(buffer.as_ptr(), buffer.len(), used) }
+}
+
+pub fn append_second_edition(buffer: &mut [u8], used: usize) -> Length {
+    // SAFETY: the slice lends `length` bytes to read and write for the call, and nobody else has them; no pointer is kept.
+    unsafe { zv_append_second_edition(buffer.as_mut_ptr(), buffer.len(), used) }
+}
+
+pub fn jump_either_edition(buffer: &[u8], used: usize, layer: usize) -> LayerEntry {
+    // SAFETY: the slice lends `length` bytes to read for the call; `used` and `layer` may be any numbers; no pointer is kept.
+    unsafe { zv_jump_either_edition(buffer.as_ptr(), buffer.len(), used, layer) }
 }
 
 pub fn report(input: &[u8], out: &mut [u8]) -> Length {

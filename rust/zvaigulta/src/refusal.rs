@@ -2,7 +2,7 @@
 
 use std::fmt;
 
-/// Why a call refused: document 01's seventeen numbers, and of document 02 18 (order 1) and 19 (order 5).
+/// Why a call refused: document 01's seventeen numbers, and of document 02 18 (order 1), 19 (order 5) and 27 (order 13).
 ///
 /// ```
 /// use zvaigulta::Reason;
@@ -53,14 +53,16 @@ pub enum Reason {
     /// 18: a record of a file with line ends does not end in carriage return and line feed.
     LineEnd,
     /// 19: the directory of layers is missing, or differs from the right one. The record is the last one where that is no well-formed `ZE` with a
-    /// pointer from 1 to its own number, else the first that differs.
+    /// pointer from 1 to its own number, else the first that differs. Calls that read either edition take a well-formed `YE` as well.
     Directory,
-    /// A number above 19, from a later edition of the library.
+    /// 27: the last record starts `YE`, as in the second edition of a directory, but its edition column is not 2 in written form. The record is the last.
+    Edition,
+    /// A number that is not among 1 to 19 and 27, from a later edition of the library.
     Other(u64),
 }
 
-/// The reasons in the order of their numbers, from 1.
-const REASONS: [Reason; 19] = [
+/// The reasons in the order of their numbers.
+const REASONS: [Reason; 20] = [
     Reason::Length,
     Reason::FileType,
     Reason::MissingRecord,
@@ -80,13 +82,13 @@ const REASONS: [Reason; 19] = [
     Reason::RecordNumber,
     Reason::LineEnd,
     Reason::Directory,
+    Reason::Edition,
 ];
 
 impl Reason {
-    /// The reason of a number; [`Reason::Other`] for one that is not among 1 to 19.
+    /// The reason of a number; [`Reason::Other`] for one that is not among 1 to 19 and 27.
     pub fn from_number(number: u64) -> Reason {
-        let place = usize::try_from(number).ok().and_then(|n| n.checked_sub(1));
-        place.and_then(|n| REASONS.get(n)).copied().unwrap_or(Reason::Other(number))
+        REASONS.into_iter().find(|reason| reason.number() == number).unwrap_or(Reason::Other(number))
     }
 
     /// Its number on paper.
@@ -115,6 +117,7 @@ impl Reason {
             Reason::RecordNumber => (17, "the record number is outside the file or in the sheet part, or there is no such layer"),
             Reason::LineEnd => (18, "a record does not end in carriage return and line feed"),
             Reason::Directory => (19, "the directory of layers is missing, or differs here from the right one"),
+            Reason::Edition => (27, "the edition column of the directory of layers is not 2 in written form"),
             Reason::Other(number) => (number, "this edition of the wrapper does not know the number"),
         }
     }
@@ -172,11 +175,11 @@ mod tests {
 
     #[test]
     fn every_number_has_its_reason() {
-        for (reason, number) in REASONS.iter().zip(1..) {
+        for (reason, number) in REASONS.iter().zip((1..=19).chain([27])) {
             assert_eq!(reason.number(), number);
             assert_eq!(Reason::from_number(number), *reason);
         }
-        for number in [0, 20, 255, 256, u64::MAX] {
+        for number in [0, 20, 26, 28, 255, 256, u64::MAX] {
             assert_eq!(Reason::from_number(number), Reason::Other(number));
         }
     }

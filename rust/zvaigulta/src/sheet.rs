@@ -3,8 +3,7 @@
 use crate::layout::SHEET_B;
 use crate::outline::{Outline, Record, Sort, Stated, What};
 use crate::{
-    append_directory, insert, judge_directory, judge_sheet, normal_sheet, remove, way_up, Counts, Refusal, WayUp,
-    LAYERS_TO_A_RECORD, RECORD_BYTES,
+    insert, judge_either_edition, judge_sheet, normal_sheet, remove, way_up, Counts, Edition, Refusal, WayUp, RECORD_BYTES,
 };
 
 /// A sheet with its bytes. Any bytes make one: [`Sheet::judge`] says whether they are accepted, and every other call judges first.
@@ -112,10 +111,10 @@ impl Sheet {
         Ok(Sheet { bytes: second })
     }
 
-    /// The sheet of a file with a directory of layers, which is taken off.
+    /// The sheet of a file with a directory of layers of either edition, which is taken off.
     ///
     /// # Errors
-    /// Those of [`judge_directory`], 1 to 10 and 19.
+    /// Those of [`judge_either_edition`], 1 to 10, 19 and 27.
     ///
     /// ```
     /// use zvaigulta::{Sheet, EXAMPLE};
@@ -129,12 +128,12 @@ impl Sheet {
     /// # Ok::<(), zvaigulta::Refusal>(())
     /// ```
     pub fn without_directory(mut file: Vec<u8>) -> Result<Sheet, Refusal> {
-        let counts = judge_directory(&file, file.len())?;
+        let counts = judge_either_edition(&file, file.len())?;
         file.truncate(counts.records * RECORD_BYTES);
         Ok(Sheet { bytes: file })
     }
 
-    /// The file of this sheet with the directory of its layers behind it.
+    /// The file of this sheet with the directory of its layers in the first edition behind it.
     ///
     /// # Errors
     /// Those of [`judge_sheet`], 1 to 10.
@@ -148,12 +147,30 @@ impl Sheet {
     /// # Ok::<(), zvaigulta::Refusal>(())
     /// ```
     pub fn with_directory(&self) -> Result<Vec<u8>, Refusal> {
+        self.with_edition(Edition::First)
+    }
+
+    /// The same with a directory of an edition.
+    ///
+    /// # Errors
+    /// Those of [`judge_sheet`], 1 to 10.
+    ///
+    /// ```
+    /// use zvaigulta::{jump_either_edition, Edition, Sheet, EXAMPLE};
+    ///
+    /// let file = Sheet::from(EXAMPLE.to_vec()).with_edition(Edition::Second)?;
+    /// let layer = jump_either_edition(&file, file.len(), 1)?;
+    /// assert_eq!((layer.header, layer.total, layer.last), (6, 1, 9));
+    /// assert_eq!(Sheet::without_directory(file)?.as_bytes(), EXAMPLE);
+    /// # Ok::<(), zvaigulta::Refusal>(())
+    /// ```
+    pub fn with_edition(&self, edition: Edition) -> Result<Vec<u8>, Refusal> {
         let used = self.bytes.len();
         // A sheet has at most as many layers as records; one record more closes the directory.
-        let most = (used / RECORD_BYTES).div_ceil(LAYERS_TO_A_RECORD) + 1;
+        let most = edition.rows(used / RECORD_BYTES) + 1;
         let mut file = self.bytes.clone();
         file.resize(used + most * RECORD_BYTES, b' ');
-        let length = append_directory(&mut file, used)?;
+        let length = edition.append(&mut file, used)?;
         file.truncate(length);
         Ok(file)
     }
@@ -271,7 +288,8 @@ mod tests {
             let bytes: Vec<u8> = (0..length).map(|_| r.word() as u8).collect();
             let mut sheet = Sheet::from(bytes.clone());
             assert!(sheet.judge().is_err() && sheet.normal().is_err() && sheet.way_up(1).is_err());
-            assert!(sheet.with_directory().is_err() && Sheet::without_directory(bytes.clone()).is_err());
+            assert!(Edition::ALL.into_iter().all(|edition| sheet.with_edition(edition).is_err()));
+            assert!(Sheet::without_directory(bytes.clone()).is_err());
             assert!(sheet.insert(1, b"E2").is_err() && sheet.remove(usize::MAX).is_err());
             let _ = (sheet.items().count(), sheet.records().count());
             assert_eq!(sheet.into_bytes(), bytes);

@@ -7,10 +7,11 @@ use reference::random::Random;
 use reference::sheets;
 use std::collections::BTreeMap;
 use town::damage::{is_explained, Damage};
-use town::{ended, filed, index, layered, sheet, shifted, twice, with, without};
+use town::{ended, filed, filed_in, index, layered, sheet, shifted, twice, with, without};
 use zvaigulta::explain::{explain_as, line_as, Explanation};
 use zvaigulta::outline::layers;
-use zvaigulta::{append_directory, insert, judge_directory, judge_sheet, jump, Form, Reading, Reason, RECORD_BYTES};
+use zvaigulta::{append_directory, insert, judge_either_edition, judge_sheet, jump_either_edition};
+use zvaigulta::{Edition, Form, Reading, Reason, RECORD_BYTES};
 
 /// The small sheet, 28 records with two layers, and its directory: records 29 and 30.
 fn file() -> Vec<u8> {
@@ -743,18 +744,25 @@ fn the_same_words_with_line_ends() {
     }
 }
 
-/// A sheet of the reference's, with its directory.
+/// A sheet of the reference's, with its directory of either edition.
 fn any_file(r: &mut Random, n: usize) -> Vec<u8> {
-    match n % 8 {
-        0 => filed(&layered(r.below(40))),
-        size => filed(&sheets::sheet(r, size % 5)),
-    }
+    let sheet = match n % 8 {
+        0 => layered(r.below(40)),
+        size => sheets::sheet(r, size % 5),
+    };
+    filed_in(Edition::ALL[n / 8 % 2], &sheet)
+}
+
+/// The edition of a directory by the letters of its last record, or of the one before.
+fn edition_of(file: &[u8]) -> Edition {
+    let known = file.chunks(RECORD_BYTES).rev().take(2).find(|record| b"ZY".contains(&record[0]) && b" E".contains(&record[1]));
+    known.filter(|record| record[0] == b'Y').map_or(Edition::First, |_| Edition::Second)
 }
 
 /// A file in which the directory is damaged: bytes of it changed, numbers, records lost, doubled or put elsewhere; once in six the sheet too.
 fn damaged(r: &mut Random, file: &[u8]) -> Vec<u8> {
     let (mut file, records) = (file.to_vec(), file.len() / RECORD_BYTES);
-    let sheet = judge_directory(&file, file.len()).expect("accepted").records;
+    let sheet = judge_either_edition(&file, file.len()).expect("accepted").records;
     let from = if r.once_in(6) { 1 } else { sheet + 1 };
     let number = from + r.below(records - from + 1);
     let (at, width) = ((number - 1) * RECORD_BYTES, RECORD_BYTES);
@@ -764,7 +772,7 @@ fn damaged(r: &mut Random, file: &[u8]) -> Vec<u8> {
         2 => file = [&file[..], &file[sheet * RECORD_BYTES..]].concat(),
         3 => file.truncate(at.max(width)),
         4..6 => {
-            let column = at + 2 + 7 * r.below(if number == records { 2 } else { 11 });
+            let column = at + 2 + 7 * r.below(if number == records { 3 } else { 11 });
             let text = match r.below(6) {
                 0 => "       ".to_string(),
                 1 => format!("{:07}", r.below(records + 2)),
@@ -777,7 +785,7 @@ fn damaged(r: &mut Random, file: &[u8]) -> Vec<u8> {
         _ => {
             for _ in 0..1 + r.below(3) {
                 let byte = at + r.below(width);
-                file[byte] = if r.once_in(3) { r.below(256) as u8 } else { *r.pick(b" -09ZEHM1x") };
+                file[byte] = if r.once_in(3) { r.below(256) as u8 } else { *r.pick(b" -09ZEHM1xY2") };
             }
         }
     }
@@ -789,6 +797,8 @@ fn differing(number: usize, found: &[u8], right: &[u8]) -> Option<Vec<(usize, &'
     let layout = match (found.get(..2)?, right.get(..2)?) {
         (b"Z ", b"Z ") => &zvaigulta::layout::DIRECTORY,
         (b"ZE", b"ZE") => &zvaigulta::layout::DIRECTORY_END,
+        (b"Y ", b"Y ") => &zvaigulta::layout::SECOND_DIRECTORY,
+        (b"YE", b"YE") => &zvaigulta::layout::SECOND_DIRECTORY_END,
         _ => return None,
     };
     let columns = layout.columns.iter().filter(|column| column.bytes(found) != column.bytes(right));
@@ -803,7 +813,7 @@ fn accepted_sheet(file: &[u8]) -> Option<&[u8]> {
 
 /// The marked columns of each record that stands where one of its kind is due are those that differ from the right directory: all of them, and no others.
 fn marks_what_differs(name: &str, file: &[u8], sheet: &[u8], explained: &Explanation) -> usize {
-    let (right, before) = (filed(sheet), sheet.len() / RECORD_BYTES);
+    let (right, before) = (filed_in(edition_of(file), sheet), sheet.len() / RECORD_BYTES);
     let pairs = file.chunks(RECORD_BYTES).zip(right.chunks(RECORD_BYTES)).enumerate().skip(before);
     let mut compared = 0;
     for (place, (found, right)) in pairs {
@@ -826,7 +836,10 @@ fn is_safe(name: &str, file: &[u8], explained: &Explanation) -> bool {
     }
     let sheet = accepted_sheet(file).unwrap_or_else(|| panic!("{name}: {explained:#?}"));
     let behind = &file[sheet.len()..];
-    assert!(behind.chunks(RECORD_BYTES).all(|record| record.starts_with(b"Z ") || record.starts_with(b"ZE")), "{name}");
+    assert!(
+        behind.chunks(RECORD_BYTES).all(|record| [b"Z ", b"ZE", b"Y ", b"YE"].iter().any(|l| record.starts_with(*l))),
+        "{name}"
+    );
     assert_eq!(named("--remove"), !behind.is_empty(), "{name}: {explained:#?}");
     true
 }
@@ -838,7 +851,7 @@ fn every_refusal_is_explained() {
     let mut r = Random(19);
     let mut seen: BTreeMap<u64, usize> = BTreeMap::new();
     let (mut compared, mut safe) = (0, 0);
-    for n in 0..12_000 {
+    for n in 0..16_000 {
         let file = any_file(&mut r, n);
         let (file, name) = (damaged(&mut r, &file), format!("case {n}"));
         let Err(refusal) = WITH.judge(&file) else { continue };
@@ -848,20 +861,22 @@ fn every_refusal_is_explained() {
             refusal.record.is_none_or(|record| explained.faults.iter().any(|f| f.record == record)),
             "{name}: {explained:#?}"
         );
-        assert!(refusal.reason != Reason::Directory || !explained.notes.is_empty(), "{name}: {explained:#?}");
+        let directory = matches!(refusal.reason, Reason::Directory | Reason::Edition);
+        assert!(!directory || !explained.notes.is_empty(), "{name}: {explained:#?}");
         for fault in &explained.faults {
             let same = explained.faults.iter().filter(|other| (other.record, other.column) == (fault.record, fault.column));
             let named = WITH.outline(&file).nth(fault.record - 1).expect("a record of the file");
             let known = named.layout.map_or(fault.column == "type", |layout| layout.column(fault.column).is_some());
             assert!(known && same.count() == 1 && !fault.words.is_empty(), "{name}: {refusal}: {explained:#?}");
         }
-        if let Some(sheet) = accepted_sheet(&file).filter(|sheet| refusal.reason == Reason::Directory && sheet.len() < file.len())
+        if let Some(sheet) =
+            accepted_sheet(&file).filter(|sheet| directory && sheet.len() < file.len() && explained.faults.len() < 60)
         {
             compared += marks_what_differs(&name, &file, sheet, &explained);
         }
         safe += usize::from(is_safe(&name, &file, &explained));
     }
-    assert!([1, 3, 4, 5, 10, 19].iter().all(|number| seen.get(number).is_some_and(|count| *count > 10)), "{seen:?}");
+    assert!([1, 3, 4, 5, 10, 19, 27].iter().all(|number| seen.get(number).is_some_and(|count| *count > 10)), "{seen:?}");
     assert!(compared > 2_000 && safe > 2_000, "{compared} columns, {safe} files to mend");
 }
 
@@ -871,11 +886,14 @@ fn layers_are_those_of_the_directory() {
     let mut r = Random(5);
     for n in 0..1_000 {
         let file = any_file(&mut r, n);
-        let counts = judge_directory(&file, file.len()).expect("accepted");
+        let counts = judge_either_edition(&file, file.len()).expect("accepted");
         let layers = layers(&file[..counts.records * RECORD_BYTES]);
-        let headers: Vec<_> = (1..=layers.len() + 1).map(|layer| jump(&file, file.len(), layer).ok()).collect();
-        let shown: Vec<_> = layers.iter().map(|layer| Some(layer.header.number)).chain([None]).collect();
-        assert_eq!(shown, headers, "case {n}");
+        let found = (1..=layers.len() + 1).map(|layer| jump_either_edition(&file, file.len(), layer).ok());
+        let found: Vec<_> = found.map(|layer| layer.map(|layer| (layer.header, layer.total, layer.last))).collect();
+        let second = edition_of(&file) == Edition::Second;
+        let stated = |number: usize| if second { number } else { 0 };
+        let shown = layers.iter().map(|layer| Some((layer.header.number, stated(layer.items), stated(layer.last()))));
+        assert_eq!(shown.chain([None]).collect::<Vec<_>>(), found, "case {n}");
         assert_eq!(layers.iter().map(|layer| layer.items).sum::<usize>(), counts.items, "case {n}");
         let last = layers.last().map_or(0, |layer| layer.header.number + layer.records - 1);
         assert!(layers.is_empty() || last == counts.records, "case {n}");

@@ -34,7 +34,7 @@ fn editing_a_sheet() {
 
 #[test]
 fn a_directory_of_layers() {
-    let lines = ["accepted 9 records 1 items; 11 records with its directory", "layer 1: the header is record 6, class 2100"];
+    let lines = ["accepted 9 records 1 items; 11 records with its directory", "layer 1: records 6 to 9, class 2100, items: 1"];
     assert_eq!(printed("layers", &[]), lines.join("\n") + "\n");
 }
 

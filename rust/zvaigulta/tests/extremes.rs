@@ -14,15 +14,15 @@ fn buffers_and_lengths() {
             let accepted = used == EXAMPLE.len() && buffer == EXAMPLE;
             assert_eq!(judge_sheet(buffer, used).is_ok(), accepted);
             assert!(judge_index(buffer, used).is_err());
-            assert!(judge_directory(buffer, used).is_err());
+            assert!(judge_directory(buffer, used).is_err() && judge_either_edition(buffer, used).is_err());
             for place in ENDS {
                 assert!(way_up(buffer, used, place).is_err());
-                assert!(jump(buffer, used, place).is_err());
+                assert!(jump(buffer, used, place).is_err() && jump_either_edition(buffer, used, place).is_err());
                 let mut changed = buffer.to_vec();
                 assert!(remove(&mut changed, used, place).is_err());
                 assert!(insert(&mut changed, used, place, b"").is_err());
                 assert!(insert(&mut changed, used, place, EXAMPLE).is_err());
-                assert!(append_directory(&mut changed, used).is_err());
+                assert!(append_directory(&mut changed, used).is_err() && append_second_edition(&mut changed, used).is_err());
                 assert_eq!(changed, buffer);
             }
             let mut second = [b'.'; 4];

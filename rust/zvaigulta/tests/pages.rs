@@ -4,7 +4,7 @@
 use std::fs;
 use std::path::{Path, PathBuf};
 use std::process::Command;
-use zvaigulta::layout::{Column, Content, Layout, ALL, DIRECTORY, DIRECTORY_END};
+use zvaigulta::layout::{Column, Content, Layout, ALL, DIRECTORY, DIRECTORY_END, SECOND_DIRECTORY, SECOND_DIRECTORY_END};
 use zvaigulta::Reason;
 
 fn root() -> PathBuf {
@@ -38,7 +38,7 @@ fn table(layout: &Layout) -> String {
 #[test]
 fn every_column_of_every_layout() {
     let format = page("docs/FORMAT.md");
-    for layout in ALL.into_iter().chain([&DIRECTORY, &DIRECTORY_END]) {
+    for layout in ALL.into_iter().chain([&DIRECTORY, &DIRECTORY_END, &SECOND_DIRECTORY, &SECOND_DIRECTORY_END]) {
         assert!(format.contains(&table(layout)), "docs/FORMAT.md: {} must be\n{}", layout.name, table(layout));
     }
 }
@@ -46,11 +46,13 @@ fn every_column_of_every_layout() {
 #[test]
 fn every_refusal_with_its_words() {
     let (refusals, readme) = (page("docs/REFUSALS.md"), page("README.md"));
-    for number in 1..=19 {
+    for number in (1..=19).chain([27]) {
         let reason = Reason::from_number(number);
         assert!(refusals.contains(&format!("## {number}. ")) && refusals.contains(&reason.to_string()), "{number}: {reason}");
     }
-    assert!(!refusals.contains("## 20. ") || Reason::from_number(20) != Reason::Other(20));
+    for number in (20..=26).chain([28]) {
+        assert!(!refusals.contains(&format!("## {number}. ")) || Reason::from_number(number) != Reason::Other(number));
+    }
     assert!(readme.contains("docs/REFUSALS.md") && readme.contains("docs/FORMAT.md"));
 }
 

@@ -1,5 +1,5 @@
-//! 19, and the other refusals of a sheet with a directory of layers: which number is wrong, and what it should be. Also what is said of a directory
-//! behind a sheet that was read without one.
+//! 19, 27 and the other refusals of a sheet with a directory of layers, of either edition: which number is wrong, and what it should be. Also what is
+//! said of a directory behind a sheet that was read without one.
 
 mod columns;
 mod notes;
@@ -7,11 +7,11 @@ mod notes;
 use super::body::Body;
 use super::counts::Records;
 use super::{fault, length, of_sheet, Explanation, Fault};
-use crate::directory::{is_end, is_row, last_record, ragged_before, records_before, sheet};
-use crate::layout::{DIRECTORY, DIRECTORY_END};
-use crate::outline::{directory_layout, layers, record, Layer, Outline, Record};
+use crate::directory::{edition_in, is_end, is_row, last_record, ragged_before, records_before, sheet};
+use crate::layout::DIRECTORY_END;
+use crate::outline::{directory_record, layers, record, DirectoryRecord, Layer, Outline, Record};
 use crate::text::{quoted, with_article};
-use crate::{judge_sheet, FileKind, Form, Reason, Refusal, LAYERS_TO_A_RECORD, RECORD_BYTES};
+use crate::{judge_either_edition, judge_sheet, Edition, FileKind, Form, Reason, Refusal, RECORD_BYTES};
 use std::cmp::Ordering;
 use std::ops::RangeInclusive;
 
@@ -22,7 +22,8 @@ const MOST_LISTED: usize = 60;
 pub fn explain(bytes: &[u8], form: Form, refusal: Refusal) -> Explanation {
     let directory = Directory::of(bytes);
     match (refusal.reason, refusal.record) {
-        (Reason::Directory, Some(refused)) => directory.wrong(form, refused, Vec::new()),
+        (Reason::Directory, Some(refused)) if judge_either_edition(bytes, bytes.len()).is_ok() => directory.unknown_to(refused),
+        (Reason::Directory | Reason::Edition, Some(refused)) => directory.wrong(form, refused, Vec::new()),
         (_, Some(refused)) => directory.sheet_refused(form, refusal, refused),
         (_, None) => directory.wrong(form, directory.records, Vec::new()),
     }
@@ -42,7 +43,8 @@ pub fn length(form: Form, bytes: &[u8]) -> String {
 /// The one of the two reasons that a directory is refused for.
 pub fn reason(bytes: &[u8]) -> &'static str {
     let end = last_record(Form::Plain, bytes).unwrap_or(bytes);
-    match is_row(end) || directory_layout(end, true) == Some(&DIRECTORY_END) {
+    let record = directory_record(end, true, edition_in(bytes));
+    match is_row(end) || matches!(record, Some(DirectoryRecord::End(_))) {
         true => "the directory of layers differs here from the right one",
         false => "the directory of layers is missing",
     }
@@ -80,6 +82,8 @@ struct Directory<'a> {
     /// The records of the file, and those before the directory.
     records: usize,
     before: usize,
+    /// The edition in which it is read.
+    edition: Edition,
     /// What the sheet holds, where it is accepted by its own counts.
     sheet: Option<Accepted<'a>>,
 }
@@ -94,7 +98,12 @@ impl<'a> Directory<'a> {
     fn of(bytes: &'a [u8]) -> Directory<'a> {
         let (sheet, records) = (sheet(bytes), bytes.len() / RECORD_BYTES);
         let accepted = sheet.map(|sheet| Accepted { layers: layers(sheet), body: Body::of(sheet) });
-        Directory { bytes, records, before: records_before(bytes, sheet), sheet: accepted }
+        Directory { bytes, records, before: records_before(bytes, sheet), edition: edition_in(bytes), sheet: accepted }
+    }
+
+    /// What a record is in it.
+    fn record(&self, number: usize) -> Option<DirectoryRecord> {
+        directory_record(record(self.bytes, number), number == self.records, self.edition)
     }
 
     /// The last record.
@@ -104,7 +113,10 @@ impl<'a> Directory<'a> {
 
     /// A number that the last record states.
     fn stated(&self, name: &str) -> Option<i64> {
-        DIRECTORY_END.value(name, self.end()).filter(|_| directory_layout(self.end(), true) == Some(&DIRECTORY_END))
+        match self.record(self.records) {
+            Some(end @ DirectoryRecord::End(_)) => end.layout().value(name, self.end()),
+            _ => None,
+        }
     }
 
     /// The records of the sheet for which the directory was made, by its pointer.
@@ -117,16 +129,30 @@ impl<'a> Directory<'a> {
         self.before + 1..=self.records
     }
 
-    /// The numbers that it lists, in order.
+    /// What it lists of each layer, in order, as far as a number stands there: the header; in the second edition behind it total and last record.
+    fn entries(&self) -> Vec<Vec<Option<i64>>> {
+        let entries_of = |number: usize| match self.record(number) {
+            Some(DirectoryRecord::Row(edition)) => columns::entries(edition, record(self.bytes, number)),
+            _ => Vec::new(),
+        };
+        self.numbers().flat_map(entries_of).filter(|entry| entry.iter().any(Option::is_some)).collect()
+    }
+
+    /// The headers that it lists, in order.
     fn listed(&self) -> Vec<i64> {
-        let layout = |number: &usize| directory_layout(record(self.bytes, *number), *number == self.records);
-        let rows = self.numbers().filter(|number| layout(number) == Some(&DIRECTORY)).map(|number| record(self.bytes, number));
-        rows.flat_map(|row| DIRECTORY.columns.iter().skip(1).filter_map(|column| column.value(row))).collect()
+        self.entries().iter().filter_map(|entry| *entry.first()?).collect()
     }
 
     /// The record numbers of the sheet's layer headers.
     fn headers(&self) -> Vec<i64> {
         self.sheet.iter().flat_map(|sheet| &sheet.layers).map(|layer| layer.header.number as i64).collect()
+    }
+
+    /// That it is right, where a call refused it that reads the first edition alone.
+    fn unknown_to(&self, refused: usize) -> Explanation {
+        let words = format!("is {}, of {}, which the call does not read", letters(self.end()), self.edition);
+        let note = format!("the directory is of {}, and right: read it by a call for either edition", self.edition);
+        Explanation { notes: vec![note], faults: vec![fault(refused, "type", words)] }
     }
 
     /// What there is to say of the whole; the refused record's columns at fault, `own` among them, then those of other records.
@@ -177,7 +203,7 @@ impl<'a> Directory<'a> {
         let first_column = |last: Record| {
             let name = last.layout.and_then(|layout| layout.columns.first()).map_or("type", |column| column.name);
             let starts = letters(last.bytes);
-            fault(last.number, name, format!("the record starts {starts}, the last of a directory \"ZE\""))
+            fault(last.number, name, format!("the record starts {starts}, the last of a directory \"ZE\" or \"YE\""))
         };
         last.map(first_column).into_iter().collect()
     }
@@ -185,15 +211,17 @@ impl<'a> Directory<'a> {
     /// The same of one record. Where the sheet is not known, only of the last, by itself.
     fn faults_of(&self, number: usize) -> Vec<Fault> {
         let (bytes, last) = (record(self.bytes, number), number == self.records);
+        let edition = self.edition;
         let Some(sheet) = &self.sheet else {
-            return if last { columns::end_alone(number, bytes, self.before) } else { Vec::new() };
+            return if last { columns::end_alone(number, bytes, edition, self.before) } else { Vec::new() };
         };
-        let nth = number - self.before - 1;
-        let (own, first) = (sheet.layers.chunks(LAYERS_TO_A_RECORD).nth(nth).unwrap_or(&[]), nth * LAYERS_TO_A_RECORD + 1);
-        let due = columns::Counts { pointer: self.before + 1, layers: sheet.layers.len() };
+        let (nth, each) = (number - self.before - 1, edition.layers_to_a_record());
+        let (own, first) = (sheet.layers.chunks(each).nth(nth).unwrap_or(&[]), nth * each + 1);
+        let due = columns::Counts { edition, pointer: self.before + 1, layers: sheet.layers.len() };
+        let listed = columns::Listed { edition, own, first, what: &|n| self.what(n) };
         match number.cmp(&due.end()) {
-            Ordering::Less if last && !is_row(bytes) => columns::row_missing(number, bytes, own, first, &due),
-            Ordering::Less => columns::row(number, bytes, last, columns::Listed { own, first, what: &|n| self.what(n) }),
+            Ordering::Less if last && !is_row(bytes) => columns::row_missing(number, bytes, &listed, &due),
+            Ordering::Less => columns::row(number, bytes, last, &listed),
             Ordering::Equal if last || is_end(bytes) => columns::end(number, bytes, &due),
             _ => vec![columns::too_many(number, bytes, &due)],
         }

@@ -14,6 +14,19 @@ pub struct Layer<'a> {
     pub items: usize,
 }
 
+impl Layer<'_> {
+    /// The number of its last record.
+    ///
+    /// ```
+    /// use zvaigulta::{outline::layers, EXAMPLE};
+    ///
+    /// assert_eq!(layers(EXAMPLE)[0].last(), 9);
+    /// ```
+    pub fn last(&self) -> usize {
+        self.header.number + self.records.saturating_sub(1)
+    }
+}
+
 /// The layers of a sheet without a directory, in the order of the file. Of a sheet that is refused they are the best guess.
 ///
 /// ```

@@ -83,6 +83,9 @@ static void every_pointer(size_t any)
     BOTH(zv_counts, "zv_judge_directory buffer", zv_judge_directory(none, 0, any), zv_judge_directory(NULL, 0, any));
     BOTH(zv_length, "zv_append_directory buffer", zv_append_directory(none, 0, any), zv_append_directory(NULL, 0, any));
     BOTH(zv_layer, "zv_jump buffer", zv_jump(none, 0, any, 1), zv_jump(NULL, 0, any, 1));
+    BOTH(zv_counts, "zv_judge_either_edition buffer", zv_judge_either_edition(none, 0, any), zv_judge_either_edition(NULL, 0, any));
+    BOTH(zv_length, "zv_append_second_edition buffer", zv_append_second_edition(none, 0, any), zv_append_second_edition(NULL, 0, any));
+    BOTH(zv_layer_entry, "zv_jump_either_edition buffer", zv_jump_either_edition(none, 0, any, 1), zv_jump_either_edition(NULL, 0, any, 1));
     BOTH(zv_length, "zv_report input", zv_report(none, 0, second, ROOM), zv_report(NULL, 0, second, ROOM));
     BOTH(zv_length, "zv_report out", zv_report(sheet, used, none, 0), zv_report(sheet, used, NULL, 0));
     BOTH(zv_length, "zv_refusal_text out", zv_refusal_text(1, none, 0), zv_refusal_text(1, NULL, 0));

@@ -3,7 +3,7 @@
 
 pub mod damage;
 
-use zvaigulta::RECORD_BYTES;
+use zvaigulta::{Edition, RECORD_BYTES};
 
 /// A sheet: two layers, the first with a group; every kind of data, a grid and a net.
 const SHEET: [&str; 28] = [
@@ -88,9 +88,14 @@ pub fn ended(file: &[u8], end: &[u8]) -> Vec<u8> {
     file.chunks(RECORD_BYTES).flat_map(|record| [record, end].concat()).collect()
 }
 
-/// A sheet with the directory of its layers.
+/// A sheet with the directory of its layers, of the first edition.
 pub fn filed(sheet: &[u8]) -> Vec<u8> {
-    zvaigulta::Sheet::from(sheet.to_vec()).with_directory().expect("an accepted sheet")
+    filed_in(Edition::First, sheet)
+}
+
+/// A sheet with the directory of its layers, of an edition.
+pub fn filed_in(edition: Edition, sheet: &[u8]) -> Vec<u8> {
+    zvaigulta::Sheet::from(sheet.to_vec()).with_edition(edition).expect("an accepted sheet")
 }
 
 /// A sheet of so many layers, all empty.

@@ -1,15 +1,17 @@
-//! The columns of a directory's records against what they should hold.
+//! The columns of a directory's records against what they should hold, in its edition.
 
 use super::letters;
-use crate::directory::{is_end, is_row, is_written, written};
+use crate::directory::{is_written, written};
 use crate::explain::{fault, own, Fault};
-use crate::layout::{Layout, DIRECTORY, DIRECTORY_END, HEADER};
-use crate::outline::{directory_layout, natural, Layer};
+use crate::layout::{Column, Layout, HEADER};
+use crate::outline::{directory_record, natural, DirectoryRecord, Layer};
 use crate::text::{number_of, quoted};
-use crate::{read_column, LAYERS_TO_A_RECORD};
+use crate::{read_column, Edition};
 
 /// What the last record of a directory should state.
 pub struct Counts {
+    /// The edition of the directory.
+    pub edition: Edition,
     /// The number of the directory's first record.
     pub pointer: usize,
     /// The layers that it lists.
@@ -19,7 +21,7 @@ pub struct Counts {
 impl Counts {
     /// The number of the directory's last record.
     pub fn end(&self) -> usize {
-        self.pointer + self.layers.div_ceil(LAYERS_TO_A_RECORD)
+        self.pointer + self.edition.rows(self.layers)
     }
 
     fn layers(&self) -> String {
@@ -29,11 +31,25 @@ impl Counts {
 
 /// The layers that a record should list.
 pub struct Listed<'a> {
+    /// The edition of the directory.
+    pub edition: Edition,
     pub own: &'a [Layer<'a>],
     /// The number of the first of them.
     pub first: usize,
     /// What a record of the sheet is, in words.
     pub what: &'a dyn Fn(i64) -> String,
+}
+
+/// The columns of an edition's records that list layers.
+fn listing(edition: Edition) -> &'static [Column] {
+    let numbers = edition.layers_to_a_record() * edition.numbers_of_a_layer();
+    edition.layout().columns.get(1..1 + numbers).unwrap_or(&[])
+}
+
+/// The numbers of a record that lists layers, those of a layer together.
+pub fn entries(edition: Edition, row: &[u8]) -> Vec<Vec<Option<i64>>> {
+    let values = |columns: &[Column]| columns.iter().map(|column| column.value(row)).collect();
+    listing(edition).chunks(edition.numbers_of_a_layer()).map(values).collect()
 }
 
 /// What is wrong with a number column, if anything: a number is due, and what that is, or any number.
@@ -58,39 +74,48 @@ fn used_rest(number: usize, layout: &Layout, bytes: &[u8]) -> Option<Fault> {
     Some(fault(number, column.name, format!("byte {} is used, must be a space", column.start + used + 1)))
 }
 
-/// A record that should start `Z ` and list some layers; the last of the file or not.
-pub fn row(number: usize, bytes: &[u8], last: bool, listed: Listed) -> Vec<Fault> {
-    let words = match (is_row(bytes), last) {
-        (false, _) => Some(format!("is {}, must be \"Z \"", letters(bytes))),
-        (true, true) => Some("is \"Z \": the record \"ZE\" that ends a directory is missing behind it".to_string()),
+/// A record that should list some layers; the last of the file or not.
+pub fn row(number: usize, bytes: &[u8], last: bool, listed: &Listed) -> Vec<Fault> {
+    let (edition, due) = (listed.edition, quoted(listed.edition.letters()));
+    let words = match (Edition::of_row(bytes) == Some(edition), last) {
+        (false, _) => Some(format!("is {}, must be {due}", letters(bytes))),
+        (true, true) => {
+            let end = quoted(edition.end_letters());
+            Some(format!("is {due}: the record {end} that ends a directory is missing behind it"))
+        }
         (true, false) => None,
     };
     let mut faults: Vec<Fault> = words.map(|words| fault(number, "type", words)).into_iter().collect();
-    if directory_layout(bytes, last) != Some(&DIRECTORY) {
+    if directory_record(bytes, last, edition) != Some(DirectoryRecord::Row(edition)) {
         return faults;
     }
-    for (nth, column) in DIRECTORY.columns.iter().skip(1).take(LAYERS_TO_A_RECORD).enumerate() {
+    for (nth, column) in listing(edition).iter().enumerate() {
         let words = listed.wrong(nth, column.bytes(bytes));
         faults.extend(words.map(|words| fault(number, column.name, words)));
     }
-    faults.extend(used_rest(number, &DIRECTORY, bytes));
+    faults.extend(used_rest(number, edition.layout(), bytes));
     faults
 }
 
 impl Listed<'_> {
-    /// What is wrong with the n-th number, from 0; of another number than is due also what that record is.
+    /// What is wrong with the n-th number, from 0; of another record number than is due also what that record is.
     fn wrong(&self, nth: usize, column: &[u8]) -> Option<String> {
-        let Some(layer) = self.own.get(nth) else {
+        let (place, which) = (nth / self.edition.numbers_of_a_layer(), nth % self.edition.numbers_of_a_layer());
+        let Some(layer) = self.own.get(place) else {
             return self.spaces_due(column);
         };
         let class = natural(&HEADER, "class", layer.header.bytes);
-        let header = format!("the header of layer {}, class {class}", self.first + nth);
-        let words = wrong(column, Some((layer.header.number, &header)))?;
-        let other = read_column(column).ok().filter(|value| *value != layer.header.number as i64);
+        let (due, what) = match which {
+            0 => (layer.header.number, "the header"),
+            1 => (layer.items, "the items, at any level,"),
+            _ => (layer.last(), "the last record"),
+        };
+        let words = wrong(column, Some((due, &format!("{what} of layer {}, class {class}", self.first + place))))?;
+        let other = read_column(column).ok().filter(|value| which != 1 && *value != due as i64);
         Some(other.map_or_else(|| words.clone(), |value| format!("{words}; {}", (self.what)(value))))
     }
 
-    /// A number behind that of the last layer.
+    /// A number behind those of the last layer.
     fn spaces_due(&self, column: &[u8]) -> Option<String> {
         let layers = number_of((self.first + self.own.len() - 1) as u64, "layer");
         let is = match read_column(column) {
@@ -100,19 +125,28 @@ impl Listed<'_> {
         };
         Some(format!("{is}, must be spaces: the sheet has {layers}"))
     }
+
+    /// The layers in words: `layers 4 to 6`.
+    fn named(&self) -> String {
+        match self.own.len() {
+            1 => format!("layer {}", self.first),
+            n => format!("layers {} to {}", self.first, self.first + n - 1),
+        }
+    }
 }
 
-/// The last record, which should start `ZE`.
+/// The last record.
 pub fn end(number: usize, bytes: &[u8], due: &Counts) -> Vec<Fault> {
     let (before, layers) = (format!("the sheet ends at record {}", due.pointer - 1), format!("the sheet has {}", due.layers()));
-    end_with(number, bytes, [Some((due.pointer, &before)), Some((due.layers, &layers))])
+    end_with(number, bytes, due.edition, [Some((due.pointer, &before)), Some((due.layers, &layers))])
 }
 
 /// The same where the sheet is not known: what is wrong with the record by itself, and a pointer that is not behind the records before the directory.
-pub fn end_alone(number: usize, bytes: &[u8], before: usize) -> Vec<Fault> {
-    let mut faults = end_with(number, bytes, [None, None]);
-    let known = faults.iter().any(|fault| fault.column == "pointer") || directory_layout(bytes, true) != Some(&DIRECTORY_END);
-    let pointer = DIRECTORY_END.value("pointer", bytes).filter(|pointer| !known && *pointer != before as i64 + 1);
+pub fn end_alone(number: usize, bytes: &[u8], edition: Edition, before: usize) -> Vec<Fault> {
+    let mut faults = end_with(number, bytes, edition, [None, None]);
+    let is_end = directory_record(bytes, true, edition) == Some(DirectoryRecord::End(edition));
+    let known = faults.iter().any(|fault| fault.column == "pointer") || !is_end;
+    let pointer = edition.end_layout().value("pointer", bytes).filter(|pointer| !known && *pointer != before as i64 + 1);
     faults.extend(pointer.map(|pointer| {
         let stand = number_of(before as u64, "record");
         let made = match usize::try_from(pointer).ok().filter(|pointer| *pointer > 0) {
@@ -124,41 +158,39 @@ pub fn end_alone(number: usize, bytes: &[u8], before: usize) -> Vec<Fault> {
     faults
 }
 
-/// The last record by what is due in its two number columns.
-fn end_with(number: usize, bytes: &[u8], due: [Option<(usize, &str)>; 2]) -> Vec<Fault> {
-    let type_words = (!is_end(bytes)).then(|| format!("is {}, must be \"ZE\"", letters(bytes)));
+/// The last record by what is due in its columns for pointer and layer count; an edition column states its edition.
+fn end_with(number: usize, bytes: &[u8], edition: Edition, [pointer, layers]: [Option<(usize, &str)>; 2]) -> Vec<Fault> {
+    let letters_due = quoted(edition.end_letters());
+    let type_words = (Edition::of_end(bytes) != Some(edition)).then(|| format!("is {}, must be {letters_due}", letters(bytes)));
     let mut faults: Vec<Fault> = type_words.map(|words| fault(number, "type", words)).into_iter().collect();
-    if directory_layout(bytes, true) != Some(&DIRECTORY_END) {
+    if directory_record(bytes, true, edition) != Some(DirectoryRecord::End(edition)) {
         return faults;
     }
-    for (column, due) in DIRECTORY_END.columns.iter().skip(1).zip(due) {
+    let stated = format!("a record {letters_due} ends a directory of {edition}");
+    let due = [pointer, layers, Some((edition.number(), &stated))];
+    let numbers = edition.end_layout().columns.iter().skip(1).filter(|column| column.name != "rest");
+    for (column, due) in numbers.zip(due) {
         let words = wrong(column.bytes(bytes), due);
         faults.extend(words.map(|words| fault(number, column.name, words)));
     }
-    faults.extend(used_rest(number, &DIRECTORY_END, bytes));
+    faults.extend(used_rest(number, edition.end_layout(), bytes));
     faults
 }
 
-/// The last record, where one that starts `Z ` and lists these layers, the first of which has a number, is due.
-pub fn row_missing(number: usize, bytes: &[u8], own: &[Layer], first: usize, due: &Counts) -> Vec<Fault> {
-    let which = match own.len() {
-        1 => format!("layer {first}"),
-        n => format!("layers {first} to {}", first + n - 1),
-    };
-    let words = format!("is {}, where a record \"Z \" with the headers of {which} is due: it is missing", letters(bytes));
+/// The last record, where one that lists these layers is due.
+pub fn row_missing(number: usize, bytes: &[u8], listed: &Listed, due: &Counts) -> Vec<Fault> {
+    let (row, which) = (quoted(due.edition.letters()), listed.named());
+    let words = format!("is {}, where a record {row} with the headers of {which} is due: it is missing", letters(bytes));
     let others = end(number, bytes, due).into_iter().filter(|fault| fault.column != "type");
     [fault(number, "type", words)].into_iter().chain(others).collect()
 }
 
 /// A record that is too many, where the last is due or behind that.
 pub fn too_many(number: usize, bytes: &[u8], due: &Counts) -> Fault {
-    let end = due.end();
+    let (end, row, last) = (due.end(), quoted(due.edition.letters()), quoted(due.edition.end_letters()));
+    let rows = number_of((end - due.pointer) as u64, "record");
     let words = match number == end {
-        true => format!(
-            "where \"ZE\" is due: a directory of {} has {} \"Z \"",
-            due.layers(),
-            number_of((end - due.pointer) as u64, "record")
-        ),
+        true => format!("where {last} is due: a directory of {} has {rows} {row}", due.layers()),
         false => format!("and too many: a directory of {} ends at record {end}", due.layers()),
     };
     fault(number, "type", format!("is {}, {words}", letters(bytes)))

@@ -4,16 +4,23 @@ use super::{letters, Directory};
 use crate::directory::{is_end, is_row};
 use crate::explain::{form, near};
 use crate::layout::DIRECTORY_END;
-use crate::outline::{directory_layout, record, Outline};
+use crate::outline::{record, DirectoryRecord, Layer, Outline};
 use crate::text::{number_of, quoted};
-use crate::{judge_directory, sheet_before_directory, FileKind, RECORD_BYTES};
+use crate::{judge_either_edition, sheet_before_directory, Edition, FileKind, RECORD_BYTES};
 
-/// What takes a directory off and puts the right one there.
-const MEND: &str =
-    "take the directory off by 'dmtool directory FILE --remove' and append the right one by 'dmtool directory FILE --append'";
+/// The command that appends a directory of an edition; the first is appended where none is named.
+fn append(edition: Edition) -> &'static str {
+    match edition {
+        Edition::First => "'dmtool directory FILE --append'",
+        Edition::Second => "'dmtool directory FILE --append --edition 2'",
+    }
+}
 
-/// What appends one.
-const APPEND: &str = "append one by 'dmtool directory FILE --append'";
+/// What takes a directory off and puts the right one there, of one of some editions.
+fn mend(editions: &[Edition]) -> String {
+    let commands: Vec<&str> = editions.iter().map(|edition| append(*edition)).collect();
+    format!("take the directory off by 'dmtool directory FILE --remove' and append the right one by {}", commands.join(" or "))
+}
 
 impl Directory<'_> {
     /// What to look at first stands first.
@@ -32,6 +39,8 @@ impl Directory<'_> {
                 self.several_ends(),
                 self.doubled(),
                 self.other_records(),
+                self.other_edition(),
+                self.mixed(),
                 self.made_for_others(),
                 self.lists(),
             ],
@@ -51,7 +60,9 @@ impl Directory<'_> {
                 "without a directory the file is accepted, and record {number} is {name}: if that is right, read the file with \
                  --no-directory; if it ends a directory, records of the sheet are lost before it"
             ),
-            (true, false) => format!("the sheet has no directory, its last record is {name}: {APPEND}"),
+            (true, false) => {
+                format!("the sheet has no directory, its last record is {name}: append one by {}", append(Edition::First))
+            }
             (false, _) => "no directory stands behind the sheet".to_string(),
         })
     }
@@ -82,7 +93,7 @@ impl Directory<'_> {
         Some(format!("record {second} is the same as record {} before it{without}", second - 1))
     }
 
-    /// The first record `Z ` that is the same as the one before it.
+    /// The first record that lists layers and is the same as the one before it.
     fn repeated(&self) -> Option<usize> {
         near::repeated(self.bytes, self.before + 1, self.records).filter(|number| is_row(record(self.bytes, *number)))
     }
@@ -91,16 +102,53 @@ impl Directory<'_> {
     fn is_right_without(&self, number: usize) -> bool {
         let others: Vec<u8> =
             (1..=self.records).filter(|other| *other != number).flat_map(|other| record(self.bytes, other)).copied().collect();
-        judge_directory(&others, others.len()).is_ok()
+        judge_either_edition(&others, others.len()).is_ok()
     }
 
     /// That the last record is not there.
     fn unended(&self) -> Option<String> {
-        let words = format!("the directory has no end: the record \"ZE\" behind record {} is lost", self.records);
-        is_row(self.end()).then_some(words)
+        let edition = Edition::of_row(self.end())?;
+        let end = quoted(edition.end_letters());
+        Some(format!("the directory has no end: the record {end} behind record {} is lost", self.records))
     }
 
-    /// The records that start `ZE`.
+    /// What the edition column of a last record `YE` says, where that is no 2.
+    fn other_edition(&self) -> Option<String> {
+        let column = Edition::of_end(self.end())?.end_layout().column("edition")?;
+        match column.value(self.end()) {
+            Some(1) => Some("by its edition column the directory is of edition 1, which ends in \"ZE\": one of the two is wrong".to_string()),
+            Some(later @ 3..) => Some(format!(
+                "by its edition column the directory is of edition {later}, which is not known here: a later program may have made it; ask \
+                 where the file comes from before you take it off"
+            )),
+            None if column.is_spaces(self.end()) => {
+                Some("the last record has the columns of \"ZE\", the end of edition 1, and the letters \"YE\" of edition 2".to_string())
+            }
+            _ => None,
+        }
+    }
+
+    /// That records of both editions stand in it.
+    fn mixed(&self) -> Option<String> {
+        let end = Edition::of_end(self.end())?;
+        let of = |number: &usize| Edition::of_row(record(self.bytes, *number)).filter(|edition| *edition != end);
+        let (number, other) = self.numbers().find_map(|number| Some((number, of(&number)?)))?;
+        let (row, last) = (letters(record(self.bytes, number)), letters(self.end()));
+        Some(format!(
+            "record {number} starts {row}, of {other}, and the last record {last}, of {end}: all must be of one edition"
+        ))
+    }
+
+    /// The editions of which the right directory may be: that in which it is read; the other one too where its records are of both, or where its edition
+    /// column does not go with the letters of its last record and no other record tells.
+    fn editions(&self) -> Vec<Edition> {
+        let rows = self.numbers().any(|number| Edition::of_row(record(self.bytes, number)) == Some(self.edition));
+        let other = Edition::of_end(self.end()) == Some(Edition::Second) && self.stated("edition") != Some(2);
+        let doubt = self.mixed().is_some() || other && !rows;
+        Edition::ALL.into_iter().filter(|edition| doubt || *edition == self.edition).collect()
+    }
+
+    /// The records that end a directory by their letters.
     fn ends(&self) -> Vec<usize> {
         self.numbers().filter(|number| is_end(record(self.bytes, *number))).collect()
     }
@@ -108,13 +156,15 @@ impl Directory<'_> {
     fn several_ends(&self) -> Option<String> {
         let ends = self.ends();
         let (first, last) = (ends.first()?, ends.last().filter(|_| ends.len() > 1 && self.other().is_none())?);
-        Some(format!("records {first} and {last} both start \"ZE\": a directory stands behind a directory"))
+        let [one, other] = [first, last].map(|number| letters(record(self.bytes, *number)));
+        let start = if one == other { format!("both start {one}") } else { format!("start {one} and {other}") };
+        Some(format!("records {first} and {last} {start}: a directory stands behind a directory"))
     }
 
     /// The same where the first of them is right.
     fn behind_another(&self) -> Option<String> {
         let first = self.bytes.get(..self.ends().first()? * RECORD_BYTES)?;
-        let several = self.several_ends().filter(|_| judge_directory(first, first.len()).is_ok())?;
+        let several = self.several_ends().filter(|_| judge_either_edition(first, first.len()).is_ok())?;
         Some(format!("{several}, and the first of them is right"))
     }
 
@@ -171,13 +221,25 @@ impl Directory<'_> {
         let other = self.other().filter(|_| self.sheet.is_some())?;
         let bytes = record(self.bytes, other);
         let starts = format!("record {other} behind the sheet starts {}", letters(bytes));
-        Some(match directory_layout(bytes, other == self.records) {
+        Some(match self.record(other).map(DirectoryRecord::layout) {
             _ if bytes.iter().all(|byte| *byte == b' ') => {
                 format!("record {other} behind the sheet holds nothing but spaces: a directory has no such record")
             }
             Some(layout) => format!("{starts}, and its columns read as {}: only the letters seem wrong", layout.name),
             None => format!("{starts}, as no record of a directory does: see in the original where it belongs"),
         })
+    }
+
+    /// Whether it states more items or records of a layer than the sheet has there.
+    fn states_more(&self) -> bool {
+        let more = |(entry, layer): (&Vec<Option<i64>>, &Layer)| match entry[..] {
+            [header, total, last] => {
+                let reach = last.zip(header).map(|(last, header)| last - header);
+                total.is_some_and(|total| total > layer.items as i64) || reach.is_some_and(|reach| reach >= layer.records as i64)
+            }
+            _ => false,
+        };
+        self.sheet.as_ref().is_some_and(|sheet| self.entries().iter().zip(&sheet.layers).any(more))
     }
 
     /// Whether it lists what the sheet does not have: the sheet may have lost it.
@@ -187,8 +249,9 @@ impl Directory<'_> {
         let states = self.stated("layers").is_some_and(|states| states > headers.len() as i64);
         let others = listed.iter().any(|number| headers.binary_search(number).is_err());
         let doubled = self.repeated().is_some_and(|second| self.is_right_without(second));
-        let known = doubled || self.is_grown() || self.behind_another().is_some();
-        !known && (fewer || states || others || listed.len() > headers.len())
+        let known = doubled || self.behind_another().is_some();
+        let lists_more = fewer || states || others || listed.len() > headers.len();
+        !known && (self.states_more() || lists_more && !self.is_grown())
     }
 
     /// What to do next. A directory that is wrong may be the only sign that the sheet lost something.
@@ -196,12 +259,14 @@ impl Directory<'_> {
         if self.sheet.is_none() || self.other().is_some() {
             return None;
         }
-        Some(match self.is_doubtful() {
-            true => format!(
+        let mend = mend(&self.editions());
+        Some(match (self.is_doubtful(), self.stated("edition").is_some_and(|edition| edition > 2)) {
+            (true, _) => format!(
                 "the sheet before it is accepted, but may have lost a layer or other records since the directory was made: \
-                 compare it with the original first; if it is whole, {MEND}"
+                 compare it with the original first; if it is whole, {mend}"
             ),
-            false => format!("the sheet before it is accepted: {MEND}"),
+            (false, true) => format!("the sheet before it is accepted; if no program needs that edition, {mend}"),
+            (false, false) => format!("the sheet before it is accepted: {mend}"),
         })
     }
 
@@ -213,7 +278,7 @@ impl Directory<'_> {
         let others = (first..=self.records).any(|number| !self.is_its(number));
         match (first..=self.records).find(|number| is_end(record(self.bytes, *number))) {
             Some(end) if end == self.records || (is_end(self.end()) && !others) => {
-                let judged = form::answered(judge_directory(self.bytes, self.records * RECORD_BYTES));
+                let judged = form::answered(judge_either_edition(self.bytes, self.records * RECORD_BYTES));
                 let are = match others {
                     true => format!("record {first} starts as a directory of layers does, and record {end} ends one"),
                     false => format!("{} a directory of layers", records(first, self.records, ["is", "are"])),
@@ -225,14 +290,15 @@ impl Directory<'_> {
                 let rows = (first..=self.records).take_while(|number| is_row(record(self.bytes, *number))).count();
                 let start = records(first, first + rows.max(1) - 1, ["starts", "start"]);
                 let next = self.next().map_or(String::new(), |next| format!("; {next}"));
-                format!("{start} as a directory of layers does, and no record \"ZE\" ends it{next}")
+                let end = quoted(Edition::of_row(record(self.bytes, first)).unwrap_or_default().end_letters());
+                format!("{start} as a directory of layers does, and no record {end} ends it{next}")
             }
         }
     }
 
     /// That a directory ends inside a record, and what becomes of the file without it. Where a right one stands there, other bytes stand behind it.
     pub fn cut_off(&self) -> String {
-        let right = self.ends().into_iter().find(|end| judge_directory(self.bytes, end * RECORD_BYTES).is_ok());
+        let right = self.ends().into_iter().find(|end| judge_either_edition(self.bytes, end * RECORD_BYTES).is_ok());
         if let Some(behind) = self.put_behind().or_else(|| right.map(|end| self.behind(end))) {
             return behind;
         }
