@@ -2,7 +2,7 @@
 
 use crate::failure::Failure;
 use std::ffi::{OsStr, OsString};
-use zvaigulta::{Form, Reading};
+use zvaigulta::{Edition, Form, Reading};
 
 /// Which options a subcommand takes, beside `--help`.
 #[derive(Clone, Copy, Debug, Default)]
@@ -15,7 +15,7 @@ pub struct Taken {
     pub directory: bool,
     /// `--to lines|plain` and `--mend`.
     pub convert: bool,
-    /// `--append`, `--remove` and `--check`.
+    /// `--append`, `--remove`, `--check` and `--edition 1|2`.
     pub action: bool,
 }
 
@@ -47,6 +47,8 @@ pub struct Arguments {
     pub directory: Option<bool>,
     /// What is done to a directory.
     pub action: Option<Action>,
+    /// `--edition 1|2`: the edition of a directory that is appended.
+    pub edition: Option<Edition>,
     /// `--to lines|plain`.
     pub to: Option<Form>,
     /// `--mend`: line ends of another kind are put right.
@@ -76,6 +78,7 @@ impl Arguments {
                 "--append" if taken.action => found.set_action(Action::Append)?,
                 "--remove" if taken.action => found.set_action(Action::Remove)?,
                 "--check" if taken.action => found.set_action(Action::Check)?,
+                "--edition" if taken.action => found.set_edition(rest.next())?,
                 option if option.starts_with('-') && option.len() > 1 => {
                     return Err(Failure::Usage(format!(
                         "there is no option '{option}' here (put -- before a file of that name)"
@@ -117,6 +120,18 @@ impl Arguments {
         }
     }
 
+    fn set_edition(&mut self, word: Option<&OsString>) -> Result<(), Failure> {
+        let edition = match word.map(|word| word.to_string_lossy()).as_deref() {
+            Some("1") => Edition::First,
+            Some("2") => Edition::Second,
+            _ => return Err(Failure::Usage("--edition needs 1 or 2 behind it".to_string())),
+        };
+        match self.edition.replace(edition).filter(|before| *before != edition) {
+            Some(_) => Err(Failure::Usage("--edition stands there twice; a directory is of one edition".to_string())),
+            None => Ok(()),
+        }
+    }
+
     fn set_to(&mut self, word: Option<&OsString>) -> Result<(), Failure> {
         let form = match word.map(|word| word.to_string_lossy()).as_deref() {
             Some("lines") => Form::Lines,
@@ -143,23 +158,27 @@ impl Arguments {
         self.output.is_some() || self.force || self.no_lock
     }
 
+    /// That no two options contradict each other. Beside `--help` nothing is tested.
     fn checked(self, taken: Taken) -> Result<Arguments, Failure> {
         let only_reads = taken.action && !matches!(self.action, Some(Action::Append | Action::Remove));
-        if only_reads && self.writes() && !self.help {
-            return Err(Failure::Usage("-o, --force and --no-lock go with --append or --remove".to_string()));
+        let of_directory = matches!(self.action, Some(Action::Remove | Action::Check));
+        let rules = [
+            (only_reads && self.writes(), "-o, --force and --no-lock go with --append or --remove"),
+            (
+                self.directory == Some(false) && of_directory,
+                "--no-directory does not go with --remove or --check, which are about the directory",
+            ),
+            (self.edition.is_some() && of_directory, "--edition goes with --append; --remove and --check take either edition"),
+            (self.force && self.output.is_none(), "--force goes with -o OTHER: it lets the result replace another file"),
+            (
+                self.mend && self.form == Some(Form::Plain),
+                "--mend is about line ends and does not go with --plain; give one of them",
+            ),
+        ];
+        match rules.into_iter().find(|(broken, _)| *broken && !self.help) {
+            Some((_, words)) => Err(Failure::Usage(words.to_string())),
+            None => Ok(self),
         }
-        if self.directory == Some(false) && matches!(self.action, Some(Action::Remove | Action::Check)) && !self.help {
-            return Err(Failure::Usage(
-                "--no-directory does not go with --remove or --check, which are about the directory".to_string(),
-            ));
-        }
-        if self.force && self.output.is_none() && !self.help {
-            return Err(Failure::Usage("--force goes with -o OTHER: it lets the result replace another file".to_string()));
-        }
-        if self.mend && self.form == Some(Form::Plain) && !self.help {
-            return Err(Failure::Usage("--mend is about line ends and does not go with --plain; give one of them".to_string()));
-        }
-        Ok(self)
     }
 
     /// The words, as many as a subcommand takes; `usage` names them.

@@ -5,7 +5,7 @@ use crate::explain;
 use crate::failure::Failure;
 use std::borrow::Cow;
 use std::ffi::OsStr;
-use zvaigulta::{judge_directory, Reading, Refusal, Sheet, RECORD_BYTES};
+use zvaigulta::{judge_either_edition, Edition, Form, Reading, Refusal, Sheet, RECORD_BYTES};
 
 /// A file that was read, and how.
 pub struct Asked<'a> {
@@ -32,7 +32,7 @@ impl<'a> Asked<'a> {
         if !self.reading.directory {
             return Ok(plain);
         }
-        let counts = judge_directory(&plain, plain.len()).map_err(|refusal| explain::directory(self, refusal))?;
+        let counts = judge_either_edition(&plain, plain.len()).map_err(|refusal| explain::directory(self, refusal))?;
         let length = counts.records * RECORD_BYTES;
         Ok(match plain {
             Cow::Borrowed(file) => Cow::Borrowed(file.get(..length).unwrap_or(file)),
@@ -47,12 +47,20 @@ impl<'a> Asked<'a> {
     pub fn layers(&self) -> Option<usize> {
         self.reading.layers(self.bytes)
     }
+
+    /// The edition of its directory, if it was read with one.
+    pub fn edition(&self) -> Option<Edition> {
+        self.reading.edition(self.bytes)
+    }
 }
 
-/// The file of a sheet, to be read as another: with the line ends and with the directory that it has then.
-pub fn file_of(reading: Reading, sheet: Sheet) -> Result<Vec<u8>, Refusal> {
-    let plain = if reading.directory { sheet.with_directory()? } else { sheet.into_bytes() };
-    match reading.form.file(&plain)? {
+/// The file of a sheet in a form: with the directory that it has then, of an edition, where it is to have one.
+pub fn file_of(form: Form, edition: Option<Edition>, sheet: Sheet) -> Result<Vec<u8>, Refusal> {
+    let plain = match edition {
+        Some(edition) => sheet.with_edition(edition)?,
+        None => sheet.into_bytes(),
+    };
+    match form.file(&plain)? {
         Cow::Owned(file) => Ok(file),
         Cow::Borrowed(_) => Ok(plain),
     }

@@ -43,6 +43,9 @@ fn answer(line: &str) -> Result<String, String> {
         "directory" => directory,
         "append" => append,
         "jump" => jump,
+        "directory2" => directory_either,
+        "append2" => append_second,
+        "jump2" => jump_either,
         "main" => program,
         _ => return Err("there is no such command".to_string()),
     };
@@ -148,6 +151,22 @@ fn append(words: &mut Words) -> Answer {
 fn jump(words: &mut Words) -> Answer {
     let (used, buffer, layer) = (words.size("USED")?, words.bytes("BUF")?, words.size("N")?);
     Ok(said(zvaigulta::jump(&buffer, used, layer).map(|header| header.to_string())))
+}
+
+fn directory_either(words: &mut Words) -> Answer {
+    let (used, buffer) = (words.size("USED")?, words.bytes("BUF")?);
+    Ok(said(zvaigulta::judge_either_edition(&buffer, used).map(|c| format!("{} {}", c.records, c.items))))
+}
+
+fn append_second(words: &mut Words) -> Answer {
+    let (used, mut buffer) = (words.size("USED")?, words.bytes("BUF")?);
+    Ok(said(zvaigulta::append_second_edition(&mut buffer, used).map(|n| format!("{n} {}", hex(&buffer)))))
+}
+
+fn jump_either(words: &mut Words) -> Answer {
+    let (used, buffer, layer) = (words.size("USED")?, words.bytes("BUF")?, words.size("N")?);
+    let found = zvaigulta::jump_either_edition(&buffer, used, layer);
+    Ok(said(found.map(|layer| format!("{} {} {}", layer.header, layer.total, layer.last))))
 }
 
 /// What the proved program prints on its standard input, without the line end.

@@ -12,7 +12,9 @@ use std::io::{self, Write};
 use zvaigulta::layout::HEADER;
 use zvaigulta::outline::{layers, Layer};
 use zvaigulta::text::number_of;
-use zvaigulta::{judge_directory, judge_sheet, sheet_before_directory, FileKind, Form, Reading, Sheet, RECORD_BYTES};
+use zvaigulta::{
+    judge_either_edition, judge_sheet, sheet_before_directory, Edition, FileKind, Form, Reading, Sheet, RECORD_BYTES,
+};
 
 /// Shows the directory of a file, or does to it what an option says.
 pub fn run(arguments: &Arguments, out: &mut impl Write) -> Done {
@@ -26,38 +28,77 @@ pub fn run(arguments: &Arguments, out: &mut impl Write) -> Done {
 
 /// Prints the judgement, and a line for each layer.
 fn show(arguments: &Arguments, out: &mut impl Write) -> Done {
-    let [path] =
-        arguments.exactly("directory FILE [--append | --remove | --check] [--lines | --plain] [--directory | --no-directory]")?;
+    let usage =
+        "directory FILE [--append | --remove | --check] [--edition 1|2] [--lines | --plain] [--directory | --no-directory]";
+    let [path] = arguments.exactly(usage)?;
     let bytes = files::read(path)?;
     files::whole(path, &bytes)?;
     let asked = Asked::of(arguments, path, &bytes);
     let counts = asked.reading.judge(&bytes).map_err(|refusal| explain::directory(&asked, refusal))?;
     let plain = asked.plain()?;
     let sheet = plain.get(..counts.records * RECORD_BYTES).unwrap_or(&plain);
-    let line = as_read(asked.reading, asked.layers(), counts);
-    let layers = layers(sheet);
+    let line = as_read(asked.reading, &bytes, counts);
+    let edition = asked.edition().or(arguments.edition).unwrap_or_default();
+    let listing = Listing { edition, sheet, layers: layers(sheet) };
     let printed = writeln!(out, "{}: {line}", files::name(path)).and_then(|()| match FileKind::of(&plain) {
         FileKind::Index => writeln!(out, "an index has no layers, and so no directory"),
-        FileKind::Sheet => print(&asked, sheet, &layers, out),
+        FileKind::Sheet => listing.print(&asked, out),
     });
     printed.map(|()| FINE).map_err(output_failed)
 }
 
-/// What is to be known of the directory as a whole, and the layers.
-fn print(asked: &Asked, sheet: &[u8], layers: &[Layer], out: &mut impl Write) -> io::Result<()> {
-    if !asked.reading.directory {
-        let command = files::with_name("'dmtool directory FILE --append'", asked.path);
-        writeln!(out, "it has no directory; {command} appends this one, {}:", span(sheet, layers.len()))?;
+/// The layers of a sheet as a directory of an edition lists them.
+struct Listing<'a> {
+    edition: Edition,
+    sheet: &'a [u8],
+    layers: Vec<Layer<'a>>,
+}
+
+impl Listing<'_> {
+    /// What is to be known of the directory as a whole, and the layers.
+    fn print(&self, asked: &Asked, out: &mut impl Write) -> io::Result<()> {
+        if !asked.reading.directory {
+            let option = if self.edition == Edition::First { "" } else { " --edition 2" };
+            let command = files::with_name(&format!("'dmtool directory FILE --append{option}'"), asked.path);
+            let span = span(self.edition, self.sheet, self.layers.len());
+            writeln!(out, "it has no directory; {command} appends this one, {span}:")?;
+        }
+        if self.layers.is_empty() {
+            return writeln!(out, "the sheet has no layer, and a directory of it lists none");
+        }
+        self.table(out)
     }
-    if layers.is_empty() {
-        return writeln!(out, "the sheet has no layer, and a directory of it lists none");
+
+    /// A line for each layer: its number, the record of its header, what the edition lists beside that, its records, and what its header says of it.
+    fn table(&self, out: &mut impl Write) -> io::Result<()> {
+        let titles: &[&str] = match self.edition {
+            Edition::First => &["layer", "header", "records", "items"],
+            Edition::Second => &["layer", "header", "total", "last", "records"],
+        };
+        let titles = titles.iter().copied().chain(NAMING).map(str::to_string).collect();
+        let rows: Vec<Vec<String>> = [titles].into_iter().chain(self.layers.iter().zip(1..).map(|l| self.row(l))).collect();
+        let widest = |nth: usize| rows.iter().filter_map(|row| row.get(nth)).map(String::len).max().unwrap_or(0);
+        let widths: Vec<usize> = (0..rows[0].len()).map(widest).collect();
+        rows.iter().try_for_each(|row| {
+            let cells: Vec<String> = row.iter().zip(&widths).map(|(cell, width)| format!("{cell:>width$}")).collect();
+            writeln!(out, "{}", cells.join("  "))
+        })
     }
-    table(layers, out)
+
+    fn row(&self, (layer, number): (&Layer, usize)) -> Vec<String> {
+        let header = layer.header.number;
+        let counted = match self.edition {
+            Edition::First => vec![number, header, layer.records, layer.items],
+            Edition::Second => vec![number, header, layer.items, layer.last(), layer.records],
+        };
+        let named = NAMING.map(|name| column(layer.header.bytes, name));
+        counted.iter().map(usize::to_string).chain(named).collect()
+    }
 }
 
 /// The records of a directory of so many layers behind a sheet: `records 10 to 11`.
-fn span(sheet: &[u8], layers: usize) -> String {
-    let (first, rows) = (sheet.len() / RECORD_BYTES + 1, layers.div_ceil(zvaigulta::LAYERS_TO_A_RECORD));
+fn span(edition: Edition, sheet: &[u8], layers: usize) -> String {
+    let (first, rows) = (sheet.len() / RECORD_BYTES + 1, edition.rows(layers));
     match rows {
         0 => format!("record {first}"),
         _ => format!("records {first} to {}", first + rows),
@@ -66,23 +107,6 @@ fn span(sheet: &[u8], layers: usize) -> String {
 
 /// The columns of a layer's header that name it.
 const NAMING: [&str; 4] = ["class", "area code", "information", "number"];
-
-/// A line for each layer: its number, the record of its header, its records and items, and what its header says of it.
-fn table(layers: &[Layer], out: &mut impl Write) -> io::Result<()> {
-    let titles = ["layer", "header", "records", "items"].into_iter().chain(NAMING).map(str::to_string).collect();
-    let rows: Vec<Vec<String>> = [titles].into_iter().chain(layers.iter().zip(1..).map(row)).collect();
-    let widest = |nth: usize| rows.iter().filter_map(|row| row.get(nth)).map(String::len).max().unwrap_or(0);
-    let widths: Vec<usize> = (0..4 + NAMING.len()).map(widest).collect();
-    rows.iter().try_for_each(|row| {
-        let cells: Vec<String> = row.iter().zip(&widths).map(|(cell, width)| format!("{cell:>width$}")).collect();
-        writeln!(out, "{}", cells.join("  "))
-    })
-}
-
-fn row((layer, number): (&Layer, usize)) -> Vec<String> {
-    let counted = [number, layer.header.number, layer.records, layer.items].map(|n| n.to_string());
-    counted.into_iter().chain(NAMING.map(|name| column(layer.header.bytes, name))).collect()
-}
 
 /// A number of a layer's header.
 fn column(header: &[u8], name: &str) -> String {
@@ -94,24 +118,28 @@ pub fn naming(header: &[u8]) -> String {
     NAMING.map(|name| format!("{name} {}", column(header, name))).join(", ")
 }
 
-/// Appends a directory to a sheet that has none.
+/// Appends a directory to a sheet that has none. One of another edition than is asked for, if it is right, gives way to that.
 fn append(arguments: &Arguments, out: &mut impl Write) -> Done {
-    let [path] = arguments
-        .exactly("directory FILE --append [-o OTHER [--force]] [--no-lock] [--lines | --plain] [--directory | --no-directory]")?;
+    let usage = "directory FILE --append [--edition 1|2] [-o OTHER [--force]] [--no-lock] [--lines | --plain] [--directory | --no-directory]";
+    let [path] = arguments.exactly(usage)?;
     let job = Job::open(arguments, path, target(arguments, path)?)?;
     files::whole(path, &job.bytes)?;
     let asked = Asked::of(arguments, path, &job.bytes);
     let sheet = asked.sheet()?;
-    if let Some(layers) = asked.layers() {
-        let done = format!("it has a directory of {} already, and it is right", number_of(layers as u64, "layer"));
+    let (there, edition) = (asked.edition(), arguments.edition.or(asked.edition()).unwrap_or_default());
+    if there == Some(edition) {
+        let done = format!("it has a {} already, and it is right", files::directory_of(asked.layers(), there));
         return unchanged(job, &done, out);
     }
-    let reading = Reading { directory: true, ..asked.reading };
-    let result = file_of(reading, Sheet::from(sheet.to_vec())).map_err(|refusal| explain::appending(&asked, refusal))?;
-    let layers = reading.layers(&result).unwrap_or(0);
-    let done = format!("appended a directory of {}, {}", number_of(layers as u64, "layer"), span(&sheet, layers));
-    let done = as_read(asked.reading, None, done);
-    job.deliver_and_say(&result, &done, out)
+    let (form, plain) = (asked.reading.form, Sheet::from(sheet.to_vec()));
+    let result = file_of(form, Some(edition), plain).map_err(|refusal| explain::appending(&asked, refusal))?;
+    let layers = Reading { form, directory: true }.layers(&result).unwrap_or(0);
+    let new = format!("a {}, {}", files::directory_of(Some(layers), Some(edition)), span(edition, &sheet, layers));
+    let done = match there {
+        None => format!("appended {new}"),
+        Some(old) => format!("took off its directory of {old}, which was right, and appended {new}"),
+    };
+    job.deliver_and_say(&result, &as_read(form.into(), &result, done), out)
 }
 
 /// Takes the directory off a file, where it is sure what that is.
@@ -127,14 +155,14 @@ fn remove(arguments: &Arguments, out: &mut impl Write) -> Done {
         (None, Ok(_)) => return unchanged(job, "it has no directory", out),
         (None, Err(refusal)) => return Err(explain::directory(&asked, refusal)),
     };
-    let done = as_read(asked.reading.form.into(), None, removed(&plain, sheet));
+    let done = as_read(asked.reading.form.into(), sheet, removed(&plain, sheet));
     let result = asked.reading.form.file(sheet).map_err(|refusal| explain::file(&asked, refusal))?.into_owned();
     job.deliver_and_say(&result, &done, out)
 }
 
 /// What is taken off a file, in words.
 fn removed(plain: &[u8], sheet: &[u8]) -> String {
-    let wrong = judge_directory(plain, plain.len()).err().map_or(String::new(), |refusal| {
+    let wrong = judge_either_edition(plain, plain.len()).err().map_or(String::new(), |refusal| {
         let at = refusal.record.map_or(String::new(), |record| format!(" at record {record}"));
         format!(", which was refused {}{at}", refusal.number())
     });

@@ -10,7 +10,7 @@ use std::borrow::Cow;
 use std::ffi::OsStr;
 use std::io::Write;
 use zvaigulta::text::number_of;
-use zvaigulta::{Counts, Form, Reading, Reason, Sheet, RECORD_BYTES};
+use zvaigulta::{Counts, Edition, Form, Reading, Reason, Sheet, RECORD_BYTES};
 
 /// A place for an insertion: a record number, or none for `end`.
 fn place(word: &OsStr) -> Result<Option<usize>, Failure> {
@@ -60,7 +60,7 @@ pub fn insert(arguments: &Arguments, out: &mut impl Write) -> Done {
         }
         _ => explain::insertion(&asked, &plain, place, &block, r),
     })?;
-    let result = Edited { reading: asked.reading, sheet, counts };
+    let result = Edited { reading: asked.reading, edition: asked.edition(), sheet, counts };
     let done = format!("inserted {} at record {place}", records_of(block.len()));
     finish(job, to, result, &done, out)
 }
@@ -75,7 +75,7 @@ pub fn remove(arguments: &Arguments, out: &mut impl Write) -> Done {
     let mut sheet = copied(&plain, 0);
     let counts = sheet.remove(place).map_err(|r| explain::removal(&asked, &plain, place, r))?;
     let removed = plain.len() - sheet.as_bytes().len();
-    let result = Edited { reading: asked.reading, sheet, counts };
+    let result = Edited { reading: asked.reading, edition: asked.edition(), sheet, counts };
     finish(job, to, result, &format!("removed {} at record {place}", records_of(removed)), out)
 }
 
@@ -84,18 +84,19 @@ pub fn records_of(bytes: usize) -> String {
     number_of((bytes / RECORD_BYTES) as u64, "record")
 }
 
-/// An edited sheet, what it holds, and how its file is to be read.
+/// An edited sheet, what it holds, how its file is to be read, and the edition of its directory, if it has one.
 struct Edited {
     reading: Reading,
+    edition: Option<Edition>,
     sheet: Sheet,
     counts: Counts,
 }
 
-/// Puts the sheet where it goes, with a directory made anew where it had one, and says what was done.
+/// Puts the sheet where it goes, with a directory made anew in its edition where it had one, and says what was done.
 fn finish(job: Job, to: &OsStr, result: Edited, done: &str, out: &mut impl Write) -> Done {
     let (silent, path) = (job.is_to_output(), job.path());
-    let Edited { reading, sheet, counts } = result;
-    let file = file_of(reading, sheet).map_err(|refusal| Failure::Refused(refusal.to_string()))?;
+    let Edited { reading, edition, sheet, counts } = result;
+    let file = file_of(reading.form, edition, sheet).map_err(|refusal| Failure::Refused(refusal.to_string()))?;
     job.deliver(&file, out)?;
     if silent {
         files::say_reading(path, reading);
@@ -103,7 +104,7 @@ fn finish(job: Job, to: &OsStr, result: Edited, done: &str, out: &mut impl Write
     }
     let name = files::name(to);
     let now = format!("{done}, now {} records {} items", counts.records, counts.items);
-    let line = files::as_made(reading, reading.layers(&file), now);
+    let line = files::as_made(reading, &file, now);
     let said = writeln!(out, "{name}: {line}").and_then(|()| out.flush());
     said.map_err(|e| Failure::File(format!("{name}: {done}; only this could not be printed: {e}")))?;
     Ok(FINE)

@@ -4,7 +4,7 @@
 use crate::arguments::Arguments;
 use crate::asked::Asked;
 use crate::failure::{output_failed, Done, Failure, FINE, REFUSED};
-use crate::files::{self, as_read};
+use crate::files::{self, as_read, as_refused};
 use std::io::{self, Write};
 use zvaigulta::explain::{explain_as, line_as, Explanation, Fault};
 use zvaigulta::layout::Column;
@@ -19,12 +19,12 @@ pub fn run(arguments: &Arguments, out: &mut impl Write) -> Done {
     let (name, asked) = (files::name(path), Asked::of(arguments, path, &bytes));
     match asked.reading.judge(&bytes) {
         Ok(counts) => {
-            writeln!(out, "{name}: {}", as_read(asked.reading, asked.layers(), counts)).map_err(output_failed)?;
+            writeln!(out, "{name}: {}", as_read(asked.reading, &bytes, counts)).map_err(output_failed)?;
             Ok(FINE)
         }
         Err(refusal) => {
             let line = line_as(asked.reading, &bytes, refusal);
-            writeln!(out, "{name}: {}", as_read(asked.reading, None, &line)).map_err(output_failed)?;
+            writeln!(out, "{name}: {}", as_refused(asked.reading, &bytes, &line)).map_err(output_failed)?;
             print(&asked, refusal, &line, out).map_err(output_failed)?;
             Ok(REFUSED)
         }
@@ -127,7 +127,7 @@ pub fn directory(asked: &Asked, refusal: Refusal) -> Failure {
     if !asked.reading.directory {
         return file(asked, refusal);
     }
-    let its = refusal.reason == Reason::Directory || sheet_before_directory(&asked.reading.form.records(asked.bytes)).is_some();
+    let its = is_directory(refusal) || sheet_before_directory(&asked.reading.form.records(asked.bytes)).is_some();
     let words = match its {
         true => {
             let notes = explain_as(asked.reading, asked.bytes, refusal).notes;
@@ -136,6 +136,11 @@ pub fn directory(asked: &Asked, refusal: Refusal) -> Failure {
         false => vec!["the sheet before the directory is refused: it must be mended first".to_string()],
     };
     refused(asked, refusal, words)
+}
+
+/// Whether it is the directory that is refused, or its edition.
+fn is_directory(refusal: Refusal) -> bool {
+    matches!(refusal.reason, Reason::Directory | Reason::Edition)
 }
 
 /// A refused append as the failure of its subcommand.
@@ -155,12 +160,12 @@ pub fn jump(asked: &Asked, plain: &[u8], refusal: Refusal) -> Failure {
 
 /// The refusal, then what to do, a line each. An index that should be a sheet is told to be one, and there is nothing to explain.
 fn refused(asked: &Asked, refusal: Refusal, mut words: Vec<String>) -> Failure {
-    let of_file = refusal.number() <= 10 || matches!(refusal.reason, Reason::LineEnd | Reason::Directory);
+    let of_file = refusal.number() <= 10 || refusal.reason == Reason::LineEnd || is_directory(refusal);
     if of_file && (words.is_empty() || FileKind::of(asked.bytes) == FileKind::Sheet) {
         words.push(format!("{} says what is wrong", files::explain_command(asked.path, asked.reading, asked.bytes)));
     }
-    let layers = asked.layers().filter(|_| !of_file);
-    let line = as_read(asked.reading, layers, line_as(asked.reading, asked.bytes, refusal));
+    let noted = if of_file { as_refused } else { as_read };
+    let line = noted(asked.reading, asked.bytes, line_as(asked.reading, asked.bytes, refusal));
     words.insert(0, format!("{}: {line}", files::name(asked.path)));
     Failure::Refused(words.join("\n"))
 }

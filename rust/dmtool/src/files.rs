@@ -8,7 +8,7 @@ use std::fmt::Display;
 use std::fs::{self, File};
 use std::io::{self, ErrorKind, Read};
 use zvaigulta::text::{number_of, shown};
-use zvaigulta::{Form, Reading, LINE_END, LINE_RECORD_BYTES, MOST_DIRECTORY_RECORDS, MOST_RECORDS, RECORD_BYTES};
+use zvaigulta::{Edition, Form, Reading, LINE_END, LINE_RECORD_BYTES, MOST_DIRECTORY_RECORDS, MOST_RECORDS, RECORD_BYTES};
 
 /// One record more than a file may have, those of a directory included, each with two line ends, as `convert --mend` takes them. A longer file answers
 /// as this much of it does: it is refused by its length.
@@ -112,18 +112,28 @@ pub fn name(path: &OsStr) -> String {
     shown(path.to_string_lossy().chars())
 }
 
-/// A line about a file, which says so where it is read with line ends or with a directory; of an accepted one, how many layers that lists.
-pub fn as_read(reading: Reading, layers: Option<usize>, line: impl Display) -> String {
-    noted(reading, &directory_of(layers), line)
+/// A line about an accepted file, which says so where it is read with line ends or with a directory: how many layers that lists, and its edition if that is
+/// not the first.
+pub fn as_read(reading: Reading, bytes: &[u8], line: impl Display) -> String {
+    noted(reading, &directory_of(reading.layers(bytes), reading.edition(bytes)), line)
+}
+
+/// The same about a refused file, of which no number of layers is sure.
+pub fn as_refused(reading: Reading, bytes: &[u8], line: impl Display) -> String {
+    noted(reading, &directory_of(None, reading.edition(bytes)), line)
 }
 
 /// The same about a result, whose directory is made anew.
-pub fn as_made(reading: Reading, layers: Option<usize>, line: impl Display) -> String {
-    noted(reading, &format!("{} made anew", directory_of(layers)), line)
+pub fn as_made(reading: Reading, bytes: &[u8], line: impl Display) -> String {
+    let directory = directory_of(reading.layers(bytes), reading.edition(bytes));
+    noted(reading, &format!("{directory} made anew"), line)
 }
 
-fn directory_of(layers: Option<usize>) -> String {
-    layers.map_or("directory".to_string(), |layers| format!("directory of {}", number_of(layers as u64, "layer")))
+/// A directory in words: `directory of 2 layers, edition 2`.
+pub fn directory_of(layers: Option<usize>, edition: Option<Edition>) -> String {
+    let layers = layers.map_or(String::new(), |layers| format!(" of {}", number_of(layers as u64, "layer")));
+    let edition = edition.filter(|edition| *edition != Edition::First).map_or(String::new(), |edition| format!(", {edition}"));
+    format!("directory{layers}{edition}")
 }
 
 fn noted(reading: Reading, directory: &str, line: impl Display) -> String {

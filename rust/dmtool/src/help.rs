@@ -26,7 +26,8 @@ Usage: dmtool SUBCOMMAND ...
 A FILE - is standard input. A file that starts \"I \" is taken as an index, any other as a sheet. Records number from 1. Files whose
 records end in carriage return and line feed, 86 bytes in all, are recognised, and answers say '(line ends)'; --lines or --plain
 behind a subcommand reads a file in that form, whatever it seems to be. So are sheets with a directory of layers behind them, and
-answers say '(directory of 2 layers)'; --directory or --no-directory overrules that.
+answers say '(directory of 2 layers)', of one of edition 2 '(directory of 2 layers, edition 2)'; --directory or --no-directory
+overrules that.
 Exit status: 0 fine; 1 refused; 2 wrong words, or a file that cannot be read or written.
 ";
 
@@ -46,7 +47,7 @@ A file with line ends (carriage return and line feed behind each record) is know
 macro_rules! directory {
     () => {
         "
-A directory of layers behind a sheet is known by its last record, which starts \"ZE\".
+A directory of layers behind a sheet is known by its last record, which starts \"ZE\", in edition 2 \"YE\".
 
   --directory  reads FILE with a directory, whatever it seems to be
   --no-directory  reads FILE without
@@ -130,7 +131,7 @@ macro_rules! made_anew {
         "  --directory  reads FILE with a directory of layers behind its sheet, whatever it seems to be
   --no-directory  reads FILE without
 
-A directory behind the sheet is taken off and made anew. Where it is wrong nothing is changed: 'dmtool explain FILE' says what to do.
+A directory behind the sheet is taken off and made anew, in its edition. Where it is wrong nothing is changed: 'dmtool explain FILE' says what to do.
 "
     };
 }
@@ -212,18 +213,23 @@ Exit status: 0 done, also where the file has that form already; 1 refused (1: th
 
 const DIRECTORY: &str = concat!(
     "\
-Usage: dmtool directory FILE [--append | --remove] [-o OTHER [--force]] [--no-lock] [--lines | --plain] [--directory | --no-directory]
+Usage: dmtool directory FILE [--append | --remove] [--edition 1|2] [-o OTHER [--force]] [--no-lock]
+              [--lines | --plain] [--directory | --no-directory]
        dmtool directory --check FILE... [--lines | --plain]
 
 A sheet may have a directory of its layers behind its last record: records that start \"Z \", each with the record numbers of up to eleven
-layer headers, and one record \"ZE\" with the number of the first of them and the number of layers.
+layer headers, and one record \"ZE\" with the number of the first of them and the number of layers. In edition 2 the records start \"Y \" and hold
+header, item total and last record of up to three layers; the last one, \"YE\", states the edition too.
 
 Without --append, --remove or --check prints the judgement, and a line for each layer: its number, the record of its header, its records
-(the header included) and items, and the columns of the header that name it. Of a sheet without a directory, the one that --append appends.
+(the header included) and items, in edition 2 as its total, with its last record, and the columns of the header that name it. Of a sheet
+without a directory, the one that --append appends.
 
-  --append     appends the directory to a sheet that has none. One that is there already and right stays as it is
-  --remove     takes the directory off, right or wrong, where the sheet before it is accepted and nothing but records that start \"Z \" or
-               \"ZE\" stands behind that
+  --append     appends the directory to a sheet that has none, in edition 1 if not said. One that is there already and right stays as it is,
+               unless --edition asks for the other edition: then it is taken off, and that one appended
+  --edition N  the edition of the directory to append, 1 or 2
+  --remove     takes the directory off, right or wrong, where the sheet before it is accepted and nothing but records that start \"Z \",
+               \"ZE\", \"Y \" or \"YE\" stands behind that
   --check      judges each file with its directory and prints one line for it, as 'dmtool judge --directory' does
   --directory  reads FILE with a directory, whatever it seems to be
   --no-directory  reads FILE without: a sheet whose last record is text that looks like the end of a directory gets one so by --append
@@ -239,8 +245,9 @@ const JUMP: &str = concat!(
     "\
 Usage: dmtool jump FILE LAYER [--lines | --plain]
 
-Prints the record number of the header of a layer, layers counted from 1, and the columns of the header that name it. The file is judged with
-its directory, which then answers: nothing is counted from the front.
+Prints the record number of the header of a layer, layers counted from 1, and the columns of the header that name it; by a directory of edition 2
+also the layer's item total and last record, which edition 1 does not state. The file is judged with its directory, which then answers: nothing
+is counted from the front.
 ",
     form!(),
     "
@@ -268,6 +275,9 @@ Reads one command a line from standard input and answers each with one line, at 
   directory USED BUF                   ok RECORDS ITEMS, of a sheet with its directory
   append USED BUF                      ok NEWUSED BUF-AFTER, a directory appended
   jump USED BUF N                      ok RECORD, the header of layer N
+  directory2 USED BUF                  ok RECORDS ITEMS, of a sheet with its directory of either edition
+  append2 USED BUF                     ok NEWUSED BUF-AFTER, a directory of edition 2 appended
+  jump2 USED BUF N                     ok RECORD TOTAL LAST, layer N (TOTAL and LAST 0 for edition 1)
   main BYTES                           what the program dm prints on that input
 
 A refusal is 'no NUMBER RECORD'; a line that is no command is 'error REASON'.

@@ -2,7 +2,7 @@
 
 use crate::arguments::Arguments;
 use crate::failure::{complain, output_failed, Done, Failure, FAILED, FINE, REFUSED};
-use crate::files::{self, as_read};
+use crate::files::{self, as_read, as_refused};
 use crate::progress;
 use std::ffi::OsStr;
 use std::io::Write;
@@ -44,9 +44,9 @@ fn one(arguments: &Arguments, path: &OsStr, buffer: &mut Vec<u8>, out: &mut impl
         files::whole(path, buffer)?;
     }
     let (line, status) = match reading.judge(buffer) {
-        Ok(counts) => (as_read(reading, reading.layers(buffer), counts), FINE),
+        Ok(counts) => (as_read(reading, buffer, counts), FINE),
         Err(refusal) => {
-            let line = as_read(reading, None, explain::line_as(reading, buffer, refusal));
+            let line = as_refused(reading, buffer, explain::line_as(reading, buffer, refusal));
             let plain = arguments.form == Some(Form::Plain);
             let hint = if plain { String::new() } else { hint(path, reading, buffer, refusal) };
             (line + &hint, REFUSED)

@@ -19,7 +19,8 @@ pub fn run(arguments: &Arguments, out: &mut impl Write) -> Done {
     let mut second = vec![b' '; plain.len()];
     let refused = |refusal| explain::file(&asked, refusal);
     FileKind::of(&plain).normal(&plain, plain.len(), &mut second).map_err(refused)?;
-    let (reading, result) = (asked.reading, file_of(asked.reading, Sheet::from(second)).map_err(refused)?);
+    let reading = asked.reading;
+    let result = file_of(reading.form, asked.edition(), Sheet::from(second)).map_err(refused)?;
     job.deliver(&result, out)?;
     files::say_reading(path, reading);
     Ok(FINE)

@@ -2,7 +2,7 @@
 
 use crate::arguments::{record_number, Arguments};
 use crate::failure::{output_failed, Done, Failure, FINE};
-use crate::files::{self, as_read};
+use crate::files::{self, as_read, as_refused};
 use std::io::Write;
 use zvaigulta::layout::{Column, Content};
 use zvaigulta::outline::Record;
@@ -28,8 +28,8 @@ pub fn run(arguments: &Arguments, out: &mut impl Write) -> Done {
         return Err(Failure::File(format!("{}: it has {records} records; give a FROM up to that", files::name(path))));
     }
     let judged = match reading.judge(&bytes) {
-        Ok(counts) => as_read(reading, reading.layers(&bytes), counts),
-        Err(refusal) => as_read(reading, None, explain::line_as(reading, &bytes, refusal)),
+        Ok(counts) => as_read(reading, &bytes, counts),
+        Err(refusal) => as_refused(reading, &bytes, explain::line_as(reading, &bytes, refusal)),
     };
     writeln!(out, "{}: {judged}", files::name(path)).map_err(output_failed)?;
     let shown = reading.outline(&plain).skip(from - 1).take_while(|named| named.number <= to);

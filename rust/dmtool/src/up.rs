@@ -29,6 +29,6 @@ pub fn run(arguments: &Arguments, out: &mut impl Write) -> Done {
         None => "a layer header, no header above".to_string(),
         Some(header) => format!("header above {header}, headers passed {} ({})", way.passed, passed.join(", ")),
     };
-    writeln!(out, "{name}: record {record}: {}", files::as_read(asked.reading, asked.layers(), line)).map_err(output_failed)?;
+    writeln!(out, "{name}: record {record}: {}", files::as_read(asked.reading, &bytes, line)).map_err(output_failed)?;
     Ok(FINE)
 }

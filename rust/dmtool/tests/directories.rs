@@ -552,7 +552,7 @@ fn longer_than_the_largest() {
         let ran = f.run(words);
         assert_eq!((ran.status, ran.text()), (Some(2), String::new()), "{words:?}");
         assert!(
-            ran.err.contains("behind.dm: it is longer than the largest sheet with its directory, 218183 records"),
+            ran.err.contains("behind.dm: it is longer than the largest sheet with its directory, 266666 records"),
             "{}",
             ran.err
         );

@@ -5,7 +5,7 @@ mod support;
 use std::fs;
 use std::path::Path;
 use std::process::Command;
-use support::{block, damaged, ended, filed, good, run, with, Folder};
+use support::{block, damaged, ended, filed, filed_second, good, run, with, Folder};
 
 /// The examples: a command behind `$`, and the lines below it.
 fn examples(page: &str) -> Vec<(&str, Vec<&str>)> {
@@ -50,8 +50,8 @@ fn plan() -> Vec<u8> {
 }
 
 /// The files that the page speaks of: a sheet, an item, a sheet with a wrong count, one that lost its last item, one with an end-of-file mark; with
-/// line ends, with a wrong one among them, with line feeds alone; a sheet of two layers, one with a wrong directory, and one that was edited before its
-/// directory.
+/// line ends, with a wrong one among them, with line feeds alone; a sheet of two layers, one with a wrong directory, one with a directory of a later
+/// edition, and one that was edited before its directory.
 fn files() -> Folder {
     let f = Folder::new("pages");
     f.put("town.dm", &good()).put("house.dm", &block()).put("river.dm", &damaged());
@@ -62,6 +62,7 @@ fn files() -> Folder {
     broken[3 * 86 + 84..][..2].copy_from_slice(b"\n\r");
     f.put("short.dm", &two[..9 * 84]).put("tape.dm", &[&good()[..], b"\x1a"].concat());
     f.put("plan.dm", &plan()).put("wrong.dm", &with(with(filed(&plan()), 14, 9, "     11"), 15, 9, "      3"));
+    f.put("edition.dm", &with(filed_second(&plan()), 15, 16, "      3"));
     assert_eq!(f.run(&["insert", "plan.dm", "7", "house.dm", "-o", "more.dm"]).status, Some(0));
     f.put("stale.dm", &[f.get("more.dm"), filed(&plan())[13 * 84..].to_vec()].concat());
     f.put("field.dm", &lines).put("broken.dm", &broken).put("unix.dm", &ended(&good(), b"\n"));

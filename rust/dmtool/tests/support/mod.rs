@@ -127,9 +127,14 @@ pub fn layered(layers: usize) -> Vec<u8> {
     sheet
 }
 
-/// A sheet with the directory of its layers.
+/// A sheet with the directory of its layers, of the first edition.
 pub fn filed(sheet: &[u8]) -> Vec<u8> {
     zvaigulta::Sheet::from(sheet.to_vec()).with_directory().expect("an accepted sheet")
+}
+
+/// A sheet with the directory of its layers, of the second edition.
+pub fn filed_second(sheet: &[u8]) -> Vec<u8> {
+    zvaigulta::Sheet::from(sheet.to_vec()).with_edition(zvaigulta::Edition::Second).expect("an accepted sheet")
 }
 
 /// A file with another text in a record, from a byte on that is counted from 0.
