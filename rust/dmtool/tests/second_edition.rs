@@ -206,7 +206,29 @@ fn wrong() -> Vec<(&'static str, Vec<u8>)> {
     ]
 }
 
-/// A wrong directory refuses every subcommand that would make it anew or go by it, and nothing is changed; what is said leads to the right one.
+/// A wrong directory refuses every subcommand that would make it anew or go by it, with the judge's line and the command that mends it; nothing is changed.
+fn every_subcommand_refuses(f: &Folder, name: &str, judged: &str) {
+    let bytes = f.get("sheet.dm");
+    for words in [
+        &["insert", "sheet.dm", "end", "item.dm"][..],
+        &["remove", "sheet.dm", "7"],
+        &["normal", "sheet.dm", "-o", "sheet.dm"],
+        &["up", "sheet.dm", "7"],
+        &["jump", "sheet.dm", "1"],
+        &["directory", "sheet.dm"],
+        &["directory", "sheet.dm", "--append"],
+        &APPEND,
+    ] {
+        let ran = f.run(words);
+        assert_eq!((ran.status, ran.text()), (Some(1), String::new()), "{name}: {words:?}");
+        let line = judged.replace("sheet.dm:", "dmtool: sheet.dm:");
+        assert!(ran.err.starts_with(&line) && ran.err.contains("'dmtool directory sheet.dm --remove'"), "{name}: {}", ran.err);
+        assert!(ran.err.ends_with("\n'dmtool explain sheet.dm' says what is wrong\n"), "{name}: {}", ran.err);
+        assert!(f.get("sheet.dm") == bytes, "{name}: {words:?}");
+    }
+}
+
+/// The commands that `explain` names lead to the right directory, of the same edition.
 #[test]
 fn a_wrong_directory() {
     let f = Folder::new("second_wrong");
@@ -216,27 +238,7 @@ fn a_wrong_directory() {
         let judged = f.run(&["judge", "sheet.dm"]);
         assert!(judged.status == Some(1) && judged.text().ends_with(" (directory, edition 2)\n"), "{name}: {}", judged.text());
         assert_eq!(name.contains("edition"), judged.text().contains(": refused 27 at record 12: the edition column "), "{name}");
-        for words in [
-            &["insert", "sheet.dm", "end", "item.dm"][..],
-            &["remove", "sheet.dm", "7"],
-            &["normal", "sheet.dm", "-o", "sheet.dm"],
-            &["up", "sheet.dm", "7"],
-            &["jump", "sheet.dm", "1"],
-            &["directory", "sheet.dm"],
-            &["directory", "sheet.dm", "--append"],
-            &APPEND,
-        ] {
-            let ran = f.run(words);
-            assert_eq!((ran.status, ran.text()), (Some(1), String::new()), "{name}: {words:?}");
-            let line = judged.text().replace("sheet.dm:", "dmtool: sheet.dm:");
-            assert!(
-                ran.err.starts_with(&line) && ran.err.contains("'dmtool directory sheet.dm --remove'"),
-                "{name}: {}",
-                ran.err
-            );
-            assert!(ran.err.ends_with("\n'dmtool explain sheet.dm' says what is wrong\n"), "{name}: {}", ran.err);
-            assert!(f.get("sheet.dm") == bytes, "{name}: {words:?}");
-        }
+        every_subcommand_refuses(&f, name, &judged.text());
         let explained = f.run(&["explain", "sheet.dm"]).text();
         let commands: Vec<&str> = explained.split('\'').filter(|words| words.starts_with("dmtool directory ")).collect();
         let due = ["dmtool directory sheet.dm --remove", "dmtool directory sheet.dm --append --edition 2"];

@@ -311,6 +311,78 @@ const ROWS: &[Damage] = &[
     ),
 ];
 
+/// The sheet with an item more, by a program that left the directory as it was.
+fn edited() -> Vec<u8> {
+    let (mut sheet, item) = (sheet(), sheet()[7 * RECORD_BYTES..10 * RECORD_BYTES].to_vec());
+    let used = sheet.len();
+    sheet.resize(used + item.len(), b' ');
+    insert(&mut sheet, used, 8, &item).expect("an insertion");
+    [&sheet[..], &file()[28 * RECORD_BYTES..]].concat()
+}
+
+/// The sheet with all counts made to fit after the point at record 22 was written over by more data of the item before it.
+fn item_written_over() -> Vec<u8> {
+    let data = with(with(sheet(), 20, 27, "   5   2"), 21, 42, "     70     80     90    100    110    120");
+    let data = with(data, 22, 0, &format!("{:84}", "     10     20     30"));
+    with(with(with(data, 19, 18, "    3"), 19, 48, "    0"), 2, 31, "     7")
+}
+
+/// The sheet was changed, and the directory was not.
+const SHEETS: &[Damage] = &[
+    (
+        "an item more",
+        edited,
+        (10, 2),
+        &[
+            "made for a sheet of 28 records, and 31 stand before it: 3 more; each layer is listed at its place before that",
+            "is 4, must be 5: the items, at any level, of layer 1, class 2100",
+            "is 18, must be 21: the last record of layer 1",
+            "is 19, must be 22: the header of layer 2",
+            MEND,
+        ],
+        &[(2, "record count"), (32, "total 1"), (32, "last 1"), (32, "header 2"), (32, "last 2"), (33, "pointer")],
+    ),
+    (
+        "an item less, in as many records: nothing but the total shows it",
+        || [&item_written_over()[..], &file()[28 * RECORD_BYTES..]].concat(),
+        (19, 29),
+        &["is 4, must be 3: the items, at any level, of layer 2, class 2200", DOUBT],
+        &[(29, "total 2")],
+    ),
+    (
+        "the second layer is lost, all counts made to fit",
+        || with(without(file(), 19, 28), 2, 31, "     4     12"),
+        (19, 20),
+        &["made for a sheet of 28 records, and 18 stand before it: 10 fewer", "lists 2 layers, the sheet has 1 layer", DOUBT],
+        &[(20, "pointer"), (19, "header 2"), (19, "total 2"), (19, "last 2")],
+    ),
+    (
+        "a count of the sheet",
+        || with(file(), 2, 31, "     9"),
+        (10, 2),
+        &["states 9, the file holds 8", NO_COMMAND],
+        &[(2, "element count")],
+    ),
+    (
+        "another sheet and its directory behind it",
+        || file().repeat(2),
+        (19, 31),
+        &[
+            "which ends at record 30: 30 records; without that the file is accepted",
+            "record 31 starts a sheet of its own",
+            NO_COMMAND,
+        ],
+        &[(31, "type")],
+    ),
+    (
+        "a directory of the other edition behind it",
+        || [file(), filed(&sheet())[28 * RECORD_BYTES..].to_vec()].concat(),
+        (19, 29),
+        &["records 30 and 32 start \"YE\" and \"ZE\": a directory stands behind a directory, and the first of them is right"],
+        &[(29, "type")],
+    ),
+];
+
 /// Read without a directory.
 const UNREAD: &[Damage] = &[
     (
@@ -347,7 +419,7 @@ const WITH: Reading = Reading { form: Form::Plain, directory: true };
 
 #[test]
 fn every_damage_is_explained() {
-    for damage in [EDITIONS, ENDS, ROWS].concat() {
+    for damage in [EDITIONS, ENDS, ROWS, SHEETS].concat() {
         let plain = damage.1();
         is_explained(WITH, &damage);
         // With line ends in the same words.
@@ -365,7 +437,7 @@ fn every_damage_is_explained() {
 /// The calls of the first edition refuse the second with 19 at the last record, whatever else is wrong; the new ones read both.
 #[test]
 fn calls_of_the_first_edition() {
-    for (name, file, ..) in [EDITIONS, ENDS, ROWS].concat() {
+    for (name, file, ..) in [EDITIONS, ENDS, ROWS, SHEETS].concat() {
         let file = file();
         let last = (file.len() / RECORD_BYTES, file[file.len() - RECORD_BYTES..].starts_with(b"YE"));
         let (old, jumped) = (judge_directory(&file, file.len()).unwrap_err(), jump(&file, file.len(), 1).unwrap_err());
@@ -381,6 +453,9 @@ fn calls_of_the_first_edition() {
     assert_eq!(explained.notes, ["the directory is of edition 2, and right: read it by a call for either edition"]);
     assert_eq!((explained.faults[0].record, explained.faults[0].column), (30, "type"));
     assert_eq!(judge_either_edition(&right, right.len()), judge_either_edition(&filed(&sheet()), right.len()));
+    // Where an item was written over, edition 1 shows nothing.
+    let first = [&item_written_over()[..], &filed(&sheet())[28 * RECORD_BYTES..]].concat();
+    assert!(judge_either_edition(&first, first.len()).is_ok());
 }
 
 /// Around the records of three layers each: appended, judged, jumped by; the same headers as by the first edition.
