@@ -129,13 +129,14 @@ impl<'a> Directory<'a> {
         self.before + 1..=self.records
     }
 
-    /// What it lists of each layer, in order, as far as a number stands there: the header; in the second edition behind it total and last record.
+    /// What it lists in each of its places for a layer, in order, as far as a number stands there: the header; in the second edition behind it total and
+    /// last record.
     fn entries(&self) -> Vec<Vec<Option<i64>>> {
         let entries_of = |number: usize| match self.record(number) {
             Some(DirectoryRecord::Row(edition)) => columns::entries(edition, record(self.bytes, number)),
             _ => Vec::new(),
         };
-        self.numbers().flat_map(entries_of).filter(|entry| entry.iter().any(Option::is_some)).collect()
+        self.numbers().flat_map(entries_of).collect()
     }
 
     /// The headers that it lists, in order.

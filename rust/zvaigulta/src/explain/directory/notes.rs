@@ -230,16 +230,15 @@ impl Directory<'_> {
         })
     }
 
-    /// Whether it states more items or records of a layer than the sheet has there.
+    /// Whether it states more items or records of a layer than the sheet has there: of the layer that is due in that place, or of the one whose header it
+    /// names.
     fn states_more(&self) -> bool {
-        let more = |(entry, layer): (&Vec<Option<i64>>, &Layer)| match entry[..] {
-            [header, total, last] => {
-                let reach = last.zip(header).map(|(last, header)| last - header);
-                total.is_some_and(|total| total > layer.items as i64) || reach.is_some_and(|reach| reach >= layer.records as i64)
-            }
-            _ => false,
-        };
-        self.sheet.as_ref().is_some_and(|sheet| self.entries().iter().zip(&sheet.layers).any(more))
+        let layers = self.sheet.as_ref().map_or(&[][..], |sheet| &sheet.layers);
+        let named = |header: i64| layers.binary_search_by_key(&header, |layer| layer.header.number as i64).ok();
+        self.entries().iter().enumerate().any(|(place, entry)| {
+            let other = entry.first().copied().flatten().and_then(named).and_then(|other| layers.get(other));
+            [layers.get(place), other].into_iter().flatten().any(|layer| is_more(entry, layer))
+        })
     }
 
     /// Whether it lists what the sheet does not have: the sheet may have lost it.
@@ -325,6 +324,13 @@ impl Directory<'_> {
         let next = next.unwrap_or_else(|| "see in the original where that belongs before you take it out".to_string());
         format!("{ends}: {}; {without}; {next}", length(rest))
     }
+}
+
+/// Whether what is listed of a layer, header, total and last record, is more than the layer holds.
+fn is_more(entry: &[Option<i64>], layer: &Layer) -> bool {
+    let [header, total, last] = entry else { return false };
+    let behind = last.zip(*header).map(|(last, header)| last.saturating_sub(header));
+    total.is_some_and(|total| total > layer.items as i64) || behind.is_some_and(|records| records >= layer.records as i64)
 }
 
 /// So many records and bytes; fewer bytes than a record as they are.
