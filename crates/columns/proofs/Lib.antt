@@ -9,3 +9,4 @@ pub mod InRecord
 pub mod NumberIn
 pub mod Spaces
 pub mod Compared
+pub mod Digits

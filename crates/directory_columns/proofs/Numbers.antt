@@ -1,23 +1,20 @@
 -- The functions in the code's own words, and what callers cite of `numberIs`. Assumes nothing.
 use mathlib.Core.Path.{_≡_, refl, ap, sym, _∙_}
-use mathlib.Core.Bool.{Bool, true, false, not, _&&_, and-false}
+use mathlib.Core.Bool.{Bool, true, false, not, _&&_}
 use mathlib.Core.List.{List, [], _∷_}
-use Prim.Native.Nat.{ℕ, zero, suc, _+_, _-_, _*_, _/_, _%_, _≤_, _<_, _^_}
+use Prim.Native.Nat.{ℕ, suc, _+_, _-_, _*_, _/_, _%_, _≤_, _<_}
 use native.Mathlib.Numerals.{add-one}
 use native.Mathlib.Omega.{arith}
-use borrow.Author.Tests.{le-leb, lt-leb, lt-ltb, le-ltb, ltb-true, not-true, not-false}
+use borrow.Author.Tests.{lt-leb, lt-ltb, le-ltb, not-true, not-false}
 use lib.Dec.{ltb, leb}
 use lib.IntN.{pos}
-use lib.ListN.{length, getD}
+use lib.ListN.{getD}
 use mir.Syntax.{w64}
-use mir.Val.{Fits, SFits, toZ, ofZ}
-use mir.ValLaws.{toZ-ofZ}
+use mir.Val.{Fits}
 use Rattle.format.specs.Basics.{roundUp}
 use Rattle.format.specs.Text.{same}
 use Rattle.format.specs.Column.{fits, widthOk, written}
 use Rattle.format.specs.Layout.{column}
-use Rattle.format.proofs.Basics.{and-true}
-use Rattle.format.proofs.ColumnFits.{fits-plus}
 use Rattle.columns.specs.InRecord.{isWrittenAt}
 use Rattle.format_directory.specs.declared.Edition.{Edition}
 use Rattle.format_directory.specs.declared.Edition.the-variants.{One, Two}
@@ -48,16 +45,9 @@ module _ (r : List ℕ) (k n : ℕ) where
   unfolding numberIs
   no-column h = rw (le-ltb k 11 h)
 
-  pub too-long : 9999999 < n → false ≡ numberIs r k n
-  unfolding numberIs isWrittenAt
-  too-long h = rw (fits-plus 7 n (omega arith) (omega arith), le-ltb n (10 ^ 7) (let g : 10 ^ 7 ≤ n = omega arith in g)) (sym (and-false (ltb k 11)))
-
-  pub short-fits : n ≤ 9999999 → SFits w64 (pos n)
-  short-fits h = record { sfits = omega arith }
-
-  pub compared : (t : Bool) → k < 11 → n ≤ 9999999 → t ≡ isWrittenAt r (2 + 7 * k) 7 (toZ w64 (ofZ w64 (pos n))) → t ≡ numberIs r k n
+  pub compared : (t : Bool) → k < 11 → t ≡ isWrittenAt r (2 + 7 * k) 7 (pos n) → t ≡ numberIs r k n
   unfolding numberIs
-  compared t h l e = e ∙ ap (isWrittenAt r (2 + 7 * k) 7) (toZ-ofZ w64 (pos n) (short-fits l)) ∙ rw (lt-ltb k 11 h)
+  compared t h e = e ∙ rw (lt-ltb k 11 h)
 
 -- ---- `numbers_are`
 module _ (r : List ℕ) (k : ℕ) (n : LayerNumbers) (t : Bool) (t-is : t ≡ numberIs r k (n .header)) where

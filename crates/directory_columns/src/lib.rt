@@ -21,9 +21,6 @@ const NUMBERS: usize = 3;
 
 const LAYERS: usize = 3;
 
-// A number of more than seven digits stands in no column.
-const MOST: usize = 9999999;
-
 // What may be listed of a layer: the record number of its header, how many items it has, at any depth, and the number of its last record.
 pub struct LayerNumbers {
     pub header: usize,
@@ -69,10 +66,7 @@ pub fn number_is(record: &[u8], k: usize, number: usize) -> bool
     if COLUMNS <= k {
         return false;
     }
-    if MOST < number {
-        return false;
-    }
-    columns::is_written_at(record, LETTERS + WIDTH * k, WIDTH, number as i64)
+    columns::is_number_at(record, LETTERS + WIDTH * k, WIDTH, number as u64)
 }
 
 // The columns of a record from k on hold what is listed of a layer with these numbers.

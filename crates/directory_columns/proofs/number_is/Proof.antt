@@ -1,5 +1,5 @@
 -- `number_is` compares one column. Assumes nothing.
-use Rattle.directory_columns.proofs.Numbers.{no-column, too-long, short-fits, compared}
+use Rattle.directory_columns.proofs.Numbers.{no-column, compared}
 use borrow.Author.Needs.{needs}
 use Rattle.directory_columns.proofs.number_is.Statement.{statement}
 use Rattle.directory_columns.proofs.number_is.Tie as tie
@@ -7,32 +7,18 @@ use Rattle.directory_columns.proofs.number_is.Tie as tie
 returns : tie.Need-returns
 returns c = search no-column
 
+mul-is-number-at : tie.Need-mul-is-number-at
+mul-is-number-at c = search needs
+
+add-is-number-at : tie.Need-add-is-number-at
+add-is-number-at c = search needs
+
+is-number-at-requires : tie.Need-is-number-at-requires
+is-number-at-requires c κs = search needs
+
 returns-2 : tie.Need-returns-2
-returns-2 c = search too-long
-
-mul-is-written-at : tie.Need-mul-is-written-at
-mul-is-written-at c = search needs
-
-add-is-written-at : tie.Need-add-is-written-at
-add-is-written-at c = search needs
-
-cast-is-written-at : tie.Need-cast-is-written-at
-cast-is-written-at c = search needs
-
-is-written-at-requires : tie.Need-is-written-at-requires
-is-written-at-requires c κs = search needs
-
-returns-3 : tie.Need-returns-3
-returns-3 c = search compared
+returns-2 c = search compared
 
 pub number-is-spec : {M : Type 1} → statement M
 number-is-spec =
-    tie.close
-    (tie.spec
-    returns
-    returns-2
-    mul-is-written-at
-    add-is-written-at
-    cast-is-written-at
-    is-written-at-requires
-    returns-3)
+    tie.close (tie.spec returns mul-is-number-at add-is-number-at is-number-at-requires returns-2)
