@@ -1,6 +1,6 @@
-//! Every byte of a small file replaced by every other byte, every pair of bytes for a line end, and every pointer of a directory.
+//! Every byte of a small file replaced by every other byte, every pair of bytes for a line end, every pointer and every edition of a directory.
 
-use crate::directories::{Calls, OLD_CALLS};
+use crate::directories::{Calls, NEW_CALLS, OLD_CALLS};
 use crate::{files, lines, Answers};
 use reference::lines::{with_ends, LINE};
 use reference::random::Random;
@@ -110,4 +110,29 @@ pub fn every_byte_of_a_directory(seed: u64) -> Result<Answers, String> {
 pub fn every_pointer(seed: u64) -> Result<Answers, String> {
     let mut r = Random(seed);
     every_pointer_by(&OLD_CALLS, &small(20, || sheets::sheet(&mut r, 2)))
+}
+
+/// Some sheet of four layers, with items and groups: every byte of the three records of its directory, by the new call.
+pub fn every_byte_of_the_second_edition(seed: u64) -> Result<Answers, String> {
+    let mut r = Random(seed);
+    every_byte_behind(&NEW_CALLS, &small(30, || sheets::sheet_with_layers(&mut r, 4, 2)))
+}
+
+/// Some sheet of 10 to 20 records with its directory of the second edition: every pointer.
+pub fn every_pointer_of_the_second_edition(seed: u64) -> Result<Answers, String> {
+    let mut r = Random(seed);
+    every_pointer_by(&NEW_CALLS, &small(20, || sheets::sheet(&mut r, 2)))
+}
+
+/// Some sheet of 10 to 20 records with its directory of the second edition: every pair of bytes at the end of the edition column.
+pub fn every_edition(seed: u64) -> Result<Answers, String> {
+    let mut r = Random(seed);
+    let mut file = with_directory(&NEW_CALLS, &small(20, || sheets::sheet(&mut r, 2)));
+    let column = file.len() - RECORD + 21;
+    let mut answers = Answers::default();
+    for pair in 0..=u16::MAX {
+        file[column..column + 2].copy_from_slice(&pair.to_be_bytes());
+        NEW_CALLS.judged(&file, file.len(), &mut answers)?;
+    }
+    Ok(answers)
 }

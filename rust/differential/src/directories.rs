@@ -2,7 +2,7 @@
 
 use crate::files::counted;
 use crate::Answers;
-use reference::directory::{described, Edition, Layer, Reader, FIRST, OLD, SECOND};
+use reference::directory::{described, Edition, Layer, Reader, FIRST, NEW, OLD, SECOND};
 use reference::directory_calls::{self, Jumping};
 use reference::line_calls::Lent;
 use reference::protocol::hex;
@@ -34,6 +34,19 @@ pub const OLD_CALLS: Calls = Calls {
     judge: zvaigulta::judge_directory,
     append: zvaigulta::append_directory,
     jump: |file, used, layer| zvaigulta::jump(file, used, layer).map(|header| Layer { header, total: 0, last: 0 }),
+};
+
+/// The calls of order 13, which append the second edition and read both.
+pub const NEW_CALLS: Calls = Calls {
+    mark: "2",
+    edition: &SECOND,
+    reader: NEW,
+    judge: zvaigulta::judge_either_edition,
+    append: zvaigulta::append_second_edition,
+    jump: |file, used, layer| {
+        let found = zvaigulta::jump_either_edition(file, used, layer)?;
+        Ok(Layer { header: found.header, total: found.total, last: found.last })
+    },
 };
 
 /// A call that only reads has left every byte.
@@ -100,6 +113,14 @@ pub fn judging(r: &mut Random, cases: usize, answers: &mut Answers) -> Result<()
     })
 }
 
+pub fn judging_either(r: &mut Random, cases: usize, answers: &mut Answers) -> Result<(), String> {
+    (0..cases).try_for_each(|_| {
+        let edition = directory_calls::some_edition(r);
+        let lent = directory_calls::judging(r, edition);
+        NEW_CALLS.judged(&lent.buffer, lent.used, answers)
+    })
+}
+
 fn appending_by(calls: &Calls, r: &mut Random, cases: usize, answers: &mut Answers) -> Result<(), String> {
     (0..cases).try_for_each(|_| {
         let call = directory_calls::appending(r, calls.edition);
@@ -112,8 +133,19 @@ pub fn appending(r: &mut Random, cases: usize, answers: &mut Answers) -> Result<
     appending_by(&OLD_CALLS, r, cases, answers)
 }
 
+pub fn appending_the_second(r: &mut Random, cases: usize, answers: &mut Answers) -> Result<(), String> {
+    appending_by(&NEW_CALLS, r, cases, answers)
+}
+
 pub fn jumping(r: &mut Random, cases: usize, answers: &mut Answers) -> Result<(), String> {
     (0..cases).try_for_each(|_| OLD_CALLS.jumped(&directory_calls::jumping(r, &FIRST), answers))
+}
+
+pub fn jumping_in_either(r: &mut Random, cases: usize, answers: &mut Answers) -> Result<(), String> {
+    (0..cases).try_for_each(|_| {
+        let edition = directory_calls::some_edition(r);
+        NEW_CALLS.jumped(&directory_calls::jumping(r, edition), answers)
+    })
 }
 
 /// Files of the second edition, judged and jumped in by the old calls.

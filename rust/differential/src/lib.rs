@@ -11,9 +11,10 @@ mod lines;
 mod numbers;
 
 pub use bytes::{
-    every_byte_of_a_directory, every_byte_of_a_sheet, every_byte_of_an_index, every_byte_of_lines, every_line_end, every_pointer,
+    every_byte_of_a_directory, every_byte_of_a_sheet, every_byte_of_an_index, every_byte_of_lines,
+    every_byte_of_the_second_edition, every_edition, every_line_end, every_pointer, every_pointer_of_the_second_edition,
 };
-pub use directories::{Calls, OLD_CALLS};
+pub use directories::{Calls, NEW_CALLS, OLD_CALLS};
 
 use reference::random::Random;
 use reference::Refusal;
@@ -58,7 +59,7 @@ pub struct Area {
 }
 
 /// All areas: every public call is in one.
-pub const AREAS: [Area; 18] = [
+pub const AREAS: [Area; 21] = [
     Area { name: "reading columns", run: numbers::reading, answers: &[0, 5, 16] },
     Area { name: "writing columns", run: numbers::writing, answers: &[0, 16] },
     Area { name: "joining corners", run: numbers::joining, answers: &[0, 9, 16] },
@@ -76,5 +77,20 @@ pub const AREAS: [Area; 18] = [
     Area { name: "appending a directory", run: directories::appending, answers: &[0, 1, 2, 3, 4, 5, 6, 7, 8, 9, 10, 15] },
     Area { name: "jumping by a directory", run: directories::jumping, answers: &[0, 1, 2, 3, 4, 5, 6, 7, 8, 9, 10, 17, 19] },
     Area { name: "old calls, second edition", run: directories::old_calls_on_the_second, answers: &[1, 4, 19] },
+    Area {
+        name: "judging either edition",
+        run: directories::judging_either,
+        answers: &[0, 1, 2, 3, 4, 5, 6, 7, 8, 9, 10, 19, 27],
+    },
+    Area {
+        name: "appending the second edition",
+        run: directories::appending_the_second,
+        answers: &[0, 1, 2, 3, 4, 5, 6, 7, 8, 9, 10, 15],
+    },
+    Area {
+        name: "jumping in either edition",
+        run: directories::jumping_in_either,
+        answers: &[0, 1, 2, 3, 4, 5, 6, 7, 8, 9, 10, 17, 19, 27],
+    },
     Area { name: "lists of edits", run: edits::lists, answers: &[0, 1, 10, 11, 12, 13, 14, 15] },
 ];

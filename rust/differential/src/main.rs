@@ -1,10 +1,11 @@
 //! `differential [CASES [SEED [WORDS]]]`: every area with so many cases (a million if not said), from a seed, and every byte of small files, every
-//! line end and every pointer of a directory; with words, only what has them in its name, as `differential 1000000 7 "line end"`. Ends with status 1
+//! line end, every pointer and every edition of a directory; with words, only what has them in its name, as `differential 1000000 7 "line end"`. Ends with status 1
 //! and the case at the first difference.
 
 use differential::{
-    every_byte_of_a_directory, every_byte_of_a_sheet, every_byte_of_an_index, every_byte_of_lines, every_line_end, every_pointer,
-    Answers, AREAS,
+    every_byte_of_a_directory, every_byte_of_a_sheet, every_byte_of_an_index, every_byte_of_lines,
+    every_byte_of_the_second_edition, every_edition, every_line_end, every_pointer, every_pointer_of_the_second_edition, Answers,
+    AREAS,
 };
 use reference::random::Random;
 use std::process::exit;
@@ -13,13 +14,16 @@ use std::time::Instant;
 /// Tries every byte of a file that a seed gives.
 type Run = fn(u64) -> Result<Answers, String>;
 
-const EVERY_BYTE: [(&str, Run); 6] = [
+const EVERY_BYTE: [(&str, Run); 9] = [
     ("every byte of a sheet", every_byte_of_a_sheet),
     ("every byte of an index", every_byte_of_an_index),
     ("every byte with line ends", every_byte_of_lines),
     ("every line end", every_line_end),
     ("every byte of a directory", every_byte_of_a_directory),
     ("every pointer of a directory", every_pointer),
+    ("every byte of edition 2", every_byte_of_the_second_edition),
+    ("every pointer of edition 2", every_pointer_of_the_second_edition),
+    ("every edition column", every_edition),
 ];
 
 fn report(name: &str, start: Instant, found: Result<Answers, String>) {

@@ -1,8 +1,9 @@
 //! Tens of thousands of cases in each area; and what random files do not reach: the technician's grid and the limits of 200,000 records.
 
 use differential::{
-    every_byte_of_a_directory, every_byte_of_a_sheet, every_byte_of_an_index, every_byte_of_lines, every_line_end, every_pointer,
-    Answers, AREAS,
+    every_byte_of_a_directory, every_byte_of_a_sheet, every_byte_of_an_index, every_byte_of_lines,
+    every_byte_of_the_second_edition, every_edition, every_line_end, every_pointer, every_pointer_of_the_second_edition, Answers,
+    AREAS,
 };
 use reference::random::Random;
 use reference::{sheets, RECORD};
@@ -46,6 +47,9 @@ areas! {
     appending_a_directory: "appending a directory", 10_000;
     jumping_by_a_directory: "jumping by a directory", 20_000;
     old_calls_on_the_second_edition: "old calls, second edition", 20_000;
+    judging_either_edition: "judging either edition", 20_000;
+    appending_the_second_edition: "appending the second edition", 10_000;
+    jumping_in_either_edition: "jumping in either edition", 20_000;
     lists_of_edits: "lists of edits", 30_000;
 }
 
@@ -75,6 +79,19 @@ fn no_difference_in_every_byte_of_a_directory() {
     assert_eq!(answers.0.get(&0), Some(&bytes), "{:?}", answers.0);
     let answers = every_pointer(4).unwrap();
     assert!(answers.have(&[0, 1, 3, 4, 10, 19]), "{:?}", answers.0);
+}
+
+/// Seven bytes of the directory's three records are the edition column, and any other byte there is 27. Of 65,536 pairs at its end one is right.
+#[test]
+fn no_difference_in_every_byte_of_the_second_edition() {
+    let answers = every_byte_of_the_second_edition(4).unwrap();
+    let bytes = 3 * RECORD;
+    assert_eq!(answers.0.values().sum::<usize>(), 256 * bytes);
+    assert_eq!((answers.0.get(&0), answers.0.get(&27)), (Some(&bytes), Some(&(7 * 255))), "{:?}", answers.0);
+    let answers = every_pointer_of_the_second_edition(4).unwrap();
+    assert!(answers.have(&[0, 1, 3, 4, 10, 19]), "{:?}", answers.0);
+    let answers = every_edition(4).unwrap();
+    assert_eq!(answers.0.into_iter().collect::<Vec<_>>(), [(0, 1), (27, 65_535)]);
 }
 
 fn refused<T>(answer: Result<T, Refusal>) -> Option<(u64, usize)> {

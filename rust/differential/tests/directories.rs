@@ -1,7 +1,7 @@
 //! What random sheets with a directory do not reach: 200,000 records of layers, faults deep in large directories, record numbers above 65,536, the
 //! ends of the numbers; and edits, which work on the file without its directory.
 
-use differential::{Calls, OLD_CALLS};
+use differential::{Calls, NEW_CALLS, OLD_CALLS};
 use reference::calls::{draw, Edit};
 use reference::directory::{record, Layer};
 use reference::random::Random;
@@ -62,6 +62,11 @@ fn two_hundred_thousand_records_of_layers() {
     two_hundred_thousand_records_of_layers_by(&OLD_CALLS);
 }
 
+#[test]
+fn two_hundred_thousand_records_of_layers_in_the_second_edition() {
+    two_hundred_thousand_records_of_layers_by(&NEW_CALLS);
+}
+
 /// One layer more: the sheet before the pointer is too long, whatever its directory is.
 fn one_record_more_than_a_sheet_has_by(calls: &Calls) {
     let sheet = sheets::sheet_of_layers(MOST + 1);
@@ -83,6 +88,7 @@ fn one_record_more_than_a_sheet_has_by(calls: &Calls) {
 #[test]
 fn one_record_more_than_a_sheet_has() {
     one_record_more_than_a_sheet_has_by(&OLD_CALLS);
+    one_record_more_than_a_sheet_has_by(&NEW_CALLS);
 }
 
 /// A fault at any record of a directory of hundreds, and in the sheet before it, as the reference answers it.
@@ -109,6 +115,11 @@ fn faults_deep_in_large_directories_by(calls: &Calls) {
 #[test]
 fn faults_deep_in_large_directories() {
     faults_deep_in_large_directories_by(&OLD_CALLS);
+}
+
+#[test]
+fn faults_deep_in_the_second_edition() {
+    faults_deep_in_large_directories_by(&NEW_CALLS);
 }
 
 /// Layers behind 70,000 records of a grid: their numbers pass 65,536.
@@ -145,6 +156,7 @@ fn behind_the_technicians_grid_by(calls: &Calls) {
 #[test]
 fn behind_the_technicians_grid() {
     behind_the_technicians_grid_by(&OLD_CALLS);
+    behind_the_technicians_grid_by(&NEW_CALLS);
 }
 
 /// Used lengths and layers at the ends of 64 bits, and those that would be right if they were cut to 32: answered, and nothing is changed.
@@ -177,6 +189,7 @@ fn sixty_four_bit_ends_by(calls: &Calls) {
 #[test]
 fn sixty_four_bit_ends() {
     sixty_four_bit_ends_by(&OLD_CALLS);
+    sixty_four_bit_ends_by(&NEW_CALLS);
 }
 
 /// An edit refuses a sheet with a directory with 4; without it the edit is made, and the directory is appended anew.
@@ -205,11 +218,51 @@ fn edits_work_on_the_file_without_it_by(calls: &Calls) {
 #[test]
 fn edits_work_on_the_file_without_it() {
     edits_work_on_the_file_without_it_by(&OLD_CALLS);
+    edits_work_on_the_file_without_it_by(&NEW_CALLS);
 }
 
 fn run(edit: &Edit, buffer: &mut [u8], used: usize) -> Result<usize, Refusal> {
     match edit {
         Edit::Insert(place, block) => insert(buffer, used, *place as usize, block),
         Edit::Remove(place) => remove(buffer, used, *place as usize),
+    }
+}
+
+/// A layer of two groups with 99,000 points each, a total that no header states; and one that is empty.
+#[test]
+fn a_total_that_no_header_states() {
+    let point = b"E52101 0   0   1 3 00210 00   0   0      0      0        0       2408              1".to_vec();
+    let group = [vec![sheets::header_of(2, &[(5, 99_000)])], vec![point; 99_000]].concat();
+    let body = [vec![sheets::layer(&[(0, 2)])], group.clone(), group, vec![sheets::layer(&[])]].concat();
+    let sheet = sheets::sheet_of(&mut Random(3), body, 198_000);
+    let (records, mut file) = (sheet.len() / RECORD, with_directory(&NEW_CALLS, &sheet));
+    let mut buffer = [&sheet[..], &[b'.'; 2 * RECORD]].concat();
+    assert_eq!((NEW_CALLS.append)(&mut buffer, sheet.len()), Ok(file.len()));
+    assert!(buffer == file);
+    assert_eq!((NEW_CALLS.jump)(&file, file.len(), 1), Ok(found(&NEW_CALLS, records - 198_003, 198_003, 198_000)));
+    assert_eq!((NEW_CALLS.jump)(&file, file.len(), 2), Ok(found(&NEW_CALLS, records, 1, 0)));
+    // one less, cut to sixteen bits, what the header states
+    for total in [197_999, 198_000 % 65_536, 2] {
+        file[sheet.len() + 9..sheet.len() + 16].copy_from_slice(&record("", &[total])[..7]);
+        both_refuse(&NEW_CALLS, &file, (19, records + 1));
+    }
+}
+
+/// The new calls find the same headers by either edition, and the old ones refuse the second at its last record.
+#[test]
+fn the_same_headers_by_either_edition() {
+    let mut r = Random(57);
+    for n in 0..200 {
+        let layers = r.below(14);
+        let sheet = sheets::sheet_with_layers(&mut r, layers, 3);
+        let [first, second] = [with_directory(&OLD_CALLS, &sheet), with_directory(&NEW_CALLS, &sheet)];
+        assert_eq!((NEW_CALLS.judge)(&first, first.len()), (NEW_CALLS.judge)(&second, second.len()), "case {n}");
+        for layer in 0..=layers + 1 {
+            let old = (OLD_CALLS.jump)(&first, first.len(), layer);
+            assert_eq!((NEW_CALLS.jump)(&first, first.len(), layer), old, "case {n}, layer {layer}");
+            let of_second = (NEW_CALLS.jump)(&second, second.len(), layer);
+            assert_eq!(of_second.map(|found| found.header), old.map(|found| found.header), "case {n}, layer {layer}");
+        }
+        both_refuse(&OLD_CALLS, &second, (19, second.len() / RECORD));
     }
 }
