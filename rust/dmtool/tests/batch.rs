@@ -234,6 +234,25 @@ fn thousands_of_lines_on_sheets_with_a_directory() {
     }
 }
 
+/// The commands of order 13, and those of order 5 on files of the second edition.
+#[test]
+fn thousands_of_lines_on_either_edition() {
+    let mut r = Random(58);
+    let drawn = String::from_utf8(directory_calls::commands_of_both(57, 4_000)).expect("text");
+    let lines: Vec<String> =
+        drawn.lines().map(|line| if r.once_in(12) { spoiled(&mut r, line) } else { line.to_string() }).collect();
+    let (accepted, errors) = compare("batch_editions", &lines);
+    assert!(accepted > 900 && errors > 100, "{accepted} accepted, {errors} errors");
+    for command in ["directory2 ", "append2 ", "jump2 "] {
+        assert!(lines.iter().filter(|line| line.starts_with(command)).count() > 800, "{command}");
+    }
+    for wrong in
+        ["directory2", "directory2 84", "append2 1 00 00", "jump2 84 00", "jump2 84 00 x", "jump2 84 00 1 1", "append3 0 -"]
+    {
+        assert!(Folder::new("batch_editions").run_on(wrong.as_bytes(), &["batch"]).text().starts_with("error "), "{wrong}");
+    }
+}
+
 #[test]
 fn the_program_and_its_longest_input() {
     let mut input = good();
