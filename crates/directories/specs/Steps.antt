@@ -15,7 +15,7 @@ use Rattle.format.specs.Record.{View, view}
 use Rattle.format.specs.Judge.{Counts, accepted, headersAndItems, items}
 use Rattle.format_directory.specs.declared.Edition.{Edition}
 use Rattle.format_directory.specs.declared.Edition.the-variants.{One, Two}
-use Rattle.format_directory.specs.Directory.{Layer, layerBody, layersFrom, layersOf, recordsBefore, endLetters, endColumns, endListed, listed, perLayer, perRecord, row, shared, directoryOf, closing, lastRecord, numberIn, isWritten, pointerIn, layerCount, differs, judgeFrom}
+use Rattle.format_directory.specs.Directory.{Layer, layerBody, layersFrom, layersOf, recordsBefore, endLetters, endColumns, endListed, listed, perLayer, perRecord, row, shared, directoryOf, closing, lastRecord, numberIn, isWritten, pointerIn, layerCount, differs, judgeFrom, judgeEdition, judgeDirectory, editionOf, judgeEitherEdition}
 use Rattle.format_directory.proofs.DirectoryRecords.{AllFit}
 use Rattle.format_directory.proofs.DirectoryJudged.{RightDirectory}
 use Rattle.files.specs.declared.Stride.the-variants.{Plain}
@@ -92,6 +92,13 @@ pub record FoundAs (answer : Answer Counts) (e : Edition) (used : ℕ) (buffer :
   pub count-is : r .fault ≡ 0 → r .layers ≡ layerCount (lastRecord used buffer)
   pub right : r .fault ≡ 0 → RightDirectory e used buffer (foundCounts r)
 
+-- by the first edition, and by the one that the last record names
+abbrev pub FoundFirst : (used : ℕ) → (buffer : List ℕ) → Found → Type 0
+FoundFirst used buffer r = FoundAs (judgeDirectory used buffer) One used buffer r
+
+abbrev pub FoundEither : (used : ℕ) → (buffer : List ℕ) → Found → Type 0
+FoundEither used buffer r = FoundAs (judgeEitherEdition used buffer) (editionOf (lastRecord used buffer)) used buffer r
+
 -- number i of a layer, counted from 1, stands in a record of the file
 pub record Reaches (used : ℕ) (buffer : List ℕ) (r : Found) (layer i : ℕ) : Type 0 where
   pub inside : used ≤ length buffer
@@ -161,6 +168,10 @@ numbersPut k (n ∷ ns) r = numbersPut (suc k) ns (splice (2 + 7 * k) 7 (written
 
 unfoldable pub layerPut : Edition → (before : ℕ) → LayerNumbers → List ℕ → List ℕ
 layerPut e before n r = numbersPut (perLayer e * before) (listedOf e n) r
+
+-- what is listed of a sheet's first layers, in a buffer, where its body starts behind `part` records
+abbrev pub FirstKept : Edition → (used part : ℕ) → (first buffer : List ℕ) → Type 0
+FirstKept e used part first buffer = first ≡ firstNumbers e (keptLayers e) (layersIn (take used buffer) part)
 
 pub record RowFrom (file : List ℕ) (e : Edition) (k : ℕ) (r : Row) : Type 0 where
   pub bytes-are : r .bytes ≡ row e (take (perRecord e) (layersIn file k))

@@ -6,9 +6,9 @@ ghost use lib.Dec.{leb};
 ghost use lib.ListN.{length};
 ghost use Rattle.format.specs.Answers.{judgedAnswer, editedAnswer};
 ghost use Rattle.format_directory.specs.declared.Edition.the-variants.{One, Two};
-ghost use Rattle.format_directory.specs.Directory.{usedOk, lastRecord, judgeEdition, judgeDirectory, appendDirectory, jump, editionOf, judgeEitherEdition, jumpEitherEdition};
+ghost use Rattle.format_directory.specs.Directory.{usedOk, judgeEdition, judgeDirectory, appendDirectory, jump, judgeEitherEdition, jumpEitherEdition};
 ghost use Rattle.format_directory.specs.Answers.{jumpedAnswer, jumpedEitherAnswer};
-ghost use Rattle.directories.specs.Steps.{refusedFound, foundAnswer, FoundFrom, FoundAs, Reaches, numberFor};
+ghost use Rattle.directories.specs.Steps.{refusedFound, foundAnswer, FoundFrom, FoundAs, FoundFirst, FoundEither, Reaches, numberFor};
 use files::RECORD;
 use files::Stride;
 use format::Edited;
@@ -106,7 +106,7 @@ fn find_behind(buffer: &[u8], used: usize, edition: Edition) -> Found
 
 // The same of any bytes, by the first edition.
 fn find_first(buffer: &[u8], used: usize) -> Found
-    ensures { λ r. ⌜ FoundAs (judgeDirectory used (now (buffer .entry))) One used (now (buffer .entry)) r ⌝ }
+    ensures { λ r. ⌜ FoundFirst used (now (buffer .entry)) r ⌝ }
 {
     if !used_ok(buffer, used) {
         return refused(1, 0);
@@ -116,7 +116,7 @@ fn find_first(buffer: &[u8], used: usize) -> Found
 
 // The same by the edition that the last record names.
 fn find_either(buffer: &[u8], used: usize) -> Found
-    ensures { λ r. ⌜ FoundAs (judgeEitherEdition used (now (buffer .entry))) (editionOf (lastRecord used (now (buffer .entry)))) used (now (buffer .entry)) r ⌝ }
+    ensures { λ r. ⌜ FoundEither used (now (buffer .entry)) r ⌝ }
 {
     if !used_ok(buffer, used) {
         return refused(1, 0);

@@ -10,8 +10,8 @@ ghost use Rattle.format.specs.Layout.{splice};
 ghost use Rattle.format_directory.specs.Directory.{recordOf, letters, endLetters, perRecord, closing};
 ghost use Rattle.files.specs.declared.Stride.the-variants.{Plain};
 ghost use Rattle.files.specs.Records.{recordsOf};
-ghost use Rattle.judge.specs.Listed.{firstNumbers, keptLayers};
-ghost use Rattle.directories.specs.Steps.{layersIn, isLayer, itemOf, behindEntry, behindLayer, NextLayer, Kept, LayerFrom, RowFrom, SmallNumbers, layerPut, rowsPut, directoryPut};
+ghost use Rattle.directories.specs.Steps.{layersIn, isLayer, itemOf, behindEntry, behindLayer, NextLayer, Kept, FirstKept, LayerFrom, RowFrom};
+ghost use Rattle.directories.specs.Steps.{SmallNumbers, layerPut, rowsPut, directoryPut};
 use directory_columns::LETTERS;
 use directory_columns::LayerNumbers;
 use directory_columns::WIDTH;
@@ -241,7 +241,7 @@ fn write_rows(
     rows: usize,
     first: &FirstNumbers,
 )
-    requires { ⌜ (used ≤ 84 * 200000) × (rows ≤ 200000) × (used + 84 * rows ≤ length (now buffer)) × (now first ≡ firstNumbers edition (keptLayers edition) (layersIn (take used (now buffer)) k)) ⌝ }
+    requires { ⌜ (used ≤ 84 * 200000) × (rows ≤ 200000) × (used + 84 * rows ≤ length (now buffer)) × (FirstKept edition used k (now first) (now buffer)) ⌝ }
     ensures { λ _. ⌜ now (buffer .exit) ≡ rowsPut edition used k rows (now (buffer .entry)) ⌝ }
 {
     let each = directory_columns::per_record(edition);
@@ -285,7 +285,7 @@ pub(crate) fn write_directory(
     layers: usize,
     first: &FirstNumbers,
 )
-    requires { ⌜ (used ≤ 84 * 200000) × (layers ≤ 200000) × (layers ≡ length (layersIn (take used (now buffer)) part)) × (now first ≡ firstNumbers edition (keptLayers edition) (layersIn (take used (now buffer)) part)) × (used + 84 * (roundUp layers (perRecord edition) + 1) ≤ length (now buffer)) ⌝ }
+    requires { ⌜ (used ≤ 84 * 200000) × (layers ≤ 200000) × (layers ≡ length (layersIn (take used (now buffer)) part)) × (FirstKept edition used part (now first) (now buffer)) × (used + 84 * (roundUp layers (perRecord edition) + 1) ≤ length (now buffer)) ⌝ }
     ensures { λ _. ⌜ now (buffer .exit) ≡ directoryPut edition used part (now (buffer .entry)) ⌝ }
 {
     let rows = directory_columns::rows(edition, layers);
