@@ -32,7 +32,7 @@ fn right_rows(edition: Edition, rows: usize, unlisted: usize) -> usize
     (unlisted - 1) / each
 }
 
-// So many of the layers stand in record i, where more than those of the records before it are left.
+// So many of the layers stand in record i, where the records before it are full.
 fn in_row(edition: Edition, layers: usize, i: usize) -> usize
     requires { ⌜ perRecord edition * i ≤ layers ⌝ }
     ensures { λ r. ⌜ r ≡ inRow edition layers i ⌝ }

@@ -177,7 +177,7 @@ fn layer_from(
 {
     match edition {
         Edition::One => {
-            if 33 <= before {
+            if judge::FIRST_KEPT <= before {
                 return find_layer(file, edition, k);
             }
             LayerNumbers {
@@ -187,7 +187,7 @@ fn layer_from(
             }
         }
         Edition::Two => {
-            if 11 <= before {
+            if judge::SECOND_KEPT <= before {
                 return find_layer(file, edition, k);
             }
             LayerNumbers {

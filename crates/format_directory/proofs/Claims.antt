@@ -87,6 +87,10 @@ old-refuses = DirectoryEditions.old-refuses
 pub old-accepted : (used : ℕ) (buffer : List ℕ) (counts : Counts) → judgeDirectory used buffer ≡ given counts → judgeEitherEdition used buffer ≡ given counts
 old-accepted = DirectoryEditions.old-accepted
 
+-- where the last record does not start "YE", they answer alike, refusals too
+pub judged-alike : (used : ℕ) (buffer : List ℕ) → (StartsYE used buffer → ⊥) → judgeEitherEdition used buffer ≡ judgeDirectory used buffer
+judged-alike = DirectoryEditions.judged-alike
+
 -- ---- jumping is counting from the front, "with total and last beside them, both 0 for edition 1"; 17 exactly where there is no layer n
 pub jump-either-counts : (e : Edition) (used : ℕ) (buffer : List ℕ) (counts : Counts) (n : ℕ) (layer : LayerEntry) → ListsLayers e used buffer counts → jumpEitherEdition used buffer n ≡ given layer ↔ NthLayer e (chunks (counts .records) buffer) n layer
 jump-either-counts = DirectoryJumps.jump-either-counts

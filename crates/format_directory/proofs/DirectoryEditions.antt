@@ -177,6 +177,15 @@ either-refused used b number at = (either-refusal used b number at, refusal-eith
 pub old-refuses : (used : ℕ) (b : List ℕ) → (UsedFails used b → ⊥) → StartsYE used b → judgeDirectory used b ≡ refused 19 (used / 84)
 old-refuses used b fine y = refused-exactly used b 19 (used / 84) .1 (wrongClosing fine (λ p w. let z : _≡_ {A = ℕ} 89 90 = sym (y .0) ∙ w .first-letter in omega arith) refl refl)
 
+-- "new ones read both": of a last record that does not start "YE" they say what the old ones do, refusals too
+pub judged-alike : (used : ℕ) (b : List ℕ) → (StartsYE used b → ⊥) → judgeEitherEdition used b ≡ judgeDirectory used b
+unfolding judgeEitherEdition judgeDirectory
+judged-alike used b n = go (usedOk used b) refl
+  where
+    go : (t : Bool) → usedOk used b ≡ t → afterStageOne (usedOk used b) (afterEdition (editionOk (lastRecord used b)) (used / 84) (judgeEdition (editionOf (lastRecord used b)) used b)) ≡ afterStageOne (usedOk used b) (judgeEdition One used b)
+    go false e = ap (λ (t : Bool). afterStageOne t (afterEdition (editionOk (lastRecord used b)) (used / 84) (judgeEdition (editionOf (lastRecord used b)) used b))) e ∙ sym (ap (λ (t : Bool). afterStageOne t (judgeEdition One used b)) e)
+    go true e = let k = not-second used b e n in ap (afterStageOne (usedOk used b)) (ap₂ (λ (t : Bool) (x : Edition). afterEdition t (used / 84) (judgeEdition x used b)) (first-ok used b e k) (ap (λ (t : Bool). cond t Two One) k))
+
 -- ---- the totals of all layers add up to the sheet's items
 -- nothing stands before the first layer of an accepted sheet
 none-before : (body : List View) → Passes 0 0 nothing body → layerBody 0 body ≡ []

@@ -134,6 +134,43 @@ y-6-10 = "Y       6      1      9     10      0     10                          
 abbrev pub ye-11 : String
 ye-11 = "YE     11      2      2                                                             "
 
+-- a sheet of two layers: in the first a group of two attributes and, behind it, one of two data records, the second of which reads like the header of a layer
+abbrev pub deep : List ℕ
+deep =
+    sheet "  -1234   5678   -934   5978        3     10  1   -934   5678  -1234   5978         " 0 ++
+    rows (
+    "H 2100 0   0   0 1    2    1    0    0    0    0    0    0    0    102408         0 " ∷
+    "H 2100 0   0   0 2    2    0    0    0    0    0    0    0    0    202408         0 " ∷
+    "E82101 0   0   1 3 05 00 00   1   1      0      0        0                         1" ∷
+    emptyLayer ∷
+    "E82101 0   0   1 3 05 00 00   1   1      0      0        0                         1" ∷
+    "another                                                                             " ∷
+    "E82101 0   0   1 2 05 00 00   2   2      0      0        0                         1" ∷
+    "free text of the attribute                                                          " ∷
+    emptyLayer ∷
+    emptyLayer ∷ []
+    )
+
+abbrev pub y-6-15 : String
+y-6-15 = "Y       6      3     14     15      0     15                                        "
+
+abbrev pub ye-16 : String
+ye-16 = "YE     16      2      2                                                             "
+
+-- seven empty layers, and their directory: three records of it
+abbrev pub seven : List ℕ
+seven = sheet "  -1234   5678   -934   5978        0      7  1   -934   5678  -1234   5978         " 7
+
+abbrev pub seven-listed : List ℕ
+seven-listed =
+    seven ++
+    rows (
+    "Y       6      0      6      7      0      7      8      0      8                   " ∷
+    "Y       9      0      9     10      0     10     11      0     11                   " ∷
+    "Y      12      0     12                                                             " ∷
+    "YE     13      7      2                                                             " ∷ []
+    )
+
 -- n bytes of something else
 abbrev pub lent : ℕ → List ℕ
 lent n = replicate n 126
@@ -255,6 +292,27 @@ table =
     jumps-either 1008 (four ++ rows (y-6-to-8 ∷ y-9 ∷ ye-10-of-four ∷ [])) 4 (layer 9 0 9) ∷
     jumps-either 1008 (four ++ rows (y-6-to-8 ∷ y-9 ∷ ye-10-of-four ∷ [])) 5 (refused 17 0) ∷
     jumps-either 924 (behind y-6 "YE     10      1      3                                                             ") 1 (refused 27 11) ∷
+    -- a layer of three items, two of them in a group; seven layers take three records
+    appends Two 1260 (deep ++ lent 168) (given 1428) (deep ++ rows (y-6-15 ∷ ye-16 ∷ [])) ∷
+    judges-either 1428 (deep ++ rows (y-6-15 ∷ ye-16 ∷ [])) (accepted 15 3) ∷
+    judges-either 1428 (deep ++ rows ("Y       6      1     14     15      0     15                                        " ∷ ye-16 ∷ [])) (refused 19 16) ∷
+    jumps-either 1428 (deep ++ rows (y-6-15 ∷ ye-16 ∷ [])) 1 (layer 6 3 14) ∷
+    judges-either 1344 seven-listed (accepted 12 0) ∷
+    jumps-either 1344 seven-listed 7 (layer 12 0 12) ∷
+    jumps-either 1680 (twelve ++ rows (z-6-to-16 ∷ z-17 ∷ ze-18 ∷ [])) 11 (layer 16 0 0) ∷
+    jumps-either 924 (behind y-6 ye-10) 0 (refused 17 0) ∷
+    -- both letters of a last record name its edition; 27 is asked of its edition column alone, and that alone is 27
+    judges-either 840 (behind y-6 ye-10) (refused 19 10) ∷
+    judges-either 924 (behind y-6 "YE0000010      1      3                                                             ") (refused 27 11) ∷
+    judges-either 924 (behind y-6 "YE     10      1      2                                                            .") (refused 19 11) ∷
+    -- a last record that is not well formed comes before the sheet, the sheet before the comparison; a count that is negative is well formed
+    judges 924 (wrong ++ rows (z-6 ∷ "ZE     10     01                                                                    " ∷ [])) (refused 19 11) ∷
+    judges 924 (wrong ++ rows (z-6 ∷ "ZE     10      1                                                                   ." ∷ [])) (refused 19 11) ∷
+    judges 924 (wrong ++ rows (z-6 ∷ ze-10 ∷ [])) (refused 10 6) ∷
+    judges-either 924 (wrong ++ rows (y-6 ∷ "YE     10     01      2                                                             " ∷ [])) (refused 19 11) ∷
+    judges-either 924 (wrong ++ rows (y-6 ∷ "YE     10      1      2                                                            ." ∷ [])) (refused 19 11) ∷
+    judges-either 924 (wrong ++ rows (y-6 ∷ ye-10 ∷ [])) (refused 10 6) ∷
+    judges 924 (behind "Z       7                                                                           " "ZE     10     -1                                                                    ") (refused 19 10) ∷
     -- what the code's answer says
     answers-either (JumpedEither.Layer 6 1 9) (layer 6 1 9) ∷
     answers-either (JumpedEither.Refused 27 11) (refused 27 11) ∷ []
@@ -275,4 +333,4 @@ Every (e ∷ es) = Says e × Every es
 
 pub examples : Every table
 unfolding bytes rows begins strip isDigit allDigits valueOf isNumber negative positive signed columnOf digitsIn digits textOf written fractionOk column find integerAt numberAt allFormed allInside columnFault sheetA sheetB sheetC sheetD sheetE sheetF header element gridHeader netHeader data3D data2D dataNote dataAttribute dataGrid dataNet typeOf countName dataColumns directionOk dataFault elementRecords elementRule gridStates gridNeeds netNeeds headerView elementView gridView netView otherView view wholesOf fractionsOf partLength sheetFault statedElements statedRecords judge judgeRecords judgeSheet layersOf totalOf lastOf row closing directoryOf lastRecord numberIn isWritten closingOk judgeFrom judgeEdition judgeDirectory appendDirectory sheetIn directoryIn jump jumpedAnswer isSecond editionOk judgeEitherEdition jumpEitherEdition jumpedEitherAnswer
-examples = (refl, (refl, (refl, (refl, (refl, (refl, (refl, (refl, (refl, (refl, (refl, (refl, (refl, (refl, (refl, (refl, (refl, (refl, (refl, (refl, (refl, (refl, (refl, (refl, (refl, (refl, (refl, (refl, (refl, (refl, (refl, (refl, (refl, (refl, (refl, (refl, (refl, (refl, (refl, (refl, (refl, (refl, (refl, (refl, (refl, (refl, (refl, (refl, (refl, (refl, (refl, (refl, (refl, (refl, (refl, (refl, (refl, (refl, (refl, (refl, (refl, (refl, (refl, (refl, (refl, (refl, (refl, (refl, (refl, (refl, (refl, (refl, (refl, (refl, (refl, (refl, (refl, (refl, (refl, (refl, (refl, (refl, (refl, tt)))))))))))))))))))))))))))))))))))))))))))))))))))))))))))))))))))))))))))))))))))
+examples = (refl, (refl, (refl, (refl, (refl, (refl, (refl, (refl, (refl, (refl, (refl, (refl, (refl, (refl, (refl, (refl, (refl, (refl, (refl, (refl, (refl, (refl, (refl, (refl, (refl, (refl, (refl, (refl, (refl, (refl, (refl, (refl, (refl, (refl, (refl, (refl, (refl, (refl, (refl, (refl, (refl, (refl, (refl, (refl, (refl, (refl, (refl, (refl, (refl, (refl, (refl, (refl, (refl, (refl, (refl, (refl, (refl, (refl, (refl, (refl, (refl, (refl, (refl, (refl, (refl, (refl, (refl, (refl, (refl, (refl, (refl, (refl, (refl, (refl, (refl, (refl, (refl, (refl, (refl, (refl, (refl, (refl, (refl, (refl, (refl, (refl, (refl, (refl, (refl, (refl, (refl, (refl, (refl, (refl, (refl, (refl, (refl, (refl, (refl, (refl, (refl, tt)))))))))))))))))))))))))))))))))))))))))))))))))))))))))))))))))))))))))))))))))))))))))))))))))))))

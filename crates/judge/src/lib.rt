@@ -12,9 +12,14 @@ ghost use Rattle.files.specs.Records.{recordsOf};
 ghost use Rattle.judge.specs.Sheet.{judgeBy, openedIn};
 ghost use Rattle.judge.specs.Listed.{refusedListed, listedIn};
 
-// What a directory lists of the first layers, of 33 or, in the second edition, of 11, kept by the walk that judges, so that who lists the layers of a sheet does
-// not look for them again; 0 where there is no layer.
+// What a directory lists of the first layers, kept by the walk that judges, so that who lists the layers of a sheet does not look for them again; 0 where there
+// is no layer.
 pub type FirstNumbers = [usize; 33];
+
+// So many layers are 33 numbers, by edition.
+pub const FIRST_KEPT: usize = 33;
+
+pub const SECOND_KEPT: usize = 11;
 
 mod body_records;
 mod opening;

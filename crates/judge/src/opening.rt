@@ -124,8 +124,8 @@ fn at_place(file: &[u8], extent: Extent, part: SheetPart, seen: Seen) -> Sheet
     accepted(part, due, open_of(entry), seen)
 }
 
-// A sheet that is opened against a directory: how many layers it has, the first of them, counted from 1, that the directory does not list, or 0, and the
-// headers of its first layers.
+// A sheet that is opened against a directory: how many layers it has, the first of them, counted from 1, that the directory does not list, or 0, and
+// what one of its edition lists of the first ones.
 pub(crate) struct Against {
     pub sheet: Sheet,
     pub layers: usize,

@@ -1,6 +1,8 @@
 // The walk of stage two over the body. It also counts, so that stage three reads no more than each header's own counts, and keeps what stands
 // before the place.
+use super::FIRST_KEPT;
 use super::FirstNumbers;
+use super::SECOND_KEPT;
 use super::body_records;
 use super::body_records::Extent;
 use directory_columns::LayerNumbers;
@@ -53,7 +55,8 @@ pub(crate) struct WalkedBody {
     pub seen: Seen,
 }
 
-// The same of all layers. `layers` counts them; `unlisted` is the first of them, counted from 1, that a directory does not list, or 0.
+// The same of all layers. `layers` counts them; `unlisted` is the first of them, counted from 1, that a directory does not list, or 0; `first_numbers` is what
+// one of its edition lists of the first ones.
 pub(crate) struct WalkedLayers {
     pub number: u8,
     pub at: usize,
@@ -176,12 +179,12 @@ fn keep(first_numbers: &mut FirstNumbers, edition: Edition, layer: usize, number
 {
     match edition {
         Edition::One => {
-            if layer < 33 {
+            if layer < FIRST_KEPT {
                 first_numbers[layer] = numbers.header;
             }
         }
         Edition::Two => {
-            if layer < 11 {
+            if layer < SECOND_KEPT {
                 first_numbers[3 * layer] = numbers.header;
                 first_numbers[3 * layer + 1] = numbers.total;
                 first_numbers[3 * layer + 2] = numbers.last;
