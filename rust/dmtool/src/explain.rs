@@ -122,6 +122,10 @@ pub fn file(asked: &Asked, refusal: Refusal) -> Failure {
     refused(asked, refusal, Vec::new())
 }
 
+/// What is said where the sheet is refused, by the pointer of the directory.
+const SHEET_REFUSED: &str =
+    "judged up to the pointer of the directory, the sheet is refused: 'dmtool explain' says what to mend first";
+
 /// The same of a file with a directory: what there is to say of that, unless it is the sheet before it that is refused.
 pub fn directory(asked: &Asked, refusal: Refusal) -> Failure {
     if !asked.reading.directory {
@@ -133,7 +137,7 @@ pub fn directory(asked: &Asked, refusal: Refusal) -> Failure {
             let notes = explain_as(asked.reading, asked.bytes, refusal).notes;
             notes.iter().map(|note| files::with_name(note, asked.path)).collect()
         }
-        false => vec!["the sheet before the directory is refused: it must be mended first".to_string()],
+        false => vec![SHEET_REFUSED.to_string()],
     };
     refused(asked, refusal, words)
 }

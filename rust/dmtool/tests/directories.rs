@@ -204,7 +204,8 @@ fn the_same_answers_with_a_directory() {
         assert_eq!(f.run(words).text().lines().next(), Some(refused));
     }
     let ran = f.run(&["remove", "damaged.dm", "7"]);
-    assert!(ran.err.contains("\nthe sheet before the directory is refused: it must be mended first\n"), "{}", ran.err);
+    let words = "\njudged up to the pointer of the directory, the sheet is refused: 'dmtool explain' says what to mend first\n";
+    assert!(ran.err.contains(words), "{}", ran.err);
 }
 
 /// Edits on random sheets, without a directory, with it, and with line ends too: the same sheets and the same refusals, and the directory made anew.
@@ -359,7 +360,8 @@ fn a_directory_without_its_end() {
     let explained = f.run(&["explain", "sheet.dm"]).text();
     assert!(explained.starts_with("sheet.dm: refused 4 at record 18: "), "{explained}");
     let note =
-        "\nrecords 18 to 19 start as a directory of layers does, and no record \"ZE\" ends it; the sheet before it is accepted: \
+        "\nrecords 18 to 19 start as a directory of layers does, and no record \"ZE\" ends it; the sheet before it is accepted, but \
+                may have lost a layer or other records since the directory was made: compare it with the original first; if it is whole, \
                 take the directory off by 'dmtool directory sheet.dm --remove' and append";
     assert!(explained.contains(note), "{explained}");
     assert!(f.run(&["explain", "--directory", "sheet.dm"]).text().starts_with("sheet.dm: refused 19 at record 19: "));

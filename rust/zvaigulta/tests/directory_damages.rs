@@ -561,7 +561,7 @@ const FORCED: &[Damage] = &[
         "the last record is lost",
         || without(file(), 30, 30),
         (19, 29),
-        &["the directory has no end: the record \"ZE\" behind record 29 is lost", "is missing behind it", MEND],
+        &["the directory has no end: the record \"ZE\" behind record 29 is lost", "is missing behind it", DOUBT],
         &[(29, "type")],
     ),
     (
@@ -602,7 +602,7 @@ const UNREAD: &[Damage] = &[
         "one without its end",
         || without(file(), 30, 30),
         (4, 29),
-        &["record 29 starts as a directory of layers does, and no record \"ZE\" ends it", MEND],
+        &["record 29 starts as a directory of layers does, and no record \"ZE\" ends it", DOUBT],
         &[(29, "type")],
     ),
     (
@@ -694,7 +694,7 @@ const UNREAD: &[Damage] = &[
         (1, 0),
         &[
             "behind record 28: a directory of layers of 1 record and 40 bytes, cut off, or with bytes of it lost or too many",
-            MEND,
+            DOUBT,
         ],
         &[],
     ),

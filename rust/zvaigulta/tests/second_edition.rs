@@ -271,7 +271,7 @@ const ROWS: &[Damage] = &[
         "the second record of two is lost",
         || without(filed_in(Edition::Second, &layered(4)), 12, 12),
         (19, 12),
-        &["is \"YE\", where a record \"Y \" with the headers of layer 4 is due: it is missing", MEND],
+        &["is \"YE\", where a record \"Y \" with the numbers of layer 4 is due: it is missing", MEND],
         &[(12, "type")],
     ),
     (
@@ -396,14 +396,14 @@ const UNREAD: &[Damage] = &[
         "one without its end",
         || without(file(), 30, 30),
         (4, 29),
-        &["record 29 starts as a directory of layers does, and no record \"YE\" ends it", MEND],
+        &["record 29 starts as a directory of layers does, and no record \"YE\" ends it", DOUBT],
         &[(29, "type")],
     ),
     (
         "one that is cut off",
         || file()[..29 * RECORD_BYTES + 40].to_vec(),
         (1, 0),
-        &["behind record 28: a directory of layers of 1 record and 40 bytes, cut off", MEND],
+        &["behind record 28: a directory of layers of 1 record and 40 bytes, cut off", DOUBT],
         &[],
     ),
     (

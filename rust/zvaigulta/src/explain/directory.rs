@@ -3,6 +3,7 @@
 
 mod columns;
 mod notes;
+mod signs;
 
 use super::body::Body;
 use super::counts::Records;
@@ -98,7 +99,11 @@ impl<'a> Directory<'a> {
     fn of(bytes: &'a [u8]) -> Directory<'a> {
         let (sheet, records) = (sheet(bytes), bytes.len() / RECORD_BYTES);
         let accepted = sheet.map(|sheet| Accepted { layers: layers(sheet), body: Body::of(sheet) });
-        Directory { bytes, records, before: records_before(bytes, sheet), edition: edition_in(bytes), sheet: accepted }
+        let before = records_before(bytes, sheet);
+        // Of a directory that is cut off what is left of its last record may be all that tells.
+        let cut = bytes.get(records * RECORD_BYTES..).filter(|cut| records == before && !cut.is_empty());
+        let edition = cut.and_then(signs::edition_of).unwrap_or_else(|| edition_in(bytes));
+        Directory { bytes, records, before, edition, sheet: accepted }
     }
 
     /// What a record is in it.

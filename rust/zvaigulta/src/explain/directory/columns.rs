@@ -1,6 +1,6 @@
 //! The columns of a directory's records against what they should hold, in its edition.
 
-use super::letters;
+use super::{letters, signs};
 use crate::directory::{is_written, written};
 use crate::explain::{fault, own, Fault};
 use crate::layout::{Column, Layout, HEADER};
@@ -46,9 +46,9 @@ fn listing(edition: Edition) -> &'static [Column] {
     edition.layout().columns.get(1..1 + numbers).unwrap_or(&[])
 }
 
-/// The numbers of a record that lists layers, those of a layer together.
+/// The numbers of a record that lists layers, those of a layer together, as far as they can be made out.
 pub fn entries(edition: Edition, row: &[u8]) -> Vec<Vec<Option<i64>>> {
-    let values = |columns: &[Column]| columns.iter().map(|column| column.value(row)).collect();
+    let values = |columns: &[Column]| columns.iter().map(|column| signs::readable(column.bytes(row))).collect();
     listing(edition).chunks(edition.numbers_of_a_layer()).map(values).collect()
 }
 
@@ -180,7 +180,8 @@ fn end_with(number: usize, bytes: &[u8], edition: Edition, [pointer, layers]: [O
 /// The last record, where one that lists these layers is due.
 pub fn row_missing(number: usize, bytes: &[u8], listed: &Listed, due: &Counts) -> Vec<Fault> {
     let (row, which) = (quoted(due.edition.letters()), listed.named());
-    let words = format!("is {}, where a record {row} with the headers of {which} is due: it is missing", letters(bytes));
+    let what = if due.edition.numbers_of_a_layer() == 1 { "headers" } else { "numbers" };
+    let words = format!("is {}, where a record {row} with the {what} of {which} is due: it is missing", letters(bytes));
     let others = end(number, bytes, due).into_iter().filter(|fault| fault.column != "type");
     [fault(number, "type", words)].into_iter().chain(others).collect()
 }

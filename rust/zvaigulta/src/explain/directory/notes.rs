@@ -1,26 +1,23 @@
 //! What there is to say of a directory as a whole: what it was made for, what it lists, and what mends it.
 
-use super::{letters, Directory};
+use super::{letters, signs, Directory};
 use crate::directory::{is_end, is_row};
 use crate::explain::{form, near};
 use crate::layout::DIRECTORY_END;
-use crate::outline::{record, DirectoryRecord, Layer, Outline};
+use crate::outline::{record, DirectoryRecord, Outline};
 use crate::text::{number_of, quoted};
 use crate::{judge_either_edition, sheet_before_directory, Edition, FileKind, RECORD_BYTES};
 
-/// The command that appends a directory of an edition; the first is appended where none is named.
-fn append(edition: Edition) -> &'static str {
-    match edition {
-        Edition::First => "'dmtool directory FILE --append'",
-        Edition::Second => "'dmtool directory FILE --append --edition 2'",
-    }
+/// The command that appends a directory of an edition; the first is appended where none is named. Where the sheet's own last record reads like the end of a
+/// directory, it is to be read as text.
+fn append(edition: Edition, is_text: bool) -> String {
+    let second = if edition == Edition::Second { " --edition 2" } else { "" };
+    let text = if is_text { " --no-directory" } else { "" };
+    format!("'dmtool directory FILE --append{second}{text}'")
 }
 
-/// What takes a directory off and puts the right one there, of one of some editions.
-fn mend(editions: &[Edition]) -> String {
-    let commands: Vec<&str> = editions.iter().map(|edition| append(*edition)).collect();
-    format!("take the directory off by 'dmtool directory FILE --remove' and append the right one by {}", commands.join(" or "))
-}
+/// What is said before a command where the directory may be the only sign of a loss.
+const COMPARE: &str = "may have lost a layer or other records since the directory was made: compare it with the original first";
 
 impl Directory<'_> {
     /// What to look at first stands first.
@@ -61,7 +58,7 @@ impl Directory<'_> {
                  --no-directory; if it ends a directory, records of the sheet are lost before it"
             ),
             (true, false) => {
-                format!("the sheet has no directory, its last record is {name}: append one by {}", append(Edition::First))
+                format!("the sheet has no directory, its last record is {name}: append one by {}", append(Edition::First, false))
             }
             (false, _) => "no directory stands behind the sheet".to_string(),
         })
@@ -139,17 +136,28 @@ impl Directory<'_> {
         ))
     }
 
-    /// The editions of which the right directory may be: that in which it is read; the other one too where its records are of both, or where its edition
-    /// column does not go with the letters of its last record and no other record tells.
+    /// The editions of which the right directory may be: those of its records; the other one too where its edition column does not go with the letters of
+    /// its last record and no other record tells.
     fn editions(&self) -> Vec<Edition> {
         let rows = self.numbers().any(|number| Edition::of_row(record(self.bytes, number)) == Some(self.edition));
         let other = Edition::of_end(self.end()) == Some(Edition::Second) && self.stated("edition") != Some(2);
-        let doubt = self.mixed().is_some() || other && !rows;
-        Edition::ALL.into_iter().filter(|edition| doubt || *edition == self.edition).collect()
+        let told = |edition: &Edition| self.pieces().any(|piece| signs::edition_of(piece) == Some(*edition));
+        let of = |edition: &Edition| *edition == self.edition || told(edition) || other && !rows;
+        Edition::ALL.into_iter().filter(of).collect()
+    }
+
+    /// What takes the directory off and puts the right one there.
+    fn mend(&self) -> String {
+        let is_text = is_end(record(self.bytes, self.before));
+        let commands: Vec<String> = self.editions().into_iter().map(|edition| append(edition, is_text)).collect();
+        format!(
+            "take the directory off by 'dmtool directory FILE --remove' and append the right one by {}",
+            commands.join(" or ")
+        )
     }
 
     /// The records that end a directory by their letters.
-    fn ends(&self) -> Vec<usize> {
+    pub fn ends(&self) -> Vec<usize> {
         self.numbers().filter(|number| is_end(record(self.bytes, *number))).collect()
     }
 
@@ -162,7 +170,7 @@ impl Directory<'_> {
     }
 
     /// The same where the first of them is right.
-    fn behind_another(&self) -> Option<String> {
+    pub fn behind_another(&self) -> Option<String> {
         let first = self.bytes.get(..self.ends().first()? * RECORD_BYTES)?;
         let several = self.several_ends().filter(|_| judge_either_edition(first, first.len()).is_ok())?;
         Some(format!("{several}, and the first of them is right"))
@@ -187,7 +195,7 @@ impl Directory<'_> {
     }
 
     /// Whether it lists the layers of the sheet as they stood before records were put in.
-    fn is_grown(&self) -> bool {
+    pub fn is_grown(&self) -> bool {
         let (listed, headers) = (self.listed(), self.headers());
         let more = self.made_for().map_or(0, |made| self.before as i64 - made as i64);
         let moved: Vec<i64> = headers.iter().zip(&listed).map(|(header, listed)| header - listed).chain([more]).collect();
@@ -225,32 +233,20 @@ impl Directory<'_> {
             _ if bytes.iter().all(|byte| *byte == b' ') => {
                 format!("record {other} behind the sheet holds nothing but spaces: a directory has no such record")
             }
-            Some(layout) => format!("{starts}, and its columns read as {}: only the letters seem wrong", layout.name),
+            Some(layout) if self.faults_of(other).iter().all(|fault| fault.column == "type") => {
+                format!("{starts}, and its columns read as {}: only the letters seem wrong", layout.name)
+            }
+            Some(layout) => format!("{starts}, and its columns read as {}", layout.name),
             None => format!("{starts}, as no record of a directory does: see in the original where it belongs"),
         })
     }
 
-    /// Whether it states more items or records of a layer than the sheet has there: of the layer that is due in that place, or of the one whose header it
-    /// names.
-    fn states_more(&self) -> bool {
-        let layers = self.sheet.as_ref().map_or(&[][..], |sheet| &sheet.layers);
-        let named = |header: i64| layers.binary_search_by_key(&header, |layer| layer.header.number as i64).ok();
-        self.entries().iter().enumerate().any(|(place, entry)| {
-            let other = entry.first().copied().flatten().and_then(named).and_then(|other| layers.get(other));
-            [layers.get(place), other].into_iter().flatten().any(|layer| is_more(entry, layer))
-        })
-    }
-
-    /// Whether it lists what the sheet does not have: the sheet may have lost it.
+    /// Whether it lists what the sheet does not have, or cannot tell, since it is cut off: the sheet may have lost something.
     fn is_doubtful(&self) -> bool {
-        let (listed, headers) = (self.listed(), self.headers());
-        let fewer = self.made_for().is_some_and(|made| made > self.before);
-        let states = self.stated("layers").is_some_and(|states| states > headers.len() as i64);
-        let others = listed.iter().any(|number| headers.binary_search(number).is_err());
         let doubled = self.repeated().is_some_and(|second| self.is_right_without(second));
-        let known = doubled || self.behind_another().is_some();
-        let lists_more = fewer || states || others || listed.len() > headers.len();
-        !known && (self.states_more() || lists_more && !self.is_grown())
+        let twice = doubled || self.behind_another().is_some();
+        let lists_more = self.listed().len() > self.headers().len() || self.states_more();
+        self.is_cut() || !doubled && self.shows_more() || !twice && lists_more
     }
 
     /// What to do next. A directory that is wrong may be the only sign that the sheet lost something.
@@ -258,12 +254,9 @@ impl Directory<'_> {
         if self.sheet.is_none() || self.other().is_some() {
             return None;
         }
-        let mend = mend(&self.editions());
+        let mend = self.mend();
         Some(match (self.is_doubtful(), self.stated("edition").is_some_and(|edition| edition > 2)) {
-            (true, _) => format!(
-                "the sheet before it is accepted, but may have lost a layer or other records since the directory was made: \
-                 compare it with the original first; if it is whole, {mend}"
-            ),
+            (true, _) => format!("the sheet before it is accepted, but {COMPARE}; if it is whole, {mend}"),
             (false, true) => format!("the sheet before it is accepted; if no program needs that edition, {mend}"),
             (false, false) => format!("the sheet before it is accepted: {mend}"),
         })
@@ -304,7 +297,7 @@ impl Directory<'_> {
         let (sheet, rest) = self.bytes.split_at(self.before * RECORD_BYTES);
         let next = match sheet_before_directory(self.bytes) {
             Some(_) => self.next().unwrap_or_default(),
-            None => form::without(sheet),
+            None => format!("the sheet {COMPARE}; {}", form::without(sheet)),
         };
         format!(
             "behind record {}: a directory of layers of {}, cut off, or with bytes of it lost or too many; {next}",
@@ -324,13 +317,6 @@ impl Directory<'_> {
         let next = next.unwrap_or_else(|| "see in the original where that belongs before you take it out".to_string());
         format!("{ends}: {}; {without}; {next}", length(rest))
     }
-}
-
-/// Whether what is listed of a layer, header, total and last record, is more than the layer holds.
-fn is_more(entry: &[Option<i64>], layer: &Layer) -> bool {
-    let [header, total, last] = entry else { return false };
-    let behind = last.zip(*header).map(|(last, header)| last.saturating_sub(header));
-    total.is_some_and(|total| total > layer.items as i64) || behind.is_some_and(|records| records >= layer.records as i64)
 }
 
 /// So many records and bytes; fewer bytes than a record as they are.
