@@ -416,10 +416,6 @@ module _ (used : ℕ) (buffer : List ℕ) (r : Found) (layer i : ℕ) (g : Reach
     unfolding numberFor
     number-is n q = q ∙ ap₂ numberIn (ap₂ (λ (a b : ℕ). a * ((layer - 1) % b) + i) own-is each-is) (of ∙ ap₂ (λ (x : List (List ℕ)) (k : ℕ). getD x k []) records-in row-is)
 
-pub each-some : (e : Edition) (each : ℕ) → each ≡ perRecord e → 0 < each
-each-some One each q = omega (arith, q)
-each-some Two each q = omega (arith, q)
-
 -- ---- jumping, by what was found
 module _ (answer : Answer Counts) (e : Edition) (used : ℕ) (buffer : List ℕ) (r : Found) (g : FoundAs answer e used buffer r) where
   pub answered : (v : Judged) → judgedAnswer v ≡ foundAnswer r → judgedAnswer v ≡ answer

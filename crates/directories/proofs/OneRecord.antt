@@ -25,7 +25,7 @@ use Rattle.columns.proofs.Laws.{column-at-inside}
 use Rattle.format_directory.specs.declared.Edition.{Edition}
 use Rattle.format_directory.specs.declared.Edition.the-variants.{One, Two}
 use Rattle.format_directory.specs.Directory.{letters, endLetters, endColumns, endListed, perLayer, perRecord, numberIn, pointerIn, isWritten, closingOk, isSecond}
-use Rattle.directory_columns.specs.Numbers.{numberIs}
+use Rattle.directory_columns.specs.Numbers.{numberIs, spacesFrom}
 use Rattle.directories.specs.Steps.{framed, othersWritten, closingIs}
 
 -- ---- `is_framed`
@@ -47,14 +47,11 @@ module _ (x y columns : ℕ) where
   second-other (a ∷ []) w e h = absurd (omega arith)
   second-other (a ∷ b ∷ r) w e h = rw (eq-eqb (length (a ∷ b ∷ r)) 84 w, eq-eqb a x e, ne-eqb b y h)
 
-  pub frame-is : (r : List ℕ) (t : Bool) → length r ≡ 84 → getD r 0 0 ≡ x → getD r 1 0 ≡ y → columns ≤ 11 → t ≡ spaces (take (84 - (2 + 7 * columns)) (drop (2 + 7 * columns) r)) → t ≡ framed (x ∷ y ∷ []) columns r
-  unfolding framed
+  pub frame-is : (r : List ℕ) (t : Bool) → length r ≡ 84 → getD r 0 0 ≡ x → getD r 1 0 ≡ y → columns ≤ 11 → t ≡ spacesFrom r columns → t ≡ framed (x ∷ y ∷ []) columns r
+  unfolding framed spacesFrom
   frame-is [] t w e f m h = absurd (omega arith)
   frame-is (a ∷ []) t w e f m h = absurd (omega arith)
-  frame-is (a ∷ b ∷ r) t w e f m h =
-      h
-      ∙ ap spaces (take-all (84 - (2 + 7 * columns)) (drop (2 + 7 * columns) (a ∷ b ∷ r)) (rw (length-drop (2 + 7 * columns) (a ∷ b ∷ r)) (omega arith)))
-      ∙ rw (eq-eqb (length (a ∷ b ∷ r)) 84 w, eq-eqb a x e, eq-eqb b y f)
+  frame-is (a ∷ b ∷ r) t w e f m h = h ∙ rw (eq-eqb (length (a ∷ b ∷ r)) 84 w, le-leb columns 11 m, eq-eqb a x e, eq-eqb b y f)
 
 -- the letters of each edition
 module _ (e : Edition) (t : Bool) (r : List ℕ) where

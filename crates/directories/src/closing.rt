@@ -27,8 +27,7 @@ pub(crate) fn is_framed(record: &[u8], first: u8, second: u8, columns: usize) ->
     if record[1] != second {
         return false;
     }
-    let start = LETTERS + WIDTH * columns;
-    columns::all_spaces(&record[start..RECORD])
+    directory_columns::spaces_from(record, columns)
 }
 
 // The closing record has its letters, its columns, and spaces behind them.

@@ -1,1 +1,3 @@
+pub mod BlankColumns
 pub mod Numbers
+pub mod PackedColumns

@@ -1,26 +1,33 @@
 -- The functions in the code's own words, and what callers cite of `numberIs`. Assumes nothing.
-use mathlib.Core.Path.{_≡_, refl, ap, sym, _∙_}
-use mathlib.Core.Bool.{Bool, true, false, not, _&&_}
+use mathlib.Core.Path.{_≡_, refl, ap, ap₂, sym, _∙_}
+use mathlib.Core.Bool.{Bool, true, false, not, _&&_, and-eq-true-iff}
 use mathlib.Core.List.{List, [], _∷_}
 use Prim.Native.Nat.{ℕ, suc, _+_, _-_, _*_, _/_, _%_, _≤_, _<_}
 use native.Mathlib.Numerals.{add-one}
 use native.Mathlib.Omega.{arith}
-use borrow.Author.Tests.{lt-leb, lt-ltb, le-ltb, not-true, not-false}
-use lib.Dec.{ltb, leb}
+use borrow.Author.Tests.{lt-leb, le-leb, lt-ltb, le-ltb, leb-true, ltb-true, ltb-false, eqb-true, not-true, not-false}
+use lib.Dec.{eqb, ltb, leb, leb·suc-suc}
 use lib.IntN.{pos}
-use lib.ListN.{getD}
+use lib.ListN.{length, getD}
 use mir.Syntax.{w64}
 use mir.Val.{Fits}
 use Rattle.format.specs.Basics.{roundUp}
 use Rattle.format.specs.Text.{same}
 use Rattle.format.specs.Column.{fits, widthOk, written}
 use Rattle.format.specs.Layout.{column}
+use Rattle.format.proofs.Columns.{length-column}
+use Rattle.format.proofs.ColumnFits.{fits-plus}
 use Rattle.columns.specs.InRecord.{isWrittenAt}
 use Rattle.format_directory.specs.declared.Edition.{Edition}
 use Rattle.format_directory.specs.declared.Edition.the-variants.{One, Two}
 use Rattle.format_directory.specs.Directory.{perLayer, perRecord}
+use Rattle.files.specs.declared.Stride.the-variants.{Plain}
+use Rattle.files.specs.Records.{recordsOf}
+use Rattle.files.proofs.Records.{no-record, record-wide}
 use Rattle.directory_columns.specs.declared.LayerNumbers.{LayerNumbers}
-use Rattle.directory_columns.specs.Numbers.{numberIs, numbersAre, listedOf, listsLayer}
+use Rattle.directory_columns.specs.PackedColumns.{Packs, packedNumber}
+use Rattle.directory_columns.proofs.PackedColumns.{packed-decides}
+use Rattle.directory_columns.specs.Numbers.{hasColumn, numberIs, numbersAre, listedOf, listsLayer}
 
 -- ---- `per_record`, `rows`
 pub some-each : (e : Edition) (each : ℕ) → each ≡ perRecord e → 0 < each
@@ -39,15 +46,76 @@ pub some-rows : (e : Edition) (each layers : ℕ) → each ≡ perRecord e → (
 some-rows One each layers q h = rw q (omega arith)
 some-rows Two each layers q h = rw q (omega arith)
 
--- ---- `number_is`
-module _ (r : List ℕ) (k n : ℕ) where
-  pub no-column : 11 ≤ k → false ≡ numberIs r k n
-  unfolding numberIs
+-- ---- `has_column`
+module _ (r : List ℕ) (k : ℕ) where
+  pub no-column : 11 ≤ k → false ≡ hasColumn r k
+  unfolding hasColumn
   no-column h = rw (le-ltb k 11 h)
 
-  pub compared : (t : Bool) → k < 11 → t ≡ isWrittenAt r (2 + 7 * k) 7 (pos n) → t ≡ numberIs r k n
-  unfolding numberIs
-  compared t h e = e ∙ rw (lt-ltb k 11 h)
+  pub column-whole : k < 11 → leb (2 + 7 * k + 7) (length r) ≡ hasColumn r k
+  unfolding hasColumn
+  column-whole h = rw (lt-ltb k 11 h)
+
+-- what is known of a column that is there
+pub record Column (r : List ℕ) (k : ℕ) : Type 0 where
+  pub low : k < 11
+  pub whole : 2 + 7 * k + 7 ≤ length r
+
+column-of : (r : List ℕ) (k : ℕ) → hasColumn r k ≡ true → Column r k
+unfolding hasColumn
+column-of r k h =
+    let both = and-eq-true-iff (ltb k 11) (leb (2 + 7 * k + 7) (length r)) .0 h in
+    record { low = ltb-true k 11 (both .0); whole = leb-true (2 + 7 * k + 7) (length r) (both .1) }
+
+pub column-there : (r : List ℕ) (k : ℕ) (t : Bool) → t ≡ hasColumn r k → not t ≡ false → Column r k
+column-there r k t e h = column-of r k (sym e ∙ not-false t h)
+
+module _ (r : List ℕ) (k : ℕ) (g : Column r k) where
+  pub tens-fit : Fits w64 (7 * k)
+  tens-fit = record { fits = omega (arith, g .low) }
+
+  pub start-fits : Fits w64 (2 + 7 * k)
+  start-fits = record { fits = omega (arith, g .low) }
+
+-- ---- `number_is`, `near_number_is`
+module _ (r : List ℕ) (k n : ℕ) where
+  number-same : numberIs r k n ≡ hasColumn r k && (leb n 9999999 && same (column (2 + 7 * k) 7 r) (written 7 (pos n)))
+  unfolding numberIs hasColumn isWrittenAt
+  number-same = ap (λ (t : Bool). ltb k 11 && ((t && leb (2 + 7 * k + 7) (length r)) && same (column (2 + 7 * k) 7 r) (written 7 (pos n)))) (fits-plus 7 n (omega arith) (omega arith) ∙ leb·suc-suc n 9999999) ∙ in-order (ltb k 11) (leb n 9999999) (leb (2 + 7 * k + 7) (length r)) (same (column (2 + 7 * k) 7 r) (written 7 (pos n)))
+    where
+      in-order : (a m l s : Bool) → a && ((m && l) && s) ≡ (a && l) && (m && s)
+      in-order true true true s = refl
+      in-order true true false s = refl
+      in-order true false true s = refl
+      in-order true false false s = refl
+      in-order false m l s = refl
+
+  pub column-lacks : (t : Bool) → t ≡ hasColumn r k → not t ≡ true → false ≡ numberIs r k n
+  column-lacks t e h = sym (number-same ∙ ap (λ (x : Bool). x && (leb n 9999999 && same (column (2 + 7 * k) 7 r) (written 7 (pos n)))) (sym e ∙ not-true t h))
+
+  compared-there : (p q : ℕ) → hasColumn r k ≡ true → Packs (column (2 + 7 * k) 7 r) p → q ≡ packedNumber n → eqb p q ≡ numberIs r k n
+  compared-there p q h c w = packed-decides (column (2 + 7 * k) 7 r) p q n (length-column (2 + 7 * k) 7 r (column-of r k h .whole)) c w ∙ sym (number-same ∙ ap (λ (x : Bool). x && (leb n 9999999 && same (column (2 + 7 * k) 7 r) (written 7 (pos n)))) h)
+
+  -- the two columns compared as numbers
+  pub compared : (t : Bool) (p q : ℕ) → t ≡ hasColumn r k → not t ≡ false → Packs (column (2 + 7 * k) 7 r) p → q ≡ packedNumber n → eqb p q ≡ numberIs r k n
+  compared t p q e h c w = compared-there p q (sym e ∙ not-false t h) c w
+
+  -- a column that holds a number
+  module _ (is : numberIs r k n ≡ true) where
+    own-parts : (hasColumn r k ≡ true) × (leb n 9999999 && same (column (2 + 7 * k) 7 r) (written 7 (pos n)) ≡ true)
+    own-parts = and-eq-true-iff (hasColumn r k) (leb n 9999999 && same (column (2 + 7 * k) 7 r) (written 7 (pos n))) .0 (sym number-same ∙ is)
+
+    pub holds-column : Column r k
+    holds-column = column-of r k (own-parts .0)
+
+    pub holds-whole : 2 + 7 * k + 7 ≤ length r
+    holds-whole = holds-column .whole
+
+    pub holds-most : n ≤ 9999999
+    holds-most = leb-true n 9999999 (and-eq-true-iff (leb n 9999999) (same (column (2 + 7 * k) 7 r) (written 7 (pos n))) .0 (own-parts .1) .0)
+
+    pub holds-packed : (p : ℕ) → Packs (column (2 + 7 * k) 7 r) p → p ≡ packedNumber n
+    holds-packed p c = eqb-true p (packedNumber n) (compared-there p (packedNumber n) (own-parts .0) c refl ∙ is)
 
 -- ---- `numbers_are`
 module _ (r : List ℕ) (k : ℕ) (n : LayerNumbers) (t : Bool) (t-is : t ≡ numberIs r k (n .header)) where
@@ -57,6 +125,9 @@ module _ (r : List ℕ) (k : ℕ) (n : LayerNumbers) (t : Bool) (t-is : t ≡ nu
   header-differs Two h = rw (← t-is, not-true t h)
 
   module _ (h : not t ≡ false) where
+    pub header-there : numberIs r k (n .header) ≡ true
+    header-there = sym t-is ∙ not-false t h
+
     pub header-alone : (e : Edition) → e ≡ One → true ≡ numbersAre r k (listedOf e n)
     unfolding listedOf
     header-alone e is = rw (is, ← t-is, not-false t h)
@@ -100,3 +171,15 @@ pub nothing-lists : (e : Edition) (layer : ℕ) (n : LayerNumbers) → listsLaye
 unfolding listsLayer listedOf
 nothing-lists One layer n = ap (λ (t : Bool). t && true) (nothing-is (1 * (layer % 11)) (n .header))
 nothing-lists Two layer n = ap (λ (t : Bool). t && numbersAre [] (suc (3 * (layer % 3))) (n .total ∷ n .last ∷ [])) (nothing-is (3 * (layer % 3)) (n .header))
+
+-- what is no record of 84 bytes is none of the directory's
+pub no-record-lists : (e : Edition) (directory : List ℕ) (each layer : ℕ) (n : LayerNumbers) (record₁ : List ℕ) → each ≡ perRecord e → record₁ ≡ getD (recordsOf Plain directory) (layer / each) [] → (length record₁ ≡ 84 → ⊥) → false ≡ listsLayer e (recordsOf Plain directory) layer (listedOf e n)
+unfolding listsLayer
+no-record-lists e directory each layer n record₁ q p ne = sym (nothing-lists e layer n) ∙ ap (λ (r : List ℕ). numbersAre r (perLayer e * (layer % perRecord e)) (listedOf e n)) (past ∙ ap (λ (k : ℕ). getD (recordsOf Plain directory) (layer / k) []) q)
+  where
+    past : [] ≡ getD (recordsOf Plain directory) (layer / each) []
+    past = no-record Plain directory (length (recordsOf Plain directory)) (layer / each) refl (go (ltb (layer / each) (length (recordsOf Plain directory))) refl)
+      where
+        go : (t : Bool) → ltb (layer / each) (length (recordsOf Plain directory)) ≡ t → length (recordsOf Plain directory) ≤ layer / each
+        go true l = absurd (ne (ap length p ∙ record-wide Plain directory (layer / each) (ltb-true (layer / each) (length (recordsOf Plain directory)) l)))
+        go false l = ltb-false (layer / each) (length (recordsOf Plain directory)) l

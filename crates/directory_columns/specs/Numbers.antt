@@ -3,14 +3,23 @@
 use mathlib.Core.Bool.{Bool, true, _&&_}
 use mathlib.Core.List.{List, [], _∷_}
 use Prim.Native.Nat.{ℕ, suc, _+_, _*_, _/_, _%_}
-use lib.Dec.{ltb}
+use lib.Dec.{eqb, ltb, leb}
 use lib.IntN.{pos}
-use lib.ListN.{getD}
+use lib.ListN.{length, drop, getD}
+use Rattle.format.specs.Layout.{spaces}
 use Rattle.columns.specs.InRecord.{isWrittenAt}
 use Rattle.format_directory.specs.declared.Edition.{Edition}
 use Rattle.format_directory.specs.declared.Edition.the-variants.{One, Two}
 use Rattle.format_directory.specs.Directory.{perLayer, perRecord}
 use Rattle.directory_columns.specs.declared.LayerNumbers.{LayerNumbers}
+
+-- a record has column k whole
+unfoldable pub hasColumn : List ℕ → (k : ℕ) → Bool
+hasColumn r k = ltb k 11 && leb (2 + 7 * k + 7) (length r)
+
+-- spaces from column k on
+unfoldable pub spacesFrom : List ℕ → (k : ℕ) → Bool
+spacesFrom r k = eqb (length r) 84 && (leb k 11 && spaces (drop (2 + 7 * k) r))
 
 -- column k of a record, from 0, of the eleven that it has behind its two letters
 unfoldable pub numberIs : List ℕ → (k number : ℕ) → Bool

@@ -1,5 +1,6 @@
 -- `number_of`: one record of the directory, one column. Assumes nothing.
-use Rattle.directories.proofs.Judging.{number-low, number-some, each-some, number-row, number-inside, number-taken, number-place, number-column, number-wide, number-small, number-is}
+use Rattle.directory_columns.proofs.Numbers.{some-each}
+use Rattle.directories.proofs.Judging.{number-low, number-some, number-row, number-inside, number-taken, number-place, number-column, number-wide, number-small, number-is}
 use borrow.Author.Needs.{needs}
 use Rattle.directories.proofs.number_of.Statement.{statement}
 use Rattle.directories.proofs.number_of.Tie as tie
@@ -17,7 +18,7 @@ sub-row-2 : tie.Need-sub-row-2
 sub-row-2 c = search number-some
 
 div-row : tie.Need-div-row
-div-row c = search each-some
+div-row c = search some-each
 
 add-row : tie.Need-add-row
 add-row c = search number-row
@@ -32,7 +33,7 @@ sub-number-in : tie.Need-sub-number-in
 sub-number-in c = search number-some
 
 rem-number-in : tie.Need-rem-number-in
-rem-number-in c = search each-some
+rem-number-in c = search some-each
 
 mul-number-in : tie.Need-mul-number-in
 mul-number-in c = search number-place

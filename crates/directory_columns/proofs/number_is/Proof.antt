@@ -1,24 +1,42 @@
 -- `number_is` compares one column. Assumes nothing.
-use Rattle.directory_columns.proofs.Numbers.{no-column, compared}
+use Rattle.directory_columns.proofs.Numbers.{Column, column-there, column-lacks, tens-fit, start-fits, compared}
+use denote.Ref.{now}
 use borrow.Author.Needs.{needs}
 use Rattle.directory_columns.proofs.number_is.Statement.{statement}
 use Rattle.directory_columns.proofs.number_is.Tie as tie
 
+has-column-requires : tie.Need-has-column-requires
+has-column-requires c κs = search needs
+
 returns : tie.Need-returns
-returns c = search no-column
+returns c = search column-lacks
 
-mul-is-number-at : tie.Need-mul-is-number-at
-mul-is-number-at c = search needs
+known : (c : tie.Else1) → Column (now (c .before .before .before .args .«record»)) (c .before .before .before .args .k)
+known c = column-there _ _ _ (c .before .has-column .ensures) (c .if1 .left)
 
-add-is-number-at : tie.Need-add-is-number-at
-add-is-number-at c = search needs
+mul-packed-at : tie.Need-mul-packed-at
+mul-packed-at c = tens-fit _ _ (known c)
 
-is-number-at-requires : tie.Need-is-number-at-requires
-is-number-at-requires c κs = search needs
+add-packed-at : tie.Need-add-packed-at
+add-packed-at c = start-fits _ _ (known c)
+
+packed-at-requires : tie.Need-packed-at-requires
+packed-at-requires c κs = (search needs, known c .whole)
+
+packed-number-requires : tie.Need-packed-number-requires
+packed-number-requires c κs = search needs
 
 returns-2 : tie.Need-returns-2
 returns-2 c = search compared
 
 pub number-is-spec : {M : Type 1} → statement M
 number-is-spec =
-    tie.close (tie.spec returns mul-is-number-at add-is-number-at is-number-at-requires returns-2)
+    tie.close
+    (tie.spec
+    has-column-requires
+    returns
+    mul-packed-at
+    add-packed-at
+    packed-at-requires
+    packed-number-requires
+    returns-2)

@@ -1,5 +1,5 @@
 -- `numbers_are` compares column after column. Assumes nothing.
-use Rattle.directory_columns.proofs.Numbers.{header-differs, header-alone, total-differs, last-decides}
+use Rattle.directory_columns.proofs.Numbers.{header-differs, header-alone, header-there, total-differs, last-decides}
 use borrow.Author.Needs.{needs}
 use Rattle.directory_columns.proofs.numbers_are.Statement.{statement}
 use Rattle.directory_columns.proofs.numbers_are.Tie as tie
@@ -25,11 +25,11 @@ number-is-requires-2 c κs = search needs
 returns-2 : tie.Need-returns-2
 returns-2 c = search total-differs
 
-add-number-is-2 : tie.Need-add-number-is-2
-add-number-is-2 c = search needs
+add-near-number-is : tie.Need-add-near-number-is
+add-near-number-is c = search needs
 
-number-is-requires-3 : tie.Need-number-is-requires-3
-number-is-requires-3 c κs = search needs
+near-number-is-requires : tie.Need-near-number-is-requires
+near-number-is-requires c κs = search header-there
 
 returns-3 : tie.Need-returns-3
 returns-3 c = search header-alone
@@ -48,7 +48,7 @@ numbers-are-spec =
     add-number-is
     number-is-requires-2
     returns-2
-    add-number-is-2
-    number-is-requires-3
+    add-near-number-is
+    near-number-is-requires
     returns-3
     returns-4)

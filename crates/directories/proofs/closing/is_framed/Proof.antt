@@ -19,23 +19,8 @@ shared-slice-read-if3 c = search needs
 returns-3 : tie.Need-returns-3
 returns-3 c = search second-other
 
-mul-start : tie.Need-mul-start
-mul-start c = search needs
-
-add-start : tie.Need-add-start
-add-start c = search needs
-
-sub-all-spaces : tie.Need-sub-all-spaces
-sub-all-spaces c = search needs
-
-part-all-spaces-start : tie.Need-part-all-spaces-start
-part-all-spaces-start c = search needs
-
-part-all-spaces-end : tie.Need-part-all-spaces-end
-part-all-spaces-end c = search needs
-
-all-spaces-requires : tie.Need-all-spaces-requires
-all-spaces-requires c κs = search needs
+spaces-from-requires : tie.Need-spaces-from-requires
+spaces-from-requires c κs = search needs
 
 returns-4 : tie.Need-returns-4
 returns-4 c = search frame-is
@@ -49,10 +34,5 @@ is-framed-spec =
     returns-2
     shared-slice-read-if3
     returns-3
-    mul-start
-    add-start
-    sub-all-spaces
-    part-all-spaces-start
-    part-all-spaces-end
-    all-spaces-requires
+    spaces-from-requires
     returns-4)

@@ -1,0 +1,127 @@
+// A column of seven bytes as one number, of which its first byte is the lowest: two columns have the same bytes exactly when these numbers are equal, so that
+// one comparison tells what seven would.
+ghost use mathlib.Core.Path.{_≡_};
+ghost use Prim.Native.Nat.{_+_, _≤_};
+ghost use lib.ListN.{length};
+ghost use Rattle.format.specs.Layout.{column};
+ghost use Rattle.directory_columns.specs.PackedColumns.{Packs, packedNumber, zerosPart, digitsPart};
+
+// The place of the last byte, that of the digit of ones.
+const ONES: u64 = 0x1000000000000;
+
+// The place of the byte before it.
+const TENS: u64 = 0x10000000000;
+
+// More than any seven bytes.
+const NONE: u64 = 0x100000000000000;
+
+// The greatest number that seven digits hold.
+const MOST: usize = 9999999;
+
+fn wide(byte: u8) -> u64
+    ensures { λ r. ⌜ (r ≡ byte) × (r ≤ 255) ⌝ }
+{
+    byte as u64
+}
+
+// The eight bytes from `start`, which the machine reads at once.
+pub(crate) fn eight_at(record: &[u8], start: usize) -> u64
+    requires { ⌜ start + 8 ≤ length (now «record») ⌝ }
+    ensures { λ r. ⌜ Packs (column start 8 (now («record» .entry))) r ⌝ }
+{
+    wide(record[start])
+        + wide(record[start + 1]) * 0x100
+        + wide(record[start + 2]) * 0x10000
+        + wide(record[start + 3]) * 0x1000000
+        + wide(record[start + 4]) * 0x100000000
+        + wide(record[start + 5]) * 0x10000000000
+        + wide(record[start + 6]) * 0x1000000000000
+        + wide(record[start + 7]) * 0x100000000000000
+}
+
+// The seven bytes of a column, which are read with the one before them.
+pub(crate) fn packed_at(record: &[u8], start: usize) -> u64
+    requires { ⌜ (1 ≤ start) × (start + 7 ≤ length (now «record»)) ⌝ }
+    ensures { λ r. ⌜ Packs (column start 7 (now («record» .entry))) r ⌝ }
+{
+    eight_at(record, start - 1) / 0x100
+}
+
+// A number of two to four digits with 0 for each of them.
+fn few_zeros(n: u32) -> u64
+    requires { ⌜ (10 ≤ n) × (n ≤ 9999) ⌝ }
+    ensures { λ r. ⌜ r ≡ zerosPart 7 n ⌝ }
+{
+    if n < 100 {
+        0x30302020202020
+    } else if n < 1000 {
+        0x30303020202020
+    } else {
+        0x30303030202020
+    }
+}
+
+// The same of any number of two digits or more that fits a column.
+fn zeros(n: u32) -> u64
+    requires { ⌜ (10 ≤ n) × (n ≤ 9999999) ⌝ }
+    ensures { λ r. ⌜ r ≡ zerosPart 7 n ⌝ }
+{
+    if n < 10000 {
+        few_zeros(n)
+    } else if n < 100000 {
+        0x30303030302020
+    } else if n < 1000000 {
+        0x30303030303020
+    } else {
+        0x30303030303030
+    }
+}
+
+// What the digits add to that. A digit is what its number has more than ten times its tenth; a place is 256 times the place before it, so every tenth but the
+// first is taken 2,559 times.
+fn digits(n: u32) -> u64
+    requires { ⌜ n ≤ 9999999 ⌝ }
+    ensures { λ r. ⌜ r ≡ digitsPart 7 n ⌝ }
+{
+    let a = n / 10;
+    let b = a / 10;
+    let c = b / 10;
+    let d = c / 10;
+    let e = d / 10;
+    let f = e / 10;
+    let tenths = (((b as u64) * 256 + (c as u64)) * 256 + (d as u64)) * 65536
+        + (e as u64) * 256
+        + (f as u64);
+    ((n - 10 * a) as u64) * ONES + ((a as u64) * TENS - 2559 * tenths)
+}
+
+// A number in written form; what no column is where it does not fit one.
+pub(crate) fn packed_number(number: usize) -> u64
+    ensures { λ r. ⌜ r ≡ packedNumber number ⌝ }
+{
+    if number < 10 {
+        return 0x30202020202020 + (number as u64) * ONES;
+    }
+    if MOST < number {
+        return NONE;
+    }
+    let n = number as u32;
+    zeros(n) + digits(n)
+}
+
+// The same, where that of another number is at hand: numbers that differ in their last digit alone differ in their last byte alone.
+pub(crate) fn packed_near(number: usize, other: usize, of_other: u64) -> u64
+    requires { ⌜ (other ≤ 9999999) × («of_other» ≡ packedNumber other) ⌝ }
+    ensures { λ r. ⌜ r ≡ packedNumber number ⌝ }
+{
+    if number == other {
+        return of_other;
+    }
+    if number < other {
+        return packed_number(number);
+    }
+    if number / 10 != other / 10 {
+        return packed_number(number);
+    }
+    of_other + ((number - other) as u64) * ONES
+}
