@@ -29,7 +29,7 @@ same-last [] (c ∷ b) x y e = absurd (omega arith)
 same-last (c ∷ a) [] x y e = absurd (omega arith)
 same-last (c ∷ a) (d ∷ b) x y e = ap (λ (t : Bool). eqb c d && t) (same-last a b x y (omega arith)) ∙ sym (and-assoc (eqb c d) (same a b) (eqb x y))
 
-pub length-filled : (w : ℕ) (s : Rest) → length (filled w s) ≡ w
+length-filled : (w : ℕ) (s : Rest) → length (filled w s) ≡ w
 unfolding filled
 length-filled zero s = refl
 length-filled (suc w) s = length-append (filled w (beforeOf s)) (byteOf s ∷ []) ∙ (omega (arith, length-filled w (beforeOf s)))
@@ -38,7 +38,7 @@ module _ (l : List ℕ) (s : Rest) where
   pub none-compared : same (take (length l) l) (filled (length l) s) ≡ same l (filled (length l) s)
   none-compared = ap (λ (x : List ℕ). same x (filled (length l) s)) (take-length l)
 
-  pub one-less : (j : ℕ) → suc j ≤ length l → same (take (suc j) l) (filled (suc j) s) ≡ same (take j l) (filled j (beforeOf s)) && eqb (getD l j 0) (byteOf s)
+  one-less : (j : ℕ) → suc j ≤ length l → same (take (suc j) l) (filled (suc j) s) ≡ same (take j l) (filled j (beforeOf s)) && eqb (getD l j 0) (byteOf s)
   unfolding filled
   one-less j h = ap (λ (x : List ℕ). same x (filled j (beforeOf s) ++ (byteOf s ∷ []))) (take-suc l j 0 h) ∙ same-last (take j l) (filled j (beforeOf s)) (getD l j 0) (byteOf s) (length-take-le j l (omega arith) ∙ sym (length-filled j (beforeOf s)))
 

@@ -9,4 +9,3 @@ pub mod InRecord
 pub mod NumberIn
 pub mod Spaces
 pub mod Compared
-pub mod Digits

@@ -55,7 +55,7 @@ padded-more w t s e h =
     let k : suc w - (length t + 1) ≡ w - length t = omega arith in
     simp (e, append-assoc, length-append, k)
 
-pub all-spaces : (w : ℕ) → filled w Spaces ≡ replicate w 32
+all-spaces : (w : ℕ) → filled w Spaces ≡ replicate w 32
 unfolding filled byteOf beforeOf
 all-spaces zero = refl
 all-spaces (suc w) = rw (all-spaces w) (replicate-append-replicate w 1 32 ∙ rw add-one)

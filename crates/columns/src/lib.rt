@@ -1,11 +1,10 @@
 // One integer column: leading spaces, at most one minus, then one digit or more to the last byte. It is read in one pass, and
 // written in written form (shortest digits, spaces in front), alone or inside a record.
 ghost use mathlib.Core.Path.{_≡_};
-ghost use mathlib.Core.Bool.{_&&_};
 ghost use Prim.Native.Nat.{_≤_, _<_, _^_};
 ghost use lib.ListN.{length};
-ghost use lib.IntN.{natAbs, pos};
-ghost use Rattle.format.specs.Column.{columnOf, integer, fits, written, readAlone, writeAlone};
+ghost use lib.IntN.{natAbs};
+ghost use Rattle.format.specs.Column.{columnOf, integer, readAlone, writeAlone};
 ghost use Rattle.format.specs.Text.{same};
 ghost use Rattle.format.specs.Layout.{spaces};
 ghost use Rattle.format.specs.Answers.{numberAnswer, writtenAnswer};
@@ -380,43 +379,4 @@ pub fn is_written_at(record: &[u8], start: usize, width: usize, value: i64) -> b
         Choice::Refuse => false,
         Choice::Write(first) => is_filled(&record[start..start + width], first),
     }
-}
-
-// The column is the digits of a number, with spaces in front.
-fn is_digits(column: &[u8], number: u64) -> bool
-    requires { ⌜ (1 ≤ length (now column)) × (length (now column) ≤ 18) ⌝ }
-    ensures { λ r. ⌜ r ≡ (fits (length (now (column .entry))) (pos number) && same (now (column .entry)) (written (length (now (column .entry))) (pos number))) ⌝ }
-{
-    let mut left = number;
-    let mut i = column.len();
-    while 0 < i {
-        i -= 1;
-        if column[i] != b'0' + ((left % 10) as u8) {
-            return false;
-        }
-        if left < 10 {
-            return all_spaces(&column[..i]);
-        }
-        left = left / 10;
-    }
-    false
-}
-
-// The same as `is_written_at` of a number that is not negative: no digit of it is made twice, and none behind the first that differs.
-pub fn is_number_at(record: &[u8], start: usize, width: usize, number: u64) -> bool
-    ensures { λ r. ⌜ r ≡ isWrittenAt (now («record» .entry)) start width (pos number) ⌝ }
-{
-    if record.len() < start {
-        return false;
-    }
-    if record.len() - start < width {
-        return false;
-    }
-    if width < 1 {
-        return false;
-    }
-    if WIDEST < width {
-        return false;
-    }
-    is_digits(&record[start..start + width], number)
 }
