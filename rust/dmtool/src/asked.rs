@@ -25,8 +25,18 @@ impl<'a> Asked<'a> {
         self.reading.form.plain(self.bytes).map_err(|refusal| explain::file(self, refusal))
     }
 
-    /// The same without its directory, where that is right. What is edited is the sheet before a directory, and nothing of it is lost where the directory
-    /// is made anew.
+    /// The same with what is left of a last record that is cut off.
+    pub fn plain_or_cut(&self) -> Result<Cow<'a, [u8]>, Failure> {
+        let (form, left) = (self.reading.form, self.bytes.len() % self.reading.form.record_bytes());
+        let whole = self.bytes.get(..self.bytes.len() - left).unwrap_or(self.bytes);
+        match form.plain(whole) {
+            Ok(_) if (1..RECORD_BYTES).contains(&left) => Ok(form.records(self.bytes)),
+            _ => self.plain(),
+        }
+    }
+
+    /// Its records without those of its directory, where that is right. What is edited is the sheet before a directory, and nothing of it is lost where
+    /// the directory is made anew.
     pub fn sheet(&self) -> Result<Cow<'a, [u8]>, Failure> {
         let plain = self.plain()?;
         if !self.reading.directory {

@@ -148,27 +148,27 @@ fn remove(arguments: &Arguments, out: &mut impl Write) -> Done {
     let job = Job::open(arguments, path, target(arguments, path)?)?;
     files::whole(path, &job.bytes)?;
     let asked = Asked::of(arguments, path, &job.bytes);
-    let plain = asked.plain()?;
+    let plain = asked.plain_or_cut()?;
     let sheet = sheet_before_directory(&plain).filter(|sheet| sheet.len() < plain.len());
     let sheet = match (sheet, asked.reading.judge(asked.bytes)) {
         (Some(sheet), _) => sheet,
         (None, Ok(_)) => return unchanged(job, "it has no directory", out),
         (None, Err(refusal)) => return Err(explain::directory(&asked, refusal)),
     };
-    let done = as_read(asked.reading.form.into(), sheet, removed(&plain, sheet));
     let result = asked.reading.form.file(sheet).map_err(|refusal| explain::file(&asked, refusal))?.into_owned();
+    let done = as_read(asked.reading.form.into(), sheet, removed(&plain, sheet, asked.bytes.len() - result.len()));
     job.deliver_and_say(&result, &done, out)
 }
 
-/// What is taken off a file, in words.
-fn removed(plain: &[u8], sheet: &[u8]) -> String {
+/// What is taken off a file, so many bytes of it, in words.
+fn removed(plain: &[u8], sheet: &[u8], off: usize) -> String {
     let wrong = judge_either_edition(plain, plain.len()).err().map_or(String::new(), |refusal| {
         let at = refusal.record.map_or(String::new(), |record| format!(" at record {record}"));
         format!(", which was refused {}{at}", refusal.number())
     });
     let taken = match plain.len() - sheet.len() {
         bytes if bytes.is_multiple_of(RECORD_BYTES) => records_of(bytes),
-        bytes => number_of(bytes as u64, "byte"),
+        _ => number_of(off as u64, "byte"),
     };
     let now = judge_sheet(sheet, sheet.len()).map_or_else(|refusal| refusal.to_string(), |counts| counts.to_string());
     // A text may read like the end of a directory.

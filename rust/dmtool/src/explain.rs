@@ -35,7 +35,13 @@ pub fn run(arguments: &Arguments, out: &mut impl Write) -> Done {
 /// marked columns.
 fn print(asked: &Asked, refusal: Refusal, line: &str, out: &mut impl Write) -> io::Result<()> {
     let Explanation { faults, notes, .. } = explain_as(asked.reading, asked.bytes, refusal);
-    let unsaid = notes.iter().filter(|note| !line.contains(note.as_str()));
+    let whole = files::is_whole(asked.bytes);
+    if !whole {
+        writeln!(out, "{}: what is said here is of that part", files::longer())?;
+    }
+    // No command takes a directory off a file that was not read to its end.
+    let names_none = |note: &str| whole || !note.contains("'dmtool directory ");
+    let unsaid = notes.iter().filter(|note| !line.contains(note.as_str()) && names_none(note));
     unsaid.map(|note| files::with_name(note, asked.path)).try_for_each(|note| writeln!(out, "{note}"))?;
     let (records, mut others) = (asked.reading.form.records(asked.bytes), Vec::new());
     for record in asked.reading.outline(&records) {

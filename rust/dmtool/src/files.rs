@@ -24,14 +24,16 @@ pub fn is_whole(bytes: &[u8]) -> bool {
 
 /// That bytes are all of their file, where a directory at its end is asked for: behind what is read of a longer file stands more than is known.
 pub fn whole(path: &OsStr, bytes: &[u8]) -> Result<(), Failure> {
-    let most = MOST_RECORDS + MOST_DIRECTORY_RECORDS;
     match is_whole(bytes) {
         true => Ok(()),
-        false => Err(unchanged(
-            path,
-            &format!("it is longer than the largest sheet with its directory, {most} records, and is read no further"),
-        )),
+        false => Err(unchanged(path, &longer())),
     }
+}
+
+/// That a file is longer than what was read of it.
+pub fn longer() -> String {
+    let most = MOST_RECORDS + MOST_DIRECTORY_RECORDS;
+    format!("it is longer than the largest sheet with its directory, {most} records, and is read no further")
 }
 
 /// Reads as much as a file may have into a buffer.

@@ -387,6 +387,32 @@ fn a_directory_that_is_cut_off() {
     }
 }
 
+/// The same with line ends; not where a line end before it is wrong.
+#[test]
+fn a_directory_that_is_cut_off_with_line_ends() {
+    let f = Folder::new("directory_lines_cut_off");
+    let (file, sheet) = (lines(&filed(&layered(12))), lines(&layered(12)));
+    for bytes in [2, 40, 83, 86 + 2, 86 + 40, 2 * 86 + 83] {
+        f.put("sheet.dm", &file[..sheet.len() + bytes]);
+        let explained = f.run(&["explain", "sheet.dm"]).text();
+        let note = "behind record 17: a directory of layers of ";
+        assert!(explained.contains(note) && explained.contains("compare it with the original first"), "{explained}");
+        assert!(explained.contains("by 'dmtool directory sheet.dm --remove' and append the right one by "), "{explained}");
+        let ran = f.run(&["directory", "sheet.dm", "--remove"]);
+        let said = format!(
+            "sheet.dm: removed its directory, {bytes} bytes, which was refused 1; now accepted 17 records 0 items (line ends)\n"
+        );
+        assert_eq!((ran.text(), f.get("sheet.dm")), (said, sheet.clone()));
+        assert_eq!(f.run(&["directory", "sheet.dm", "--append"]).status, Some(0));
+        assert!(f.get("sheet.dm") == file);
+    }
+    let mut wrong = file[..sheet.len() + 40].to_vec();
+    wrong[84..86].reverse();
+    f.put("sheet.dm", &wrong);
+    assert!(!f.run(&["explain", "sheet.dm"]).text().contains("--remove"));
+    assert_eq!((f.run(&["directory", "sheet.dm", "--remove"]).status, f.get("sheet.dm")), (Some(1), wrong));
+}
+
 #[test]
 fn read_with_a_directory_or_without() {
     let f = Folder::new("directory_forced");
@@ -560,6 +586,12 @@ fn longer_than_the_largest() {
         );
     }
     assert!(f.get("behind.dm") == more && !f.names().contains(&"other.dm".to_string()));
+    f.put("lines.dm", &lines(&more));
+    for name in ["behind.dm", "lines.dm"] {
+        let explained = f.run(&["explain", name]).text();
+        let part = "\nit is longer than the largest sheet with its directory, 266666 records, and is read no further: what is said here is of that part\n";
+        assert!(explained.contains(part) && !explained.contains("dmtool"), "{explained}");
+    }
 }
 
 /// Killed at any moment while a directory is appended or taken off: the old file or the new one.

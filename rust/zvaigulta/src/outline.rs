@@ -198,6 +198,14 @@ impl DirectoryRecord {
             DirectoryRecord::End(edition) => edition.end_layout(),
         }
     }
+
+    /// The letters with which it starts.
+    pub(crate) fn letters(self) -> &'static [u8] {
+        match self {
+            DirectoryRecord::Row(edition) => edition.letters(),
+            DirectoryRecord::End(edition) => edition.end_letters(),
+        }
+    }
 }
 
 /// What a record is that stands in a directory, the last of the file or not: by its letters, else by its columns, read in the edition of the others; none

@@ -306,7 +306,7 @@ const ROWS: &[Damage] = &[
         "other letters at the end",
         || with(file(), 30, 1, "F"),
         (19, 30),
-        &["is \"YF\", must be \"YE\"", "only the letters seem wrong", NO_COMMAND],
+        &["is \"YF\", must be \"YE\"", "only the letters seem wrong; with \"YE\" there the file is accepted", NO_COMMAND],
         &[(30, "type")],
     ),
 ];
@@ -397,6 +397,16 @@ const UNREAD: &[Damage] = &[
         || without(file(), 30, 30),
         (4, 29),
         &["record 29 starts as a directory of layers does, and no record \"YE\" ends it", DOUBT],
+        &[(29, "type")],
+    ),
+    (
+        "one whose end has other letters",
+        || with(file(), 30, 0, "YX"),
+        (4, 29),
+        &[
+            "no record \"YE\" ends it; record 30 behind the sheet starts \"YX\", and its columns read as directory end, edition 2",
+            "only the letters seem wrong; with \"YE\" there the file is accepted",
+        ],
         &[(29, "type")],
     ),
     (

@@ -12,7 +12,9 @@ use crate::directory::{edition_in, is_end, is_row, last_record, ragged_before, r
 use crate::layout::DIRECTORY_END;
 use crate::outline::{directory_record, layers, record, DirectoryRecord, Layer, Outline, Record};
 use crate::text::{quoted, with_article};
-use crate::{judge_either_edition, judge_sheet, Edition, FileKind, Form, Reason, Refusal, RECORD_BYTES};
+use crate::{
+    judge_either_edition, judge_sheet, Edition, FileKind, Form, Reason, Refusal, LINE_END, LINE_RECORD_BYTES, RECORD_BYTES,
+};
 use std::cmp::Ordering;
 use std::ops::RangeInclusive;
 
@@ -72,9 +74,27 @@ pub fn ragged(bytes: &[u8], told: &mut Explanation) -> bool {
         told.notes.extend(notes::bytes_before(bytes, before));
         return true;
     }
-    let sheet = sheet(bytes).filter(|sheet| bytes.get(sheet.len()..).is_some_and(|rest| is_row(rest) || is_end(rest)));
-    told.notes.extend(sheet.map(|_| Directory::of(bytes).cut_off()));
-    sheet.is_some()
+    let cut = cut(bytes);
+    let is_cut = cut.is_some();
+    told.notes.extend(cut);
+    is_cut
+}
+
+/// What is said of a directory behind an accepted sheet in a file that ends inside a record.
+fn cut(bytes: &[u8]) -> Option<String> {
+    let rest = bytes.get(sheet(bytes)?.len()..)?;
+    (is_row(rest) || is_end(rest)).then(|| Directory::of(bytes).cut_off())
+}
+
+/// The same of a file with line ends, and of one with more than 200,000 records, where all whole records have their line ends.
+pub fn in_lines(bytes: &[u8]) -> Option<String> {
+    let mut lines = bytes.chunks_exact(LINE_RECORD_BYTES);
+    let records = lines.all(|line| line.ends_with(LINE_END)).then(|| Form::Lines.records(bytes))?;
+    match lines.remainder().len() {
+        0 => noticed(&records, None),
+        1..RECORD_BYTES => cut(&records),
+        _ => None,
+    }
 }
 
 /// A directory as it stands in a file, and the sheet before it.
@@ -137,16 +157,25 @@ impl<'a> Directory<'a> {
     /// What it lists in each of its places for a layer, in order, as far as a number stands there: the header; in the second edition behind it total and
     /// last record.
     fn entries(&self) -> Vec<Vec<Option<i64>>> {
-        let entries_of = |number: usize| match self.record(number) {
-            Some(DirectoryRecord::Row(edition)) => columns::entries(edition, record(self.bytes, number)),
-            _ => Vec::new(),
-        };
-        self.numbers().flat_map(entries_of).collect()
+        self.rows().flat_map(|(edition, row)| columns::entries(edition, row)).collect()
+    }
+
+    /// Its records that list layers, each with its edition.
+    fn rows(&self) -> impl Iterator<Item = (Edition, &[u8])> {
+        self.numbers().filter_map(|number| match self.record(number) {
+            Some(DirectoryRecord::Row(edition)) => Some((edition, record(self.bytes, number))),
+            _ => None,
+        })
     }
 
     /// The headers that it lists, in order.
     fn listed(&self) -> Vec<i64> {
         self.entries().iter().filter_map(|entry| *entry.first()?).collect()
+    }
+
+    /// How many headers more stand there that cannot be read.
+    fn unreadable(&self) -> usize {
+        self.rows().map(|(edition, row)| columns::unreadable(edition, row)).sum()
     }
 
     /// The record numbers of the sheet's layer headers.

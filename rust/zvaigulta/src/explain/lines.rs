@@ -1,7 +1,7 @@
 //! 1 and 18 of a file with line ends: which lines are wrong, and what mends them.
 
 use super::counts::Records;
-use super::{fault, form, length, Explanation};
+use super::{directory, fault, form, length, Explanation};
 use crate::line_ends::{without_fill, Line, Lines, Mended};
 use crate::text::{number_of, quoted};
 use crate::{Form, Reason, Refusal, LINE_END, LINE_RECORD_BYTES, RECORD_BYTES};
@@ -21,7 +21,9 @@ pub fn explain(bytes: &[u8], refusal: Refusal) -> Explanation {
     }
     told.notes = match (form::start(bytes), length::other(bytes.len(), Form::Lines)) {
         (Some(start), _) => vec![start],
-        (None, Some(other)) if refusal.reason == Reason::Length && mending(bytes).is_none() => vec![other],
+        (None, Some(other)) if refusal.reason == Reason::Length && mending(bytes).is_none() => {
+            vec![directory::in_lines(bytes).unwrap_or(other)]
+        }
         _ => notes(bytes),
     };
     told
@@ -168,6 +170,7 @@ pub fn notes(bytes: &[u8]) -> Vec<String> {
     let plain: Vec<u8> = Lines::of(text).filter(Line::is_record).flat_map(|line| line.record).copied().collect();
     let cut = found.last().is_some_and(|last| matches!(last.wrong, Wrong::Cut | Wrong::Unended));
     notes.extend(Records::of(&plain).filter(|records| cut && records.missing() > 0).map(|records| records.words()));
+    notes.extend(directory::in_lines(bytes));
     notes.extend(mending(bytes));
     notes
 }

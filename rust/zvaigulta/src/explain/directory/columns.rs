@@ -52,6 +52,12 @@ pub fn entries(edition: Edition, row: &[u8]) -> Vec<Vec<Option<i64>>> {
     listing(edition).chunks(edition.numbers_of_a_layer()).map(values).collect()
 }
 
+/// How many headers of a record that lists layers cannot be made out: digits stand there, but no number. Text is no header.
+pub fn unreadable(edition: Edition, row: &[u8]) -> usize {
+    let headers = listing(edition).iter().step_by(edition.numbers_of_a_layer()).map(|column| column.bytes(row));
+    headers.filter(|header| header.iter().any(u8::is_ascii_digit) && signs::readable(header).is_none()).count()
+}
+
 /// What is wrong with a number column, if anything: a number is due, and what that is, or any number.
 fn wrong(column: &[u8], due: Option<(usize, &str)>) -> Option<String> {
     let must = due.map_or(String::new(), |(number, what)| format!(", must be {number}: {what}"));

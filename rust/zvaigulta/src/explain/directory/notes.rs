@@ -32,6 +32,7 @@ impl Directory<'_> {
             Some(behind) => vec![Some(behind)],
             None => vec![
                 self.other_file(),
+                self.taken_as_text(),
                 self.unended(),
                 self.several_ends(),
                 self.doubled(),
@@ -52,10 +53,10 @@ impl Directory<'_> {
         }
         let last = Outline::of(self.bytes).last().filter(|_| self.numbers().is_empty())?;
         let (number, name) = (last.number, last.name());
-        Some(match (self.sheet.is_some(), is_end(self.end())) {
+        Some(match (self.sheet.is_some(), is_end(self.end()) || self.is_taken_as_text()) {
             (true, true) => format!(
                 "without a directory the file is accepted, and record {number} is {name}: if that is right, read the file with \
-                 --no-directory; if it ends a directory, records of the sheet are lost before it"
+                 --no-directory; if it is of a directory, records of the sheet are lost before it"
             ),
             (true, false) => {
                 format!("the sheet has no directory, its last record is {name}: append one by {}", append(Edition::First, false))
@@ -81,6 +82,13 @@ impl Directory<'_> {
     fn other_file(&self) -> Option<String> {
         let mut ends = (1..self.records).filter(|number| self.sheet.is_none() && is_end(record(self.bytes, *number)));
         ends.find_map(|end| near::file_start(self.bytes, end + 1))
+    }
+
+    /// That a record of the directory seems to be taken as text of the sheet.
+    fn taken_as_text(&self) -> Option<String> {
+        let last = Outline::of(self.bytes).nth(self.before.checked_sub(1)?).filter(|_| self.is_taken_as_text())?;
+        let reads = format!("record {}, {}, reads as a record of a directory", last.number, last.name());
+        Some(format!("{reads}: it may stand in the place of a lost record of the sheet"))
     }
 
     /// That a record of the directory stands twice.
@@ -157,7 +165,7 @@ impl Directory<'_> {
     }
 
     /// The records that end a directory by their letters.
-    pub fn ends(&self) -> Vec<usize> {
+    fn ends(&self) -> Vec<usize> {
         self.numbers().filter(|number| is_end(record(self.bytes, *number))).collect()
     }
 
@@ -170,7 +178,7 @@ impl Directory<'_> {
     }
 
     /// The same where the first of them is right.
-    pub fn behind_another(&self) -> Option<String> {
+    fn behind_another(&self) -> Option<String> {
         let first = self.bytes.get(..self.ends().first()? * RECORD_BYTES)?;
         let several = self.several_ends().filter(|_| judge_either_edition(first, first.len()).is_ok())?;
         Some(format!("{several}, and the first of them is right"))
@@ -205,14 +213,18 @@ impl Directory<'_> {
 
     /// How many layers it lists and states, where the sheet has another number of them.
     fn lists(&self) -> Option<String> {
-        let (listed, layers) = (self.listed().len(), self.sheet.as_ref()?.layers.len());
-        let states = self.stated("layers").filter(|states| *states != listed as i64);
-        if listed == layers && states.is_none() {
+        let (listed, unreadable, layers) = (self.listed().len(), self.unreadable(), self.sheet.as_ref()?.layers.len());
+        let states = self.stated("layers").filter(|states| *states != (listed + unreadable) as i64);
+        if listed + unreadable == layers && states.is_none() {
             return None;
         }
+        let more = match unreadable {
+            0 => String::new(),
+            more => format!(" (and {more} more whose header cannot be read)"),
+        };
         let stated = states.map_or(String::new(), |states| format!(" and states {states}"));
         let has = number_of(layers as u64, "layer");
-        Some(format!("the directory lists {}{stated}, the sheet has {has}", number_of(listed as u64, "layer")))
+        Some(format!("the directory lists {}{more}{stated}, the sheet has {has}", number_of(listed as u64, "layer")))
     }
 
     /// Whether a record is one of a directory by its letters.
@@ -229,24 +241,45 @@ impl Directory<'_> {
         let other = self.other().filter(|_| self.sheet.is_some())?;
         let bytes = record(self.bytes, other);
         let starts = format!("record {other} behind the sheet starts {}", letters(bytes));
-        Some(match self.record(other).map(DirectoryRecord::layout) {
+        Some(match self.record(other) {
             _ if bytes.iter().all(|byte| *byte == b' ') => {
-                format!("record {other} behind the sheet holds nothing but spaces: a directory has no such record")
+                let next = match self.is_right_without(other) {
+                    true => "without it the file is accepted",
+                    false => "see in the original what stood there",
+                };
+                format!("record {other} behind the sheet holds nothing but spaces, as no record of a directory does: {next}")
             }
-            Some(layout) if self.faults_of(other).iter().all(|fault| fault.column == "type") => {
-                format!("{starts}, and its columns read as {}: only the letters seem wrong", layout.name)
+            // The last one ends a directory.
+            Some(DirectoryRecord::Row(edition)) if other == self.records => {
+                format!("{starts}, and its columns read as {}; see in the original what it is", edition.layout().name)
             }
-            Some(layout) => format!("{starts}, and its columns read as {}", layout.name),
+            Some(read) => {
+                let letters_alone = self.faults_of(other).iter().all(|fault| fault.column == "type");
+                let seem = if letters_alone { ": only the letters seem wrong" } else { "" };
+                let next = self.with_letters(other, read.letters());
+                format!("{starts}, and its columns read as {}{seem}; {next}", read.layout().name)
+            }
             None => format!("{starts}, as no record of a directory does: see in the original where it belongs"),
         })
+    }
+
+    /// What to do about a record that reads as one of a directory but for its letters. With these the directory is judged, and nothing of it is lost.
+    fn with_letters(&self, number: usize, letters: &[u8]) -> String {
+        let (mut file, start) = (self.bytes.to_vec(), (number - 1) * RECORD_BYTES);
+        file.splice(start..start + letters.len(), letters.iter().copied());
+        let due = quoted(letters);
+        match judge_either_edition(&file, file.len()) {
+            Ok(_) => format!("with {due} there the file is accepted"),
+            Err(_) => format!("if it is one, put {due} there and explain the file again"),
+        }
     }
 
     /// Whether it lists what the sheet does not have, or cannot tell, since it is cut off: the sheet may have lost something.
     fn is_doubtful(&self) -> bool {
         let doubled = self.repeated().is_some_and(|second| self.is_right_without(second));
         let twice = doubled || self.behind_another().is_some();
-        let lists_more = self.listed().len() > self.headers().len() || self.states_more();
-        self.is_cut() || !doubled && self.shows_more() || !twice && lists_more
+        let lists_more = self.listed().len() + self.unreadable() > self.headers().len() || self.states_more();
+        self.is_cut() || self.is_taken_as_text() || !doubled && self.shows_more() || !twice && lists_more
     }
 
     /// What to do next. A directory that is wrong may be the only sign that the sheet lost something.
@@ -281,7 +314,7 @@ impl Directory<'_> {
             None => {
                 let rows = (first..=self.records).take_while(|number| is_row(record(self.bytes, *number))).count();
                 let start = records(first, first + rows.max(1) - 1, ["starts", "start"]);
-                let next = self.next().map_or(String::new(), |next| format!("; {next}"));
+                let next = self.next().or_else(|| self.other_records()).map_or(String::new(), |next| format!("; {next}"));
                 let end = quoted(Edition::of_row(record(self.bytes, first)).unwrap_or_default().end_letters());
                 format!("{start} as a directory of layers does, and no record {end} ends it{next}")
             }
@@ -313,9 +346,15 @@ impl Directory<'_> {
         if rest.iter().all(|byte| matches!(byte, b' ' | 0 | 0x1a | b'\r' | b'\n')) {
             return format!("{ends}: nothing but {}; {without}", form::named(rest));
         }
-        let next = near::file_start(self.bytes, end + 1);
-        let next = next.unwrap_or_else(|| "see in the original where that belongs before you take it out".to_string());
-        format!("{ends}: {}; {without}; {next}", length(rest))
+        let length = length(rest);
+        if let Some(next) = near::file_start(self.bytes, end + 1) {
+            return format!("{ends}: {length}; {without}; {next}");
+        }
+        let first = match rest.chunks(RECORD_BYTES).any(|piece| is_row(piece) || is_end(piece)) {
+            true => format!("records of another directory stand there, and the sheet {COMPARE}"),
+            false => "see in the original where that belongs before you take it out".to_string(),
+        };
+        format!("{ends}: {length}; {first}; {without}")
     }
 }
 

@@ -4,7 +4,7 @@
 use super::{columns, Directory};
 use crate::directory::is_row;
 use crate::layout::Layout;
-use crate::outline::{directory_record, DirectoryRecord, Layer};
+use crate::outline::{directory_record, record, DirectoryRecord, Layer};
 use crate::{Edition, RECORD_BYTES};
 
 /// A number in a column, as far as it can be made out.
@@ -29,12 +29,19 @@ impl Directory<'_> {
         !self.bytes.len().is_multiple_of(RECORD_BYTES) || is_row(self.end())
     }
 
+    /// Whether the last record of the sheet, a text of its last item, reads as one of a directory: it may stand in the place of a lost one.
+    pub fn is_taken_as_text(&self) -> bool {
+        let last = record(self.bytes, self.before);
+        let layout = Edition::of_row(last).map(Edition::layout).or_else(|| Edition::of_end(last).map(Edition::end_layout));
+        // The header of the first layer, or the pointer.
+        let number = layout.and_then(|layout| readable(layout.columns.get(1)?.bytes(last)));
+        self.sheet.is_some() && number.is_some()
+    }
+
     /// Whether something behind the sheet states more than the sheet holds.
     pub fn shows_more(&self) -> bool {
         let (grown, layers) = (self.is_grown(), self.headers().len());
-        // Behind a right directory the next one may point at itself.
-        let sheet = self.behind_another().and(self.ends().first().copied()).unwrap_or(self.before);
-        let counts_more = |edition: Edition, end: &[u8]| counts_more(edition.end_layout(), end, sheet + 1, layers);
+        let counts_more = |edition: Edition, end: &[u8]| counts_more(edition.end_layout(), end, self.before + 1, layers);
         let ends = |piece: &[u8]| Edition::of_end(piece).is_some_and(|edition| counts_more(edition, piece));
         self.pieces().any(|piece| ends(piece) || self.lists_more(piece, grown)) || counts_more(self.edition, self.end())
     }
