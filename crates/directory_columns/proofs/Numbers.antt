@@ -67,15 +67,26 @@ column-of r k h =
     let both = and-eq-true-iff (ltb k 11) (leb (2 + 7 * k + 7) (length r)) .0 h in
     record { low = ltb-true k 11 (both .0); whole = leb-true (2 + 7 * k + 7) (length r) (both .1) }
 
-pub column-there : (r : List ℕ) (k : ℕ) (t : Bool) → t ≡ hasColumn r k → not t ≡ false → Column r k
-column-there r k t e h = column-of r k (sym e ∙ not-false t h)
-
 module _ (r : List ℕ) (k : ℕ) (g : Column r k) where
-  pub tens-fit : Fits w64 (7 * k)
-  tens-fit = record { fits = omega (arith, g .low) }
+  pub width-fits : Fits w64 (7 * k)
+  width-fits = record { fits = omega (arith, g .low) }
 
   pub start-fits : Fits w64 (2 + 7 * k)
   start-fits = record { fits = omega (arith, g .low) }
+
+-- the same in the code's own words
+module _ (r : List ℕ) (k : ℕ) (t : Bool) (e : t ≡ hasColumn r k) (h : not t ≡ false) where
+  there : Column r k
+  there = column-of r k (sym e ∙ not-false t h)
+
+  pub there-width : Fits w64 (7 * k)
+  there-width = width-fits r k there
+
+  pub there-start : Fits w64 (2 + 7 * k)
+  there-start = start-fits r k there
+
+  pub there-whole : 2 + 7 * k + 7 ≤ length r
+  there-whole = there .whole
 
 -- ---- `number_is`, `near_number_is`
 module _ (r : List ℕ) (k n : ℕ) where

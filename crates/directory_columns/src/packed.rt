@@ -77,8 +77,8 @@ fn zeros(n: u32) -> u64
     }
 }
 
-// What the digits add to that. A digit is what its number has more than ten times its tenth; a place is 256 times the place before it, so every tenth but the
-// first is taken 2,559 times.
+// What the digits add to that. A digit is what a number has more than ten times its tenth. So each tenth counts once in its own place and is taken off ten
+// times in the place behind it, which is 256 times as high: 2,559 times its own place in all.
 fn digits(n: u32) -> u64
     requires { ⌜ n ≤ 9999999 ⌝ }
     ensures { λ r. ⌜ r ≡ digitsPart 7 n ⌝ }

@@ -1,6 +1,5 @@
 -- `near_number_is` compares one column, by way of another. Assumes nothing.
-use Rattle.directory_columns.proofs.Numbers.{Column, column-there, column-lacks, tens-fit, start-fits, holds-column, holds-whole, holds-most, holds-packed, compared}
-use denote.Ref.{now}
+use Rattle.directory_columns.proofs.Numbers.{width-fits, start-fits, column-lacks, there-width, there-start, there-whole, holds-column, holds-whole, holds-most, holds-packed, compared}
 use borrow.Author.Needs.{needs}
 use Rattle.directory_columns.proofs.near_number_is.Statement.{statement}
 use Rattle.directory_columns.proofs.near_number_is.Tie as tie
@@ -11,11 +10,8 @@ has-column-requires c κs = search needs
 returns : tie.Need-returns
 returns c = search column-lacks
 
-known : (c : tie.Else1) → Column (now (c .before .before .before .args .«record»)) (c .before .before .before .args .k)
-known c = column-there _ _ _ (c .before .has-column .ensures) (c .if1 .left)
-
 mul-packed-at : tie.Need-mul-packed-at
-mul-packed-at c = search (tens-fit, holds-column)
+mul-packed-at c = search (width-fits, holds-column)
 
 add-packed-at : tie.Need-add-packed-at
 add-packed-at c = search (start-fits, holds-column)
@@ -27,13 +23,13 @@ packed-near-requires : tie.Need-packed-near-requires
 packed-near-requires c κs = (search holds-most, search holds-packed)
 
 mul-packed-at-2 : tie.Need-mul-packed-at-2
-mul-packed-at-2 c = tens-fit _ _ (known (c .before .before))
+mul-packed-at-2 c = search there-width
 
 add-packed-at-2 : tie.Need-add-packed-at-2
-add-packed-at-2 c = start-fits _ _ (known (c .before .before))
+add-packed-at-2 c = search there-start
 
 packed-at-requires-2 : tie.Need-packed-at-requires-2
-packed-at-requires-2 c κs = (search needs, known (c .before .before) .whole)
+packed-at-requires-2 c κs = (search needs, search there-whole)
 
 returns-2 : tie.Need-returns-2
 returns-2 c = search compared

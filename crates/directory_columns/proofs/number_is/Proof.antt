@@ -1,6 +1,5 @@
 -- `number_is` compares one column. Assumes nothing.
-use Rattle.directory_columns.proofs.Numbers.{Column, column-there, column-lacks, tens-fit, start-fits, compared}
-use denote.Ref.{now}
+use Rattle.directory_columns.proofs.Numbers.{column-lacks, there-width, there-start, there-whole, compared}
 use borrow.Author.Needs.{needs}
 use Rattle.directory_columns.proofs.number_is.Statement.{statement}
 use Rattle.directory_columns.proofs.number_is.Tie as tie
@@ -11,17 +10,14 @@ has-column-requires c κs = search needs
 returns : tie.Need-returns
 returns c = search column-lacks
 
-known : (c : tie.Else1) → Column (now (c .before .before .before .args .«record»)) (c .before .before .before .args .k)
-known c = column-there _ _ _ (c .before .has-column .ensures) (c .if1 .left)
-
 mul-packed-at : tie.Need-mul-packed-at
-mul-packed-at c = tens-fit _ _ (known c)
+mul-packed-at c = search there-width
 
 add-packed-at : tie.Need-add-packed-at
-add-packed-at c = start-fits _ _ (known c)
+add-packed-at c = search there-start
 
 packed-at-requires : tie.Need-packed-at-requires
-packed-at-requires c κs = (search needs, known c .whole)
+packed-at-requires c κs = (search needs, search there-whole)
 
 packed-number-requires : tie.Need-packed-number-requires
 packed-number-requires c κs = search needs
