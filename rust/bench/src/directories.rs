@@ -7,13 +7,14 @@ use std::hint::black_box;
 use zvaigulta::{append_directory, append_second_edition, judge_directory, judge_either_edition, judge_sheet, jump};
 use zvaigulta::{jump_either_edition, Counts, Refusal, MOST_RECORDS};
 
-const SHEETS: [(&str, Make); 8] = [
+const SHEETS: [(&str, Make); 9] = [
     ("grids", files::grids),
     ("mixed", files::mixed),
     ("elements", files::elements),
     ("hundred", files::hundred),
     ("points", files::points),
     ("tens", files::tens),
+    ("ones", files::ones),
     ("attributes", files::attributes),
     ("layers", files::empty_layers),
 ];

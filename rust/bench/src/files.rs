@@ -66,11 +66,20 @@ pub fn points(records: usize, _seed: u64) -> Vec<u8> {
 
 /// The same in layers of ten: many headers, and items between them.
 pub fn tens(records: usize, _seed: u64) -> Vec<u8> {
+    layers_of_points(records, 10)
+}
+
+/// The same, each in a layer of its own: next to empty layers no sheet has a longer directory beside its records.
+pub fn ones(records: usize, _seed: u64) -> Vec<u8> {
+    layers_of_points(records, 1)
+}
+
+fn layers_of_points(records: usize, points: usize) -> Vec<u8> {
     let point = sheets::sheet_of_points(20).split_off(19 * RECORD);
-    let mut layer = vec![point; 11];
-    layer[0] = sheets::layer(&[(5, 10)]);
-    let layers = records / 11;
-    sheets::sheet_of(&mut Random(3), vec![layer; layers].concat(), 10 * layers)
+    let mut layer = vec![point; points + 1];
+    layer[0] = sheets::layer(&[(5, points)]);
+    let layers = records / (points + 1);
+    sheets::sheet_of(&mut Random(3), vec![layer; layers].concat(), points * layers)
 }
 
 /// Layers of ten elements with one to three records of attributes: no data is judged faster, so a second pass over such items weighs most.

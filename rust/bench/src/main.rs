@@ -195,8 +195,8 @@ fn place_of(what: &str, file: &[u8]) -> usize {
     }
 }
 
-/// One call on a sheet of so many records: `grids`, `mixed`, `elements`, `hundred`, `points`, `tens`, `attributes` and `layers` judge it; `insert` and `remove`
-/// edit one of small elements at its first item, `insert-last` and `remove-last` at its last, `insert-layers` one of empty layers at its end.
+/// One call on a sheet of so many records: `grids`, `mixed`, `elements`, `hundred`, `points`, `tens`, `ones`, `attributes` and `layers` judge it; `insert` and
+/// `remove` edit one of small elements at its first item, `insert-last` and `remove-last` at its last, `insert-layers` one of empty layers at its end.
 fn once(what: &str, records: usize) {
     let make: Make = match what {
         "grids" => files::grids,
@@ -204,6 +204,7 @@ fn once(what: &str, records: usize) {
         "hundred" => files::hundred,
         "points" => files::points,
         "tens" => files::tens,
+        "ones" => files::ones,
         "attributes" => files::attributes,
         "layers" | "insert-layers" | "way-up-layers" => files::empty_layers,
         _ => files::elements,
@@ -211,7 +212,7 @@ fn once(what: &str, records: usize) {
     let mut file = make(records, 11);
     let used = file.len();
     match what {
-        "grids" | "mixed" | "elements" | "hundred" | "points" | "tens" | "attributes" | "layers" => {
+        "grids" | "mixed" | "elements" | "hundred" | "points" | "tens" | "ones" | "attributes" | "layers" => {
             return println!("{:?}", judge_sheet(&file, used))
         }
         "normal" => return println!("{:?}", normal_sheet(&file, used, &mut vec![0; used])),
@@ -259,7 +260,7 @@ fn main() {
                 "usage: bench [lines|directories] | bench once WHAT RECORDS, where WHAT is SHEET|insert|insert-last|insert-layers|remove|\
                  remove-last|normal|way-up|way-up-last|way-up-layers|index|normal-index|judge-lines-grids|judge-lines-mixed|\
                  judge-lines-elements|judge-lines-index|to-lines|from-lines|directory-SHEET|append-SHEET|jump|second-SHEET|append2-SHEET|jump2, and SHEET is \
-                 grids|mixed|elements|hundred|points|tens|attributes|layers"
+                 grids|mixed|elements|hundred|points|tens|ones|attributes|layers"
             );
             std::process::exit(2);
         }

@@ -6,13 +6,14 @@ use zvaigulta::{append_directory, append_second_edition};
 
 type Make = fn(usize, u64) -> Vec<u8>;
 
-const SHEETS: [(&str, Make); 8] = [
+const SHEETS: [(&str, Make); 9] = [
     ("grids", files::grids),
     ("mixed", files::mixed),
     ("elements", files::elements),
     ("hundred", files::hundred),
     ("points", files::points),
     ("tens", files::tens),
+    ("ones", files::ones),
     ("attributes", files::attributes),
     ("layers", files::empty_layers),
 ];
