@@ -2,13 +2,13 @@
 use mathlib.Core.Path.{_≡_, refl, ap, ap₂, sym, subst, _∙_}
 use mathlib.Core.Bool.{Bool, true, false, not, _&&_, and-true, and-false}
 use mathlib.Core.List.{List, [], _∷_}
-use Prim.Native.Nat.{ℕ, _+_, _-_, _*_, _≤_, _<_}
+use Prim.Native.Nat.{ℕ, _+_, _*_, _≤_, _<_}
 use native.Mathlib.Omega.{arith}
 use borrow.Author.Tests.{eq-eqb, ne-eqb, not-true, not-false, le-leb}
 use lib.Dec.{eqb, leb}
 use lib.IntN.{ℤ}
-use lib.ListN.{length, take, drop, getD, length-drop}
-use lib.Seq.{take-all, drop-drop}
+use lib.ListN.{length, take, drop, getD}
+use lib.Seq.{drop-drop}
 use mir.Syntax.{w64}
 use mir.Val.{Fits, SFits, toZ, ofZ}
 use mir.ValLaws.{toZ-ofZ}
@@ -47,11 +47,11 @@ module _ (x y columns : ℕ) where
   second-other (a ∷ []) w e h = absurd (omega arith)
   second-other (a ∷ b ∷ r) w e h = rw (eq-eqb (length (a ∷ b ∷ r)) 84 w, eq-eqb a x e, ne-eqb b y h)
 
-  pub frame-is : (r : List ℕ) (t : Bool) → length r ≡ 84 → getD r 0 0 ≡ x → getD r 1 0 ≡ y → columns ≤ 11 → t ≡ spacesFrom r columns → t ≡ framed (x ∷ y ∷ []) columns r
+  pub frame-is : (r : List ℕ) (t : Bool) → length r ≡ 84 → getD r 0 0 ≡ x → getD r 1 0 ≡ y → t ≡ spacesFrom r columns → t ≡ framed (x ∷ y ∷ []) columns r
   unfolding framed spacesFrom
-  frame-is [] t w e f m h = absurd (omega arith)
-  frame-is (a ∷ []) t w e f m h = absurd (omega arith)
-  frame-is (a ∷ b ∷ r) t w e f m h = h ∙ rw (eq-eqb (length (a ∷ b ∷ r)) 84 w, le-leb columns 11 m, eq-eqb a x e, eq-eqb b y f)
+  frame-is [] t w e f h = absurd (omega arith)
+  frame-is (a ∷ []) t w e f h = absurd (omega arith)
+  frame-is (a ∷ b ∷ r) t w e f h = h ∙ rw (eq-eqb (length (a ∷ b ∷ r)) 84 w, eq-eqb a x e, eq-eqb b y f)
 
 -- the letters of each edition
 module _ (e : Edition) (t : Bool) (r : List ℕ) where
@@ -73,15 +73,8 @@ module _ (e : Edition) (t : Bool) (r : List ℕ) where
     second-row is h = h ∙ ap (λ (x : Edition). framed (letters x) (perLayer x * layers) r) (sym is)
 
 -- the numbers of so many layers fit a record
-pub row-room : (e : Edition) (layers : ℕ) → layers ≤ perRecord e → layers ≤ 11
-row-room One layers h = h
-row-room Two layers h = omega arith
-
-pub row-room-three : (e : Edition) (layers : ℕ) → e ≡ Two → layers ≤ perRecord e → 3 * layers ≤ 11
-row-room-three e layers is h = let m : layers ≤ 3 = subst (λ (x : Edition). layers ≤ perRecord x) is h in omega arith
-
 pub row-three-fits : (e : Edition) (layers : ℕ) → e ≡ Two → layers ≤ perRecord e → Fits w64 (3 * layers)
-row-three-fits e layers is h = record { fits = omega (arith, row-room-three e layers is h) }
+row-three-fits e layers is h = let m : layers ≤ 3 = subst (λ (x : Edition). layers ≤ perRecord x) is h in record { fits = omega arith }
 
 -- ---- `is_second`
 module _ (r : List ℕ) (wide : length r ≡ 84) where

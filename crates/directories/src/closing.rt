@@ -15,7 +15,6 @@ use format_directory::Edition;
 
 // Two letters, so many columns, and spaces behind them. What is no record of 84 bytes has none of this.
 pub(crate) fn is_framed(record: &[u8], first: u8, second: u8, columns: usize) -> bool
-    requires { ⌜ columns ≤ 11 ⌝ }
     ensures { λ r. ⌜ r ≡ framed (first ∷ second ∷ []) columns (now («record» .entry)) ⌝ }
 {
     if record.len() != RECORD {

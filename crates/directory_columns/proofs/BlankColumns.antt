@@ -4,9 +4,9 @@ use mathlib.Core.Bool.{Bool, true, false, _&&_, and-assoc, and-eq-true-iff}
 use mathlib.Core.List.{List, [], _∷_, _++_}
 use Prim.Native.Nat.{ℕ, zero, suc, _+_, _*_, _≤_, _<_}
 use native.Mathlib.Omega.{arith}
-use borrow.Author.Tests.{le-leb, lt-leb, eq-eqb, ne-eqb}
-use lib.Dec.{eqb, leb}
-use lib.ListN.{length, drop, take, replicate, length-drop, length-replicate, take-append-drop}
+use borrow.Author.Tests.{le-leb, eq-eqb, ne-eqb}
+use lib.Dec.{eqb}
+use lib.ListN.{length, drop, take, replicate, length-drop, length-replicate, take-append-drop, drop-of-length-le}
 use lib.Seq.{drop-drop, take-all}
 use Rattle.format.specs.Text.{same}
 use Rattle.format.specs.Layout.{column, spaces}
@@ -53,13 +53,13 @@ module _ (r : List ℕ) (k : ℕ) where
   short-record h = rw (ne-eqb (length r) 84 h)
 
   module _ (long : length r ≡ 84) where
-    pub no-columns : 11 < k → false ≡ spacesFrom r k
+    pub behind-all : 11 < k → true ≡ spacesFrom r k
     unfolding spacesFrom
-    no-columns h = rw (eq-eqb (length r) 84 long, lt-leb k 11 h)
+    behind-all h = rw (eq-eqb (length r) 84 long) (sym (ap spaces (drop-of-length-le r {i = 2 + 7 * k} (omega arith))))
 
     pub none-looked : k ≤ 11 → Clear r k k
     unfolding spacesFrom
-    none-looked h = record { long = long; within = h; rest = rw (eq-eqb (length r) 84 long, le-leb k 11 h) }
+    none-looked h = record { long = long; within = h; rest = rw (eq-eqb (length r) 84 long) }
 
   pub column-inside : (i : ℕ) → Clear r k i → i < 11 → 2 + 7 * i + 8 ≤ length r
   column-inside i g more = omega (arith, g .long)

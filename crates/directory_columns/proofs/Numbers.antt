@@ -1,11 +1,11 @@
 -- The functions in the code's own words, and what callers cite of `numberIs`. Assumes nothing.
-use mathlib.Core.Path.{_≡_, refl, ap, ap₂, sym, _∙_}
-use mathlib.Core.Bool.{Bool, true, false, not, _&&_, and-eq-true-iff}
+use mathlib.Core.Path.{_≡_, refl, ap, sym, _∙_}
+use mathlib.Core.Bool.{Bool, true, false, not, _&&_, and-true, and-false, and-eq-true-iff}
 use mathlib.Core.List.{List, [], _∷_}
 use Prim.Native.Nat.{ℕ, suc, _+_, _-_, _*_, _/_, _%_, _≤_, _<_}
 use native.Mathlib.Numerals.{add-one}
 use native.Mathlib.Omega.{arith}
-use borrow.Author.Tests.{lt-leb, le-leb, lt-ltb, le-ltb, leb-true, ltb-true, ltb-false, eqb-true, not-true, not-false}
+use borrow.Author.Tests.{lt-leb, lt-ltb, le-ltb, leb-true, ltb-true, ltb-false, not-true, not-false}
 use lib.Dec.{eqb, ltb, leb, leb·suc-suc}
 use lib.IntN.{pos}
 use lib.ListN.{length, getD}
@@ -13,7 +13,7 @@ use mir.Syntax.{w64}
 use mir.Val.{Fits}
 use Rattle.format.specs.Basics.{roundUp}
 use Rattle.format.specs.Text.{same}
-use Rattle.format.specs.Column.{fits, widthOk, written}
+use Rattle.format.specs.Column.{fits, written}
 use Rattle.format.specs.Layout.{column}
 use Rattle.format.proofs.Columns.{length-column}
 use Rattle.format.proofs.ColumnFits.{fits-plus}
@@ -25,9 +25,10 @@ use Rattle.files.specs.declared.Stride.the-variants.{Plain}
 use Rattle.files.specs.Records.{recordsOf}
 use Rattle.files.proofs.Records.{no-record, record-wide}
 use Rattle.directory_columns.specs.declared.LayerNumbers.{LayerNumbers}
-use Rattle.directory_columns.specs.PackedColumns.{Packs, packedNumber}
-use Rattle.directory_columns.proofs.PackedColumns.{packed-decides}
-use Rattle.directory_columns.specs.Numbers.{hasColumn, numberIs, numbersAre, listedOf, listsLayer}
+use Rattle.directory_columns.specs.declared.PackedNumbers.{PackedNumbers}
+use Rattle.directory_columns.specs.PackedColumns.{unpacked, Packs, packedNumber}
+use Rattle.directory_columns.proofs.PackedColumns.{packed-decides, number-bytes}
+use Rattle.directory_columns.specs.Numbers.{hasColumn, columnIs, columnsAre, numberIs, numbersAre, listedOf, listsLayer, packedOf, listsPacked}
 
 -- ---- `per_record`, `rows`
 pub some-each : (e : Edition) (each : ℕ) → each ≡ perRecord e → 0 < each
@@ -88,11 +89,27 @@ module _ (r : List ℕ) (k : ℕ) (t : Bool) (e : t ≡ hasColumn r k) (h : not 
   pub there-whole : 2 + 7 * k + 7 ≤ length r
   there-whole = there .whole
 
--- ---- `number_is`, `near_number_is`
+-- ---- `column_is`
+module _ (r : List ℕ) (k p : ℕ) where
+  pub column-lacks : (t : Bool) → t ≡ hasColumn r k → not t ≡ true → false ≡ columnIs r k p
+  unfolding columnIs
+  column-lacks t e h = rw (← e, not-true t h)
+
+  pub compared : (t : Bool) (q : ℕ) → t ≡ hasColumn r k → not t ≡ false → Packs (column (2 + 7 * k) 7 r) q → eqb q p ≡ columnIs r k p
+  unfolding columnIs
+  compared t q e h c = packed-decides (column (2 + 7 * k) 7 r) p q (length-column (2 + 7 * k) 7 r (there-whole r k t e h)) c ∙ sym (rw (← e, not-false t h))
+
+  column-has : columnIs r k p ≡ true → hasColumn r k ≡ true
+  unfolding columnIs
+  column-has h = and-eq-true-iff (hasColumn r k) (ltb p 72057594037927936 && same (column (2 + 7 * k) 7 r) (unpacked 7 p)) .0 h .0
+
+-- ---- `number_is`
 module _ (r : List ℕ) (k n : ℕ) where
-  number-same : numberIs r k n ≡ hasColumn r k && (leb n 9999999 && same (column (2 + 7 * k) 7 r) (written 7 (pos n)))
-  unfolding numberIs hasColumn isWrittenAt
-  number-same = ap (λ (t : Bool). ltb k 11 && ((t && leb (2 + 7 * k + 7) (length r)) && same (column (2 + 7 * k) 7 r) (written 7 (pos n)))) (fits-plus 7 n (omega arith) (omega arith) ∙ leb·suc-suc n 9999999) ∙ in-order (ltb k 11) (leb n 9999999) (leb (2 + 7 * k + 7) (length r)) (same (column (2 + 7 * k) 7 r) (written 7 (pos n)))
+  pub number-column : columnIs r k (packedNumber n) ≡ numberIs r k n
+  unfolding columnIs numberIs hasColumn isWrittenAt
+  number-column =
+      ap (λ (t : Bool). hasColumn r k && t) (number-bytes (column (2 + 7 * k) 7 r) n)
+      ∙ sym (ap (λ (t : Bool). ltb k 11 && ((t && leb (2 + 7 * k + 7) (length r)) && same (column (2 + 7 * k) 7 r) (written 7 (pos n)))) (fits-plus 7 n (omega arith) (omega arith) ∙ leb·suc-suc n 9999999) ∙ in-order (ltb k 11) (leb n 9999999) (leb (2 + 7 * k + 7) (length r)) (same (column (2 + 7 * k) 7 r) (written 7 (pos n))))
     where
       in-order : (a m l s : Bool) → a && ((m && l) && s) ≡ (a && l) && (m && s)
       in-order true true true s = refl
@@ -101,82 +118,68 @@ module _ (r : List ℕ) (k n : ℕ) where
       in-order true false false s = refl
       in-order false m l s = refl
 
-  pub column-lacks : (t : Bool) → t ≡ hasColumn r k → not t ≡ true → false ≡ numberIs r k n
-  column-lacks t e h = sym (number-same ∙ ap (λ (x : Bool). x && (leb n 9999999 && same (column (2 + 7 * k) 7 r) (written 7 (pos n)))) (sym e ∙ not-true t h))
-
-  compared-there : (p q : ℕ) → hasColumn r k ≡ true → Packs (column (2 + 7 * k) 7 r) p → q ≡ packedNumber n → eqb p q ≡ numberIs r k n
-  compared-there p q h c w = packed-decides (column (2 + 7 * k) 7 r) p q n (length-column (2 + 7 * k) 7 r (column-of r k h .whole)) c w ∙ sym (number-same ∙ ap (λ (x : Bool). x && (leb n 9999999 && same (column (2 + 7 * k) 7 r) (written 7 (pos n)))) h)
-
-  -- the two columns compared as numbers
-  pub compared : (t : Bool) (p q : ℕ) → t ≡ hasColumn r k → not t ≡ false → Packs (column (2 + 7 * k) 7 r) p → q ≡ packedNumber n → eqb p q ≡ numberIs r k n
-  compared t p q e h c w = compared-there p q (sym e ∙ not-false t h) c w
-
-  -- a column that holds a number
-  module _ (is : numberIs r k n ≡ true) where
-    own-parts : (hasColumn r k ≡ true) × (leb n 9999999 && same (column (2 + 7 * k) 7 r) (written 7 (pos n)) ≡ true)
-    own-parts = and-eq-true-iff (hasColumn r k) (leb n 9999999 && same (column (2 + 7 * k) 7 r) (written 7 (pos n))) .0 (sym number-same ∙ is)
-
-    pub holds-column : Column r k
-    holds-column = column-of r k (own-parts .0)
-
-    pub holds-whole : 2 + 7 * k + 7 ≤ length r
-    holds-whole = holds-column .whole
-
-    pub holds-most : n ≤ 9999999
-    holds-most = leb-true n 9999999 (and-eq-true-iff (leb n 9999999) (same (column (2 + 7 * k) 7 r) (written 7 (pos n))) .0 (own-parts .1) .0)
-
-    pub holds-packed : (p : ℕ) → Packs (column (2 + 7 * k) 7 r) p → p ≡ packedNumber n
-    holds-packed p c = eqb-true p (packedNumber n) (compared-there p (packedNumber n) (own-parts .0) c refl ∙ is)
+  pub by-column : (t : Bool) (p : ℕ) → p ≡ packedNumber n → t ≡ columnIs r k p → t ≡ numberIs r k n
+  by-column t p e h = h ∙ ap (columnIs r k) e ∙ number-column
 
 -- ---- `numbers_are`
-module _ (r : List ℕ) (k : ℕ) (n : LayerNumbers) (t : Bool) (t-is : t ≡ numberIs r k (n .header)) where
-  pub header-differs : (e : Edition) → not t ≡ true → false ≡ numbersAre r k (listedOf e n)
-  unfolding listedOf
+module _ (r : List ℕ) (k : ℕ) (n : PackedNumbers) (t : Bool) (t-is : t ≡ columnIs r k (n .header)) where
+  pub header-differs : (e : Edition) → not t ≡ true → false ≡ columnsAre r k (packedOf e n)
+  unfolding packedOf
   header-differs One h = rw (← t-is, not-true t h)
   header-differs Two h = rw (← t-is, not-true t h)
 
   module _ (h : not t ≡ false) where
-    pub header-there : numberIs r k (n .header) ≡ true
-    header-there = sym t-is ∙ not-false t h
+    low : k < 11
+    low = column-of r k (column-has r k (n .header) (sym t-is ∙ not-false t h)) .low
 
-    pub header-alone : (e : Edition) → e ≡ One → true ≡ numbersAre r k (listedOf e n)
-    unfolding listedOf
+    pub total-fits : Fits w64 (k + 1)
+    total-fits = record { fits = omega (arith, low) }
+
+    pub last-fits : Fits w64 (k + 2)
+    last-fits = record { fits = omega (arith, low) }
+
+    pub header-alone : (e : Edition) → e ≡ One → true ≡ columnsAre r k (packedOf e n)
+    unfolding packedOf
     header-alone e is = rw (is, ← t-is, not-false t h)
 
     module _ (e : Edition) (is : e ≡ Two) (u : Bool) (u-is : u ≡ numberIs r (k + 1) (n .total)) where
-      pub total-differs : not u ≡ true → false ≡ numbersAre r k (listedOf e n)
-      unfolding listedOf
-      total-differs l = rw (is, ← t-is, not-false t h, ← add-one k, ← u-is, not-true u l)
+      total-is : u ≡ columnIs r (suc k) (packedNumber (n .total))
+      total-is = u-is ∙ sym (number-column r (k + 1) (n .total)) ∙ ap (λ (m : ℕ). columnIs r m (packedNumber (n .total))) (add-one k)
 
-      pub last-decides : not u ≡ false → (v : Bool) → v ≡ numberIs r (k + 2) (n .last) → v ≡ numbersAre r k (listedOf e n)
-      unfolding listedOf
-      last-decides l v q = q ∙ sym (rw (is, ← t-is, not-false t h, ← add-one k, ← u-is, not-false u l) (and-true-right (numberIs r (suc (k + 1)) (n .last)) ∙ ap (λ (m : ℕ). numberIs r m (n .last)) (let x : suc (k + 1) ≡ k + 2 = omega arith in x)))
-        where
-          and-true-right : (b : Bool) → b && true ≡ b
-          and-true-right true = refl
-          and-true-right false = refl
+      pub total-differs : not u ≡ true → false ≡ columnsAre r k (packedOf e n)
+      unfolding packedOf
+      total-differs l = rw (is, ← t-is, not-false t h, ← total-is, not-true u l)
+
+      pub last-decides : not u ≡ false → (v : Bool) → v ≡ columnIs r (k + 2) (n .last) → v ≡ columnsAre r k (packedOf e n)
+      unfolding packedOf
+      last-decides l v q = q ∙ sym (rw (is, ← t-is, not-false t h, ← total-is, not-false u l) (and-true (columnIs r (suc (suc k)) (n .last)) ∙ ap (λ (m : ℕ). columnIs r m (n .last)) (let x : suc (suc k) ≡ k + 2 = omega arith in x)))
 
 -- ---- `is_listed`
-pub place-fits : (e : Edition) (own each layer : ℕ) → own ≡ perLayer e → each ≡ perRecord e → own * (layer % each) ≤ 11
-place-fits One own each layer q p = rw (q, p) (omega arith)
-place-fits Two own each layer q p = rw (q, p) (omega arith)
-
 pub place-small : (e : Edition) (own each layer : ℕ) → own ≡ perLayer e → each ≡ perRecord e → Fits w64 (own * (layer % each))
-place-small e own each layer q p = record { fits = omega (arith, place-fits e own each layer q p) }
+place-small One own each layer q p = rw (q, p) (record { fits = omega arith })
+place-small Two own each layer q p = rw (q, p) (record { fits = omega arith })
 
-pub listed-is : (e : Edition) (directory : List (List ℕ)) (own each layer : ℕ) (ns record₁ : List ℕ) (t : Bool) → each ≡ perRecord e → own ≡ perLayer e → record₁ ≡ getD directory (layer / each) [] → t ≡ numbersAre record₁ (own * (layer % each)) ns → t ≡ listsLayer e directory layer ns
-unfolding listsLayer
-listed-is e directory own each layer ns record₁ t q o p h = h ∙ rw (p, q, o)
+pub listed-is : (e : Edition) (directory : List (List ℕ)) (own each layer : ℕ) (ps record₁ : List ℕ) (t : Bool) → each ≡ perRecord e → own ≡ perLayer e → record₁ ≡ getD directory (layer / each) [] → t ≡ columnsAre record₁ (own * (layer % each)) ps → t ≡ listsPacked e directory layer ps
+unfolding listsPacked
+listed-is e directory own each layer ps record₁ t q o p h = h ∙ rw (p, q, o)
+
+-- by way of its bytes
+module _ (e : Edition) (directory : List (List ℕ)) (layer : ℕ) (n : LayerNumbers) (p : PackedNumbers) where
+  pub lists-packed : p .header ≡ packedNumber (n .header) → p .total ≡ n .total → p .last ≡ packedNumber (n .last) → listsPacked e directory layer (packedOf e p) ≡ listsLayer e directory layer (listedOf e n)
+  unfolding listsPacked listsLayer packedOf listedOf
+  lists-packed h t l = go e
+    where
+      go : (x : Edition) → columnsAre (getD directory (layer / perRecord x) []) (perLayer x * (layer % perRecord x)) (packedOf x p) ≡ numbersAre (getD directory (layer / perRecord x) []) (perLayer x * (layer % perRecord x)) (listedOf x n)
+      go One = rw (h, number-column (getD directory (layer / 11) []) (1 * (layer % 11)) (n .header))
+      go Two = rw (h, t, l, number-column (getD directory (layer / 3) []) (3 * (layer % 3)) (n .header), number-column (getD directory (layer / 3) []) (suc (3 * (layer % 3))) (n .total), number-column (getD directory (layer / 3) []) (suc (suc (3 * (layer % 3)))) (n .last))
 
 -- where there is no record, nothing is listed
+no-columns : (k p : ℕ) → columnIs [] k p ≡ false
+unfolding columnIs hasColumn
+no-columns k p = ap (λ (t : Bool). (ltb k 11 && t) && (ltb p 72057594037927936 && same (column (2 + 7 * k) 7 []) (unpacked 7 p))) (lt-leb (2 + 7 * k + 7) 0 (omega arith)) ∙ ap (λ (t : Bool). t && (ltb p 72057594037927936 && same (column (2 + 7 * k) 7 []) (unpacked 7 p))) (and-false (ltb k 11))
+
 nothing-is : (k n : ℕ) → numberIs [] k n ≡ false
-unfolding numberIs isWrittenAt
-nothing-is k n = never (ltb k 11) (widthOk 7 && fits 7 (pos n)) (leb (2 + 7 * k + 7) 0) (same (column (2 + 7 * k) 7 []) (written 7 (pos n))) (lt-leb (2 + 7 * k + 7) 0 (omega arith))
-  where
-    never : (a b c d : Bool) → c ≡ false → a && ((b && c) && d) ≡ false
-    never true true c d q = ap (λ (t : Bool). t && d) q
-    never true false c d q = refl
-    never false b c d q = refl
+nothing-is k n = sym (number-column [] k n) ∙ no-columns k (packedNumber n)
 
 pub nothing-lists : (e : Edition) (layer : ℕ) (n : LayerNumbers) → listsLayer e [] layer (listedOf e n) ≡ false
 unfolding listsLayer listedOf
@@ -184,13 +187,18 @@ nothing-lists One layer n = ap (λ (t : Bool). t && true) (nothing-is (1 * (laye
 nothing-lists Two layer n = ap (λ (t : Bool). t && numbersAre [] (suc (3 * (layer % 3))) (n .total ∷ n .last ∷ [])) (nothing-is (3 * (layer % 3)) (n .header))
 
 -- what is no record of 84 bytes is none of the directory's
-pub no-record-lists : (e : Edition) (directory : List ℕ) (each layer : ℕ) (n : LayerNumbers) (record₁ : List ℕ) → each ≡ perRecord e → record₁ ≡ getD (recordsOf Plain directory) (layer / each) [] → (length record₁ ≡ 84 → ⊥) → false ≡ listsLayer e (recordsOf Plain directory) layer (listedOf e n)
-unfolding listsLayer
-no-record-lists e directory each layer n record₁ q p ne = sym (nothing-lists e layer n) ∙ ap (λ (r : List ℕ). numbersAre r (perLayer e * (layer % perRecord e)) (listedOf e n)) (past ∙ ap (λ (k : ℕ). getD (recordsOf Plain directory) (layer / k) []) q)
+nothing-packed : (e : Edition) (k : ℕ) (p : PackedNumbers) → columnsAre [] k (packedOf e p) ≡ false
+unfolding packedOf
+nothing-packed One k p = ap (λ (t : Bool). t && true) (no-columns k (p .header))
+nothing-packed Two k p = ap (λ (t : Bool). t && columnsAre [] (suc k) (packedNumber (p .total) ∷ p .last ∷ [])) (no-columns k (p .header))
+
+pub no-record-lists : (e : Edition) (directory : List ℕ) (each layer : ℕ) (p : PackedNumbers) (record₁ : List ℕ) → each ≡ perRecord e → record₁ ≡ getD (recordsOf Plain directory) (layer / each) [] → (length record₁ ≡ 84 → ⊥) → false ≡ listsPacked e (recordsOf Plain directory) layer (packedOf e p)
+unfolding listsPacked
+no-record-lists e directory each layer p record₁ q r ne = sym (ap (λ (x : List ℕ). columnsAre x (perLayer e * (layer % perRecord e)) (packedOf e p)) (ap (λ (k : ℕ). getD (recordsOf Plain directory) (layer / k) []) (sym q) ∙ sym none) ∙ nothing-packed e (perLayer e * (layer % perRecord e)) p)
   where
-    past : [] ≡ getD (recordsOf Plain directory) (layer / each) []
-    past = no-record Plain directory (length (recordsOf Plain directory)) (layer / each) refl (go (ltb (layer / each) (length (recordsOf Plain directory))) refl)
-      where
-        go : (t : Bool) → ltb (layer / each) (length (recordsOf Plain directory)) ≡ t → length (recordsOf Plain directory) ≤ layer / each
-        go true l = absurd (ne (ap length p ∙ record-wide Plain directory (layer / each) (ltb-true (layer / each) (length (recordsOf Plain directory)) l)))
-        go false l = ltb-false (layer / each) (length (recordsOf Plain directory)) l
+    past : (t : Bool) → ltb (layer / each) (length (recordsOf Plain directory)) ≡ t → length (recordsOf Plain directory) ≤ layer / each
+    past true l = absurd (ne (ap length r ∙ record-wide Plain directory (layer / each) (ltb-true (layer / each) (length (recordsOf Plain directory)) l)))
+    past false l = ltb-false (layer / each) (length (recordsOf Plain directory)) l
+
+    none : [] ≡ getD (recordsOf Plain directory) (layer / each) []
+    none = no-record Plain directory (length (recordsOf Plain directory)) (layer / each) refl (past (ltb (layer / each) (length (recordsOf Plain directory))) refl)

@@ -1,7 +1,7 @@
 -- Columns as numbers: equal exactly where the bytes are, and the written form of a number so. Assumes nothing.
 use mathlib.Core.Path.{_≡_, refl, ap, ap₂, sym, subst, _∙_}
-use mathlib.Core.Bool.{Bool, true, false, cond, _&&_}
-use mathlib.Core.List.{List, [], _∷_, _++_, append-assoc, append-nil}
+use mathlib.Core.Bool.{Bool, true, false, cond, _&&_, and-eq-true-iff}
+use mathlib.Core.List.{List, [], _∷_, _++_, append-assoc}
 use Prim.Native.Nat.{ℕ, zero, suc, _+_, _-_, _*_, _/_, _%_, _≤_, _<_, _^_}
 use native.Mathlib.Nat.{pow-suc, one-le-pow, not-suc-le-zero, le-of-suc-le-suc, mul-add, mul-assoc, mul-comm, add-sub-cancel-left}
 use native.Mathlib.Numerals.{add-one}
@@ -13,12 +13,12 @@ use lib.ListN.{length, drop, take, getD, replicate, length-append, length-replic
 use lib.Seq.{drop-cons, take-all}
 use mir.Syntax.{w64}
 use mir.Val.{Fits}
-use Rattle.format.specs.Text.{bytes, same}
-use Rattle.format.specs.Column.{digitsIn, digits, textOf, fits, written}
+use Rattle.format.specs.Text.{same}
+use Rattle.format.specs.Column.{digitsIn, digits, textOf, written}
 use Rattle.format.specs.Layout.{column}
 use Rattle.format.proofs.Columns.{Size, below, above, size-of, length-one, length-more, length-written}
 use Rattle.format.proofs.ColumnFits.{fit}
-use Rattle.directory_columns.specs.PackedColumns.{packed, Small, Packs, packedNumber, zerosPart, digitsPart}
+use Rattle.directory_columns.specs.PackedColumns.{packed, unpacked, Small, Packs, packedNumber, isRaised, packedNear, zerosPart, digitsPart}
 
 -- ---- bytes as a number
 pub packed-same : (l m : List ℕ) → length l ≡ length m → Small l → Small m → same l m ≡ eqb (packed l) (packed m)
@@ -59,6 +59,9 @@ record Parts (w n : ℕ) (l : List ℕ) : Type 0 where
   long : length l ≡ w
   small : Small l
   is : packed l ≡ zerosPart w n + digitsPart w n
+  -- the last byte is the last digit
+  low : (v : ℕ) → w ≡ suc v → 256 ^ v * (48 + n % 10) ≤ packed l
+  high : (v : ℕ) → w ≡ suc v → packed l < 256 ^ v * (48 + n % 10) + 256 ^ v
 
 -- one byte more, at the end
 parts-last : (w n : ℕ) (l : List ℕ) → length l ≡ w → Small l → packed l ≡ cond (ltb n 10) (packed (replicate w 32)) (zerosPart w (n / 10)) + digitsPart w (n / 10) → Parts (suc w) n (l ++ ((48 + n % 10) ∷ []))
@@ -66,8 +69,13 @@ unfolding zerosPart digitsPart
 parts-last w n l long small is = record {
   long = length-append l ((48 + n % 10) ∷ []) ∙ (omega (arith, long));
   small = small-last l (48 + n % 10) small (omega arith);
-  is = packed-last l (48 + n % 10) ∙ ap₂ (λ (k p : ℕ). p + 256 ^ k * (48 + n % 10)) long is ∙ (omega (arith, mul-add (256 ^ w) 48 (n % 10)));
+  is = last-is ∙ ap (λ (p : ℕ). p + 256 ^ w * (48 + n % 10)) is ∙ (omega (arith, mul-add (256 ^ w) 48 (n % 10)));
+  low = λ v e. let q : v ≡ w = omega (arith, e) in rw q (omega (arith, last-is));
+  high = λ v e. let q : v ≡ w = omega (arith, e) in rw q (omega (arith, last-is, packed-below l small, ap (λ (k : ℕ). 256 ^ k) long));
 }
+  where
+    last-is : packed (l ++ ((48 + n % 10) ∷ [])) ≡ packed l + 256 ^ w * (48 + n % 10)
+    last-is = packed-last l (48 + n % 10) ∙ ap (λ (k : ℕ). packed l + 256 ^ k * (48 + n % 10)) long
 
 pub spaces-small : (w : ℕ) → Small (replicate w 32)
 spaces-small zero = tt
@@ -237,18 +245,50 @@ module _ (n : ℕ) where
       let q : n / 10 ≡ 0 = omega arith in
       sym (in-parts (omega arith) ∙ ap₂ _+_ (sym (zeros-of 0 6 n h (λ k. absurd (omega arith)))) (digits-by 6 n ∙ ap (λ (m : ℕ). digitsPart 6 m + 281474976710656 * (n % 10)) q ∙ ap (λ (m : ℕ). m + 281474976710656 * (n % 10)) (no-digits 6)) ∙ (omega arith))
 
-  pub one-fits : n < 10 → Fits w64 (13546121232130080 + n * 281474976710656)
-  one-fits h = record { fits = omega arith }
+-- ---- bytes of a number, and back
+packed-unpacked : (w p : ℕ) → p < 256 ^ w → packed (unpacked w p) ≡ p
+unfolding packed unpacked
+packed-unpacked zero p h = omega arith
+packed-unpacked (suc w) p h = ap (λ (q : ℕ). p % 256 + 256 * q) (packed-unpacked w (p / 256) (omega (arith, pow-suc 256 w))) ∙ (omega arith)
 
--- a column is a number exactly where these are equal
-pub packed-decides : (l : List ℕ) (p q n : ℕ) → length l ≡ 7 → Packs l p → q ≡ packedNumber n → eqb p q ≡ leb n 9999999 && same l (written 7 (pos n))
-packed-decides l p q n long c q-is = ap₂ eqb (c .is) q-is ∙ go (leb n 9999999) refl
+unpacked-packed : (w : ℕ) (l : List ℕ) → length l ≡ w → Small l → unpacked w (packed l) ≡ l
+unfolding packed unpacked
+unpacked-packed zero [] e s = refl
+unpacked-packed zero (b ∷ l) e s = absurd (omega arith)
+unpacked-packed (suc w) [] e s = absurd (omega arith)
+unpacked-packed (suc w) (b ∷ l) e s =
+    let low : (b + 256 * packed l) % 256 ≡ b = omega (arith, s .0) in
+    let high : (b + 256 * packed l) / 256 ≡ packed l = omega (arith, s .0) in
+    ap₂ (λ (x y : ℕ). x ∷ unpacked w y) low high ∙ ap (λ (x : List ℕ). b ∷ x) (unpacked-packed w l (omega arith) (s .1))
+
+unpacked-small : (w p : ℕ) → Small (unpacked w p)
+unfolding unpacked
+unpacked-small zero p = tt
+unpacked-small (suc w) p = (omega arith, unpacked-small w (p / 256))
+
+length-unpacked : (w p : ℕ) → length (unpacked w p) ≡ w
+unfolding unpacked
+length-unpacked zero p = refl
+length-unpacked (suc w) p = ap suc (length-unpacked w (p / 256))
+
+-- bytes are those of a number exactly where theirs is that number
+pub packed-decides : (l : List ℕ) (p q : ℕ) → length l ≡ 7 → Packs l q → eqb q p ≡ ltb p 72057594037927936 && same l (unpacked 7 p)
+packed-decides l p q long c = ap (λ (x : ℕ). eqb x p) (c .is) ∙ go (ltb p 72057594037927936) refl
   where
-    go : (t : Bool) → leb n 9999999 ≡ t → eqb (packed l) (packedNumber n) ≡ t && same l (written 7 (pos n))
+    go : (t : Bool) → ltb p 72057594037927936 ≡ t → eqb (packed l) p ≡ t && same l (unpacked 7 p)
+    go true e = let h : p < 256 ^ 7 = ltb-true p 72057594037927936 e in ap (eqb (packed l)) (sym (packed-unpacked 7 p h)) ∙ sym (packed-same l (unpacked 7 p) (long ∙ sym (length-unpacked 7 p)) (c .small) (unpacked-small 7 p))
+    go false e = ne-eqb (packed l) p (λ x. omega (arith, x, ltb-false p 72057594037927936 e, packed-below l (c .small), ap (λ (k : ℕ). 256 ^ k) long))
+
+-- the bytes of the written form
+pub number-bytes : (l : List ℕ) (n : ℕ) → ltb (packedNumber n) 72057594037927936 && same l (unpacked 7 (packedNumber n)) ≡ leb n 9999999 && same l (written 7 (pos n))
+number-bytes l n = go (leb n 9999999) refl
+  where
+    go : (t : Bool) → leb n 9999999 ≡ t → ltb (packedNumber n) 72057594037927936 && same l (unpacked 7 (packedNumber n)) ≡ t && same l (written 7 (pos n))
     go true e =
         let h : n ≤ 9999999 = leb-true n 9999999 e in
-        ap (eqb (packed l)) (packed-fits n h) ∙ sym (packed-same l (written 7 (pos n)) (long ∙ sym (length-written 7 (pos n))) (c .small) (seven-parts n h .small))
-    go false e = ne-eqb (packed l) (packedNumber n) (λ x. omega (arith, x, none-packed n (leb-false n 9999999 e), packed-below l (c .small), ap (λ (k : ℕ). 256 ^ k) long))
+        let bytes-are : unpacked 7 (packedNumber n) ≡ written 7 (pos n) = ap (unpacked 7) (packed-fits n h) ∙ unpacked-packed 7 (written 7 (pos n)) (length-written 7 (pos n)) (seven-parts n h .small) in
+        rw (lt-ltb (packedNumber n) 72057594037927936 (fits-seven n h), bytes-are)
+    go false e = rw (← none-packed n (leb-false n 9999999 e))
 
 -- ---- `packed_near`
 zeros-by : (w n m : ℕ) → n / 10 ≡ m / 10 → zerosPart (suc w) n ≡ zerosPart (suc w) m
@@ -259,12 +299,64 @@ zeros-by w n m e = ap₂ (λ (t : Bool) (q : ℕ). cond t (packed (replicate w 3
     one-digit-both true q = lt-ltb n 10 (omega (arith, e, ltb-true m 10 q)) ∙ sym q
     one-digit-both false q = le-ltb n 10 (omega (arith, e, ltb-false m 10 q)) ∙ sym q
 
-pub same-packed : (n m of-m : ℕ) → of-m ≡ packedNumber m → n ≡ m → of-m ≡ packedNumber n
-same-packed n m of-m is e = is ∙ ap packedNumber (sym e)
+-- ---- `is_raised`
+module _ (n m p : ℕ) where
+  pub raised-below : n < m → false ≡ isRaised n m p
+  unfolding isRaised
+  raised-below h = rw (lt-leb m n h)
 
-module _ (n m of-m : ℕ) (k : m ≤ 9999999) (is : of-m ≡ packedNumber m) (l : m ≤ n) (e : n / 10 ≡ m / 10) where
-  pub near-packed : of-m + (n - m) * 281474976710656 ≡ packedNumber n
-  near-packed = omega (arith, is, l, e, in-parts n (omega (arith, e, k)), in-parts m k, zeros-by 6 n m e, digits-by 6 n, digits-by 6 m, ap (digitsPart 6) e)
+  pub raised-far : m ≤ n → 57 < n - m → false ≡ isRaised n m p
+  unfolding isRaised
+  raised-far h l = rw (le-leb m n h, lt-leb (p / 281474976710656 + (n - m)) 57 (let x : 57 < p / 281474976710656 + (n - m) = omega arith in x))
 
-  pub near-fits : Fits w64 (of-m + (n - m) * 281474976710656)
-  near-fits = record { fits = omega (arith, near-packed, fits-seven n (omega (arith, e, k))) }
+  pub raised-by : m ≤ n → leb (p / 281474976710656 + (n - m)) 57 ≡ isRaised n m p
+  unfolding isRaised
+  raised-by h = rw (le-leb m n h)
+
+  raised-low : isRaised n m p ≡ true → (m ≤ n) × (p / 281474976710656 + (n - m) ≤ 57)
+  unfolding isRaised
+  raised-low h = let both = and-eq-true-iff (leb m n) (leb (p / 281474976710656 + (n - m)) 57) .0 h in (leb-true m n (both .0), leb-true (p / 281474976710656 + (n - m)) 57 (both .1))
+
+  -- ---- `packed_near`
+  pub near-same : n ≡ m → p ≡ packedNear n m p
+  unfolding packedNear
+  near-same e = rw (eq-eqb n m e)
+
+  module _ (ne : n ≡ m → ⊥) (t : Bool) (t-is : t ≡ isRaised n m p) where
+    pub near-raised : t ≡ true → p + (n - m) * 281474976710656 ≡ packedNear n m p
+    unfolding packedNear
+    near-raised h = rw (ne-eqb n m ne, ← t-is, h)
+
+    pub near-some : t ≡ true → m ≤ n
+    near-some h = raised-low (sym t-is ∙ h) .0
+
+    pub near-few : t ≡ true → Fits w64 ((n - m) * 281474976710656)
+    near-few h = record { fits = omega (arith, raised-low (sym t-is ∙ h) .1) }
+
+    pub near-fits : t ≡ true → Fits w64 (p + (n - m) * 281474976710656)
+    near-fits h = let low = raised-low (sym t-is ∙ h) in record { fits = omega (arith, low .0, low .1) }
+
+    pub near-other : t ≡ false → (r : ℕ) → r ≡ packedNumber n → r ≡ packedNear n m p
+    unfolding packedNear
+    near-other h r e = e ∙ rw (ne-eqb n m ne, ← t-is, h)
+
+  -- by way of the other number's
+  pub near-is : p ≡ packedNumber m → packedNear n m p ≡ packedNumber n
+  unfolding packedNear
+  near-is e = go (eqb n m) refl (isRaised n m p) refl
+    where
+      fits-other : (t : Bool) → leb m 9999999 ≡ t → p / 281474976710656 ≤ 57 → m ≤ 9999999
+      fits-other true q l = leb-true m 9999999 q
+      fits-other false q l = absurd (omega (arith, e, l, none-packed m (leb-false m 9999999 q)))
+
+      raised : (m ≤ n) × (p / 281474976710656 + (n - m) ≤ 57) → p + (n - m) * 281474976710656 ≡ packedNumber n
+      raised low =
+          let k : m ≤ 9999999 = fits-other (leb m 9999999) refl (omega (arith, low .1)) in
+          let digit-is : p / 281474976710656 ≡ 48 + m % 10 = omega (arith, e, packed-fits m k, seven-parts m k .low 6 refl, seven-parts m k .high 6 refl) in
+          let q : n / 10 ≡ m / 10 = omega (arith, low .0, low .1, digit-is) in
+          omega (arith, e, low .0, q, in-parts n (omega (arith, q, k)), in-parts m k, zeros-by 6 n m q, digits-by 6 n, digits-by 6 m, ap (digitsPart 6) q)
+
+      go : (a : Bool) → eqb n m ≡ a → (b : Bool) → isRaised n m p ≡ b → cond a p (cond b (p + (n - m) * 281474976710656) (packedNumber n)) ≡ packedNumber n
+      go true x b y = e ∙ ap packedNumber (sym (eqb-true n m x))
+      go false x true y = raised (raised-low y)
+      go false x false y = refl

@@ -2,26 +2,37 @@
 -- nothing.
 use mathlib.Core.Bool.{Bool, true, _&&_}
 use mathlib.Core.List.{List, [], _∷_}
-use Prim.Native.Nat.{ℕ, suc, _+_, _*_, _/_, _%_}
+use Prim.Native.Nat.{ℕ, suc, _+_, _*_, _/_, _%_, _^_}
 use lib.Dec.{eqb, ltb, leb}
 use lib.IntN.{pos}
 use lib.ListN.{length, drop, getD}
-use Rattle.format.specs.Layout.{spaces}
+use Rattle.format.specs.Text.{same}
+use Rattle.format.specs.Layout.{column, spaces}
 use Rattle.columns.specs.InRecord.{isWrittenAt}
 use Rattle.format_directory.specs.declared.Edition.{Edition}
 use Rattle.format_directory.specs.declared.Edition.the-variants.{One, Two}
 use Rattle.format_directory.specs.Directory.{perLayer, perRecord}
 use Rattle.directory_columns.specs.declared.LayerNumbers.{LayerNumbers}
+use Rattle.directory_columns.specs.declared.PackedNumbers.{PackedNumbers}
+use Rattle.directory_columns.specs.PackedColumns.{unpacked, packedNumber}
 
 -- a record has column k whole
 unfoldable pub hasColumn : List ℕ → (k : ℕ) → Bool
 hasColumn r k = ltb k 11 && leb (2 + 7 * k + 7) (length r)
 
--- spaces from column k on
+-- 84 bytes, and from column k on spaces alone
 unfoldable pub spacesFrom : List ℕ → (k : ℕ) → Bool
-spacesFrom r k = eqb (length r) 84 && (leb k 11 && spaces (drop (2 + 7 * k) r))
+spacesFrom r k = eqb (length r) 84 && spaces (drop (2 + 7 * k) r)
 
--- column k of a record, from 0, of the eleven that it has behind its two letters
+-- column k holds the seven bytes of a number
+unfoldable pub columnIs : List ℕ → (k p : ℕ) → Bool
+columnIs r k p = hasColumn r k && (ltb p (256 ^ 7) && same (column (2 + 7 * k) 7 r) (unpacked 7 p))
+
+abbrev pub columnsAre : List ℕ → (k : ℕ) → List ℕ → Bool
+columnsAre r k [] = true
+columnsAre r k (p ∷ ps) = columnIs r k p && columnsAre r (suc k) ps
+
+-- column k of a record, from 0, of the eleven that it has behind its two letters, holds this number in written form
 unfoldable pub numberIs : List ℕ → (k number : ℕ) → Bool
 numberIs r k number = ltb k 11 && isWrittenAt r (2 + 7 * k) 7 (pos number)
 
@@ -38,3 +49,11 @@ listedOf Two n = n .header ∷ n .total ∷ n .last ∷ []
 -- a layer, counted from 0, by what is listed of it: in the record and the columns that the edition has for it
 unfoldable pub listsLayer : Edition → (directory : List (List ℕ)) → (layer : ℕ) → (numbers : List ℕ) → Bool
 listsLayer e directory layer numbers = numbersAre (getD directory (layer / perRecord e) []) (perLayer e * (layer % perRecord e)) numbers
+
+-- the same by the bytes of its columns, as packed numbers
+unfoldable pub packedOf : Edition → PackedNumbers → List ℕ
+packedOf One n = n .header ∷ []
+packedOf Two n = n .header ∷ packedNumber (n .total) ∷ n .last ∷ []
+
+unfoldable pub listsPacked : Edition → (directory : List (List ℕ)) → (layer : ℕ) → (numbers : List ℕ) → Bool
+listsPacked e directory layer numbers = columnsAre (getD directory (layer / perRecord e) []) (perLayer e * (layer % perRecord e)) numbers

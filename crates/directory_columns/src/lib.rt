@@ -1,20 +1,23 @@
-// The numbers in the records of a directory, by edition: how many records list so many layers, and whether the numbers of a layer stand where they belong.
+// The numbers in the records of a directory, by edition: how many records list so many layers, whether the numbers of a layer stand where they belong, and
+// whether spaces stand behind them.
 ghost use mathlib.Core.Path.{_≡_};
-ghost use mathlib.Core.Bool.{true};
 ghost use Prim.Native.Nat.{_≤_};
 ghost use Rattle.format.specs.Basics.{roundUp};
 ghost use Rattle.format_directory.specs.Directory.{perLayer, perRecord};
 ghost use Rattle.files.specs.declared.Stride.the-variants.{Plain};
 ghost use Rattle.files.specs.Records.{recordsOf};
-ghost use Rattle.directory_columns.specs.Numbers.{hasColumn, spacesFrom, numberIs, numbersAre, listedOf, listsLayer};
+ghost use Rattle.directory_columns.specs.Numbers.{hasColumn, spacesFrom, columnIs, numberIs, columnsAre, packedOf, listsPacked};
 use files::RECORD;
 use files::Stride;
 use format_directory::Edition;
 
 mod packed;
 
+pub use packed::packed_near;
+pub use packed::packed_number;
+
 // A record has eleven columns of seven bytes, behind two letters.
-pub const COLUMNS: usize = 11;
+const COLUMNS: usize = 11;
 
 pub const LETTERS: usize = 2;
 
@@ -36,6 +39,13 @@ pub struct LayerNumbers {
     pub header: usize,
     pub total: usize,
     pub last: usize,
+}
+
+// The same for a comparison: header and last record as packed numbers, each of which is made from the one before it.
+pub struct PackedNumbers {
+    pub header: u64,
+    pub total: usize,
+    pub last: u64,
 }
 
 // So many numbers are listed of a layer.
@@ -79,8 +89,7 @@ fn has_column(record: &[u8], k: usize) -> bool
     LETTERS + WIDTH * k + WIDTH <= record.len()
 }
 
-// Spaces stand in the columns of a record from k on, and behind the last one: with the byte behind it each column has eight. What is no record of 84 bytes has
-// none.
+// A record of 84 bytes has spaces alone from column k on. Each column is read with the byte behind it, which makes eight.
 pub fn spaces_from(record: &[u8], k: usize) -> bool
     ensures { λ r. ⌜ r ≡ spacesFrom (now («record» .entry)) k ⌝ }
 {
@@ -88,7 +97,7 @@ pub fn spaces_from(record: &[u8], k: usize) -> bool
         return false;
     }
     if COLUMNS < k {
-        return false;
+        return true;
     }
     let mut i = k;
     while i < COLUMNS {
@@ -100,35 +109,28 @@ pub fn spaces_from(record: &[u8], k: usize) -> bool
     columns::spaces_at(record, LETTERS + WIDTH * COLUMNS, BEHIND)
 }
 
+// Column k of a record, from 0, holds the seven bytes of a packed number.
+fn column_is(record: &[u8], k: usize, packed: u64) -> bool
+    ensures { λ r. ⌜ r ≡ columnIs (now («record» .entry)) k packed ⌝ }
+{
+    if !has_column(record, k) {
+        return false;
+    }
+    packed::packed_at(record, LETTERS + WIDTH * k) == packed
+}
+
 // Column k of a record, from 0, holds the number in written form.
 pub fn number_is(record: &[u8], k: usize, number: usize) -> bool
     ensures { λ r. ⌜ r ≡ numberIs (now («record» .entry)) k number ⌝ }
 {
-    if !has_column(record, k) {
-        return false;
-    }
-    packed::packed_at(record, LETTERS + WIDTH * k) == packed::packed_number(number)
+    column_is(record, k, packed_number(number))
 }
 
-// The same, where column j holds another number.
-fn near_number_is(record: &[u8], k: usize, number: usize, j: usize, other: usize) -> bool
-    requires { ⌜ numberIs (now «record») j other ≡ true ⌝ }
-    ensures { λ r. ⌜ r ≡ numberIs (now («record» .entry)) k number ⌝ }
+// The columns of a record from k on hold what is listed of a layer with these numbers.
+fn numbers_are(record: &[u8], k: usize, edition: Edition, numbers: PackedNumbers) -> bool
+    ensures { λ r. ⌜ r ≡ columnsAre (now («record» .entry)) k (packedOf edition numbers) ⌝ }
 {
-    if !has_column(record, k) {
-        return false;
-    }
-    let of_other = packed::packed_at(record, LETTERS + WIDTH * j);
-    let of_number = packed::packed_near(number, other, of_other);
-    packed::packed_at(record, LETTERS + WIDTH * k) == of_number
-}
-
-// The columns of a record from k on hold what is listed of a layer with these numbers. Header and last record of a small layer differ in their last digit alone.
-fn numbers_are(record: &[u8], k: usize, edition: Edition, numbers: LayerNumbers) -> bool
-    requires { ⌜ k ≤ 11 ⌝ }
-    ensures { λ r. ⌜ r ≡ numbersAre (now («record» .entry)) k (listedOf edition numbers) ⌝ }
-{
-    if !number_is(record, k, numbers.header) {
+    if !column_is(record, k, numbers.header) {
         return false;
     }
     match edition {
@@ -137,17 +139,18 @@ fn numbers_are(record: &[u8], k: usize, edition: Edition, numbers: LayerNumbers)
             if !number_is(record, k + 1, numbers.total) {
                 return false;
             }
-            near_number_is(record, k + 2, numbers.last, k, numbers.header)
+            column_is(record, k + 2, numbers.last)
         }
     }
 }
 
 // The records of a directory list a layer, counted from 0, with these numbers.
-pub fn is_listed(directory: &[u8], edition: Edition, layer: usize, numbers: LayerNumbers) -> bool
-    ensures { λ r. ⌜ r ≡ listsLayer edition (recordsOf Plain (now (directory .entry))) layer (listedOf edition numbers) ⌝ }
+pub fn is_listed(directory: &[u8], edition: Edition, layer: usize, numbers: PackedNumbers) -> bool
+    ensures { λ r. ⌜ r ≡ listsPacked edition (recordsOf Plain (now (directory .entry))) layer (packedOf edition numbers) ⌝ }
 {
     let each = per_record(edition);
     let record = files::record_at(directory, Stride::Plain, layer / each);
+    // Known to have 84 bytes, it is not asked for its length at each column.
     if record.len() != RECORD {
         return false;
     }

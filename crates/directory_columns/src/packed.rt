@@ -1,15 +1,15 @@
-// A column of seven bytes as one number, of which its first byte is the lowest: two columns have the same bytes exactly when these numbers are equal, so that
-// one comparison tells what seven would.
+// A column of seven bytes as one number, a packed number, in which its first byte counts least: two columns have the same bytes exactly when these numbers are
+// equal, so that one comparison tells what seven would.
 ghost use mathlib.Core.Path.{_≡_};
 ghost use Prim.Native.Nat.{_+_, _≤_};
 ghost use lib.ListN.{length};
 ghost use Rattle.format.specs.Layout.{column};
-ghost use Rattle.directory_columns.specs.PackedColumns.{Packs, packedNumber, zerosPart, digitsPart};
+ghost use Rattle.directory_columns.specs.PackedColumns.{Packs, packedNumber, isRaised, packedNear, zerosPart, digitsPart};
 
-// The place of the last byte, that of the digit of ones.
+// What one counts in the last byte, 256 ^ 6: the place of the ones.
 const ONES: u64 = 0x1000000000000;
 
-// The place of the byte before it.
+// The place of the tens.
 const TENS: u64 = 0x10000000000;
 
 // More than any seven bytes.
@@ -47,7 +47,7 @@ pub(crate) fn packed_at(record: &[u8], start: usize) -> u64
     eight_at(record, start - 1) / 0x100
 }
 
-// A number of two to four digits with 0 for each of them.
+// The written form of a number of two to four digits, with 0 for each digit.
 fn few_zeros(n: u32) -> u64
     requires { ⌜ (10 ≤ n) × (n ≤ 9999) ⌝ }
     ensures { λ r. ⌜ r ≡ zerosPart 7 n ⌝ }
@@ -95,8 +95,8 @@ fn digits(n: u32) -> u64
     ((n - 10 * a) as u64) * ONES + ((a as u64) * TENS - 2559 * tenths)
 }
 
-// A number in written form; what no column is where it does not fit one.
-pub(crate) fn packed_number(number: usize) -> u64
+// The written form of a number; NONE where it does not fit a column.
+pub fn packed_number(number: usize) -> u64
     ensures { λ r. ⌜ r ≡ packedNumber number ⌝ }
 {
     if number < 10 {
@@ -109,19 +109,33 @@ pub(crate) fn packed_number(number: usize) -> u64
     zeros(n) + digits(n)
 }
 
-// The same, where that of another number is at hand: numbers that differ in their last digit alone differ in their last byte alone.
-pub(crate) fn packed_near(number: usize, other: usize, of_other: u64) -> u64
-    requires { ⌜ (other ≤ 9999999) × («of_other» ≡ packedNumber other) ⌝ }
-    ensures { λ r. ⌜ r ≡ packedNumber number ⌝ }
+// The byte of the digit 9.
+const NINE: u64 = 57;
+
+// The last digit of a number, of which the written form is known, may be raised to that of another number.
+fn is_raised(number: usize, other: usize, of_other: u64) -> bool
+    ensures { λ r. ⌜ r ≡ isRaised number other «of_other» ⌝ }
+{
+    if number < other {
+        return false;
+    }
+    let more = (number - other) as u64;
+    if NINE < more {
+        return false;
+    }
+    of_other / ONES + more <= NINE
+}
+
+// The same as `packed_number`, where that of another number is known: numbers that differ in their last digit alone differ in their last byte alone.
+pub fn packed_near(number: usize, other: usize, of_other: u64) -> u64
+    ensures { λ r. ⌜ r ≡ packedNear number other «of_other» ⌝ }
 {
     if number == other {
         return of_other;
     }
-    if number < other {
-        return packed_number(number);
+    if is_raised(number, other, of_other) {
+        of_other + ((number - other) as u64) * ONES
+    } else {
+        packed_number(number)
     }
-    if number / 10 != other / 10 {
-        return packed_number(number);
-    }
-    of_other + ((number - other) as u64) * ONES
 }

@@ -28,8 +28,10 @@ use Rattle.files.specs.declared.Stride.the-variants.{Plain}
 use Rattle.files.specs.Records.{recordsOf}
 use Rattle.files.proofs.Records.{plain-records}
 use Rattle.directory_columns.specs.declared.LayerNumbers.{LayerNumbers}
-use Rattle.directory_columns.specs.Numbers.{listedOf, listsLayer}
-use Rattle.directory_columns.proofs.Numbers.{nothing-lists}
+use Rattle.directory_columns.specs.PackedColumns.{packedNumber, packedNear}
+use Rattle.directory_columns.specs.Numbers.{listedOf, listsLayer, packedOf, listsPacked}
+use Rattle.directory_columns.proofs.PackedColumns.{near-is}
+use Rattle.directory_columns.proofs.Numbers.{nothing-lists, lists-packed}
 use Rattle.records.specs.Entry.{entryOf}
 use Rattle.records.specs.declared.items.Entry.{Entry}
 use Rattle.judge.specs.declared.body_records.Extent.{Extent}
@@ -288,15 +290,42 @@ module _ (file : List ℕ) (x : Extent) (k : ℕ) (directory : List (List ℕ)) 
 pub no-listing : (file : List ℕ) (x : Extent) (k : ℕ) (directory : List (List ℕ)) (e : Edition) (w : WalkedLayers) (number : ℕ) → (number ≡ 0 → ⊥) → w .number ≡ number → w .number ≡ 0 → Listing file x k directory e (w .layers) (w .unlisted) (w .«first_numbers»)
 no-listing file x k directory e w number ne q z = absurd (ne (sym q ∙ z))
 
--- ---- `unlisted`
-pub short-lists-none : (e : Edition) (directory : List ℕ) (layer : ℕ) (n : LayerNumbers) → length directory < 84 → layer + 1 ≡ unless (listsLayer e (recordsOf Plain directory) layer (listedOf e n)) (suc layer)
-short-lists-none e directory layer n h = add-one layer ∙ sym (ap (λ (t : Bool). unless t (suc layer)) (ap (λ (rs : List (List ℕ)). listsLayer e rs layer (listedOf e n)) (plain-records directory ∙ ap (λ (n : ℕ). chunks n directory) (let q : length directory / 84 ≡ 0 = omega arith in q)) ∙ nothing-lists e layer n))
+-- ---- `compare`
+module _ (e : Edition) (directory : List ℕ) (layer : ℕ) (n : LayerNumbers) where
+  module _ (short : length directory < 84) where
+    pub short-lists-none : layer + 1 ≡ unless (listsLayer e (recordsOf Plain directory) layer (listedOf e n)) (suc layer)
+    short-lists-none = add-one layer ∙ sym (ap (λ (t : Bool). unless t (suc layer)) (ap (λ (rs : List (List ℕ)). listsLayer e rs layer (listedOf e n)) (plain-records directory ∙ ap (λ (n : ℕ). chunks n directory) (let q : length directory / 84 ≡ 0 = omega arith in q)) ∙ nothing-lists e layer n))
 
-pub listed-none : (t own : Bool) (n : ℕ) → t ≡ own → t ≡ true → 0 ≡ unless own n
-listed-none t own n e h = rw (← e, h)
+    pub no-directory : (p : ℕ) → 84 ≤ length directory → p ≡ packedNumber (n .last)
+    no-directory p h = absurd (omega arith)
 
-pub not-listed : (t own : Bool) (n : ℕ) → t ≡ own → t ≡ false → n + 1 ≡ unless own (suc n)
-not-listed t own n e h = rw (← e, h) (add-one n)
+  -- the header's number from the one before it, and the last record's from the header's
+  module _ (before h l : ℕ) (long : 84 ≤ length directory) (known : 84 ≤ length directory → before ≡ packedNumber (n .header - 1)) (h-is : h ≡ packedNear (n .header) (n .header - 1) before) (l-is : l ≡ packedNear (n .last) (n .header) h) where
+    header-packed : h ≡ packedNumber (n .header)
+    header-packed = h-is ∙ near-is (n .header) (n .header - 1) before (known long)
+
+    last-packed : l ≡ packedNumber (n .last)
+    last-packed = l-is ∙ near-is (n .last) (n .header) h header-packed
+
+    pub last-known : 84 ≤ length directory → l ≡ packedNumber (n .last)
+    last-known m = last-packed
+
+    module _ (t : Bool) (t-is : t ≡ listsPacked e (recordsOf Plain directory) layer (packedOf e (record { header = h; total = n .total; last = l }))) where
+      lists : t ≡ listsLayer e (recordsOf Plain directory) layer (listedOf e n)
+      lists = t-is ∙ lists-packed e (recordsOf Plain directory) layer n (record { header = h; total = n .total; last = l }) header-packed refl last-packed
+
+      pub listed-none : t ≡ true → 0 ≡ unless (listsLayer e (recordsOf Plain directory) layer (listedOf e n)) (suc layer)
+      listed-none q = rw (← lists, q)
+
+      pub not-listed : t ≡ false → layer + 1 ≡ unless (listsLayer e (recordsOf Plain directory) layer (listedOf e n)) (suc layer)
+      not-listed q = rw (← lists, q) (add-one layer)
+
+-- ---- the written form of the number before a header
+pub begun-before : (directory : List ℕ) (k p : ℕ) → p ≡ packedNumber k → 84 ≤ length directory → p ≡ packedNumber k
+begun-before directory k p e h = e
+
+pub before-header : (directory : List ℕ) (at p : ℕ) → (84 ≤ length directory → p ≡ packedNumber at) → 84 ≤ length directory → p ≡ packedNumber (at + 1 - 1)
+before-header directory at p e h = e h ∙ ap packedNumber (let q : at ≡ at + 1 - 1 = omega arith in q)
 
 -- ---- `walk_whole`
 pub begun-layers : (file : List ℕ) (x : Extent) (k begun : ℕ) (directory : List (List ℕ)) (e : Edition) (w : WalkedLayers) → begun ≡ k → (WholeBody file x begun w) × (w .number ≡ 0 → Listing file x begun directory e (w .layers) (w .unlisted) (w .«first_numbers»)) → (WholeBody file x k w) × (w .number ≡ 0 → Listing file x k directory e (w .layers) (w .unlisted) (w .«first_numbers»))

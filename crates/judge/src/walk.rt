@@ -6,15 +6,18 @@ use super::SECOND_KEPT;
 use super::body_records;
 use super::body_records::Extent;
 use directory_columns::LayerNumbers;
+use directory_columns::PackedNumbers;
 use files::RECORD;
 use format_directory::Edition;
 use records::Entry;
 use records::Tally;
 ghost use mathlib.Core.Path.{_≡_};
-ghost use Prim.Native.Nat.{suc, _<_, _≤_};
+ghost use Prim.Native.Nat.{suc, _-_, _<_, _≤_};
+ghost use lib.ListN.{length};
 ghost use Rattle.format.specs.Basics.{first, unless};
 ghost use Rattle.files.specs.declared.Stride.the-variants.{Plain};
 ghost use Rattle.files.specs.Records.{recordsOf};
+ghost use Rattle.directory_columns.specs.PackedColumns.{packedNumber};
 ghost use Rattle.directory_columns.specs.Numbers.{listedOf, listsLayer};
 ghost use Rattle.records.specs.Entry.{toData};
 ghost use Rattle.judge.specs.Walks.{ExtentOf, lastBefore, seenNone, withHeader, SeenUpTo, passedOf, passedGroupOf, passedBodyOf};
@@ -313,18 +316,41 @@ fn walk_body(file: &[u8], extent: Extent, k: usize, open_level: usize, given: Se
     passed_body(at, low, tally, seen)
 }
 
-// The number of a layer, counted from 1, where a directory does not list it with its numbers; else 0. What is shorter than a record lists nothing.
-fn unlisted(directory: &[u8], edition: Edition, layer: usize, numbers: LayerNumbers) -> usize
-    requires { ⌜ layer < numbers .header ⌝ }
-    ensures { λ r. ⌜ r ≡ unless (listsLayer edition (recordsOf Plain (now (directory .entry))) layer (listedOf edition numbers)) (suc layer) ⌝ }
+// A layer against a directory: its number, counted from 1, where it is not listed with its numbers, else 0; and the written form of its last record, packed.
+struct Compared {
+    unlisted: usize,
+    last: u64,
+}
+
+// Where there is a directory, `before` is the written form of the number before the header's, from which that of the header is made, and so on. What is
+// shorter than a record lists nothing.
+fn compare(
+    directory: &[u8],
+    edition: Edition,
+    layer: usize,
+    numbers: LayerNumbers,
+    before: u64,
+) -> Compared
+    requires { ⌜ (layer < numbers .header) × (84 ≤ length (now directory) → before ≡ packedNumber (numbers .header - 1)) ⌝ }
+    ensures { λ r. ⌜ (r .unlisted ≡ unless (listsLayer edition (recordsOf Plain (now (directory .entry))) layer (listedOf edition numbers)) (suc layer)) × (84 ≤ length (now (directory .entry)) → r .last ≡ packedNumber (numbers .last)) ⌝ }
 {
     if directory.len() < RECORD {
-        return layer + 1;
+        return Compared {
+            unlisted: layer + 1,
+            last: before,
+        };
     }
-    if directory_columns::is_listed(directory, edition, layer, numbers) {
-        0
-    } else {
-        layer + 1
+    let header = directory_columns::packed_near(numbers.header, numbers.header - 1, before);
+    let last = directory_columns::packed_near(numbers.last, numbers.header, header);
+    let packed = PackedNumbers {
+        header,
+        total: numbers.total,
+        last,
+    };
+    let listed = directory_columns::is_listed(directory, edition, layer, packed);
+    Compared {
+        unlisted: if listed { 0 } else { layer + 1 },
+        last,
     }
 }
 
@@ -345,6 +371,7 @@ fn walk_layers(
     let mut layers = 0;
     let mut wrong = 0;
     let mut first_numbers = [0; 33];
+    let mut before = directory_columns::packed_number(k);
     while at < extent.records {
         let entry = body_records::entry_at(file, extent, at);
         let fault = body_records::entry_fault(entry, 0);
@@ -360,7 +387,9 @@ fn walk_layers(
             total: layer.seen.items - seen.items,
             last: layer.next,
         };
-        wrong = first_of(wrong, unlisted(directory, edition, layers, numbers));
+        let compared = compare(directory, edition, layers, numbers, before);
+        wrong = first_of(wrong, compared.unlisted);
+        before = compared.last;
         keep(&mut first_numbers, edition, layers, numbers);
         layers += 1;
         at = layer.next;

@@ -1,5 +1,5 @@
 -- `is_listed` compares the columns that the edition has for the layer. Assumes nothing.
-use Rattle.directory_columns.proofs.Numbers.{some-each, place-small, place-fits, no-record-lists, listed-is}
+use Rattle.directory_columns.proofs.Numbers.{some-each, place-small, no-record-lists, listed-is}
 use borrow.Author.Needs.{needs}
 use Rattle.directory_columns.proofs.is_listed.Statement.{statement}
 use Rattle.directory_columns.proofs.is_listed.Tie as tie
@@ -26,7 +26,7 @@ mul-start : tie.Need-mul-start
 mul-start c = search place-small
 
 numbers-are-requires : tie.Need-numbers-are-requires
-numbers-are-requires c κs = search place-fits
+numbers-are-requires c κs = search needs
 
 returns-2 : tie.Need-returns-2
 returns-2 c = search listed-is

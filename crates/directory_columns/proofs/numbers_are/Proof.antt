@@ -1,11 +1,11 @@
 -- `numbers_are` compares column after column. Assumes nothing.
-use Rattle.directory_columns.proofs.Numbers.{header-differs, header-alone, header-there, total-differs, last-decides}
+use Rattle.directory_columns.proofs.Numbers.{header-differs, header-alone, total-fits, last-fits, total-differs, last-decides}
 use borrow.Author.Needs.{needs}
 use Rattle.directory_columns.proofs.numbers_are.Statement.{statement}
 use Rattle.directory_columns.proofs.numbers_are.Tie as tie
 
-number-is-requires : tie.Need-number-is-requires
-number-is-requires c κs = search needs
+column-is-requires : tie.Need-column-is-requires
+column-is-requires c κs = search needs
 
 returns : tie.Need-returns
 returns c = search header-differs
@@ -17,19 +17,19 @@ enum-told-2 : tie.Need-enum-told-2
 enum-told-2 c = search needs
 
 add-number-is : tie.Need-add-number-is
-add-number-is c = search needs
+add-number-is c = search total-fits
 
-number-is-requires-2 : tie.Need-number-is-requires-2
-number-is-requires-2 c κs = search needs
+number-is-requires : tie.Need-number-is-requires
+number-is-requires c κs = search needs
 
 returns-2 : tie.Need-returns-2
 returns-2 c = search total-differs
 
-add-near-number-is : tie.Need-add-near-number-is
-add-near-number-is c = search needs
+add-column-is : tie.Need-add-column-is
+add-column-is c = search last-fits
 
-near-number-is-requires : tie.Need-near-number-is-requires
-near-number-is-requires c κs = search header-there
+column-is-requires-2 : tie.Need-column-is-requires-2
+column-is-requires-2 c κs = search needs
 
 returns-3 : tie.Need-returns-3
 returns-3 c = search header-alone
@@ -41,14 +41,14 @@ pub numbers-are-spec : {M : Type 1} → statement M
 numbers-are-spec =
     tie.close
     (tie.spec
-    number-is-requires
+    column-is-requires
     returns
     enum-told
     enum-told-2
     add-number-is
-    number-is-requires-2
+    number-is-requires
     returns-2
-    add-near-number-is
-    near-number-is-requires
+    add-column-is
+    column-is-requires-2
     returns-3
     returns-4)

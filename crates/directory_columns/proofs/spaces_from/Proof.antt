@@ -1,6 +1,6 @@
 -- `spaces_from` looks at column after column. The loop's invariant is `Clear`, its measure the columns left. Assumes nothing.
 use Prim.Native.Nat.{_-_}
-use Rattle.directory_columns.proofs.BlankColumns.{Clear, short-record, no-columns, none-looked, column-inside, column-used, next-column, five-last}
+use Rattle.directory_columns.proofs.BlankColumns.{Clear, short-record, behind-all, none-looked, column-inside, column-used, next-column, five-last}
 use borrow.Author.Needs.{needs}
 use Rattle.directory_columns.proofs.spaces_from.Statement.{statement}
 use Rattle.directory_columns.proofs.spaces_from.Tie as tie
@@ -15,7 +15,7 @@ returns : tie.Need-returns Inv-loop μ-loop
 returns c = search short-record
 
 returns-2 : tie.Need-returns-2 Inv-loop μ-loop
-returns-2 c = search no-columns
+returns-2 c = search behind-all
 
 loop-holds : tie.Need-loop-holds Inv-loop μ-loop
 loop-holds c = search none-looked

@@ -1,5 +1,5 @@
 -- `is_row`: letters and columns of the edition. Assumes nothing.
-use Rattle.directories.proofs.OneRecord.{row-room, row-room-three, row-three-fits, first-row, second-row}
+use Rattle.directories.proofs.OneRecord.{row-three-fits, first-row, second-row}
 use borrow.Author.Needs.{needs}
 use Rattle.directories.proofs.comparing.is_row.Statement.{statement}
 use Rattle.directories.proofs.comparing.is_row.Tie as tie
@@ -8,7 +8,7 @@ enum-told : tie.Need-enum-told
 enum-told c = search needs
 
 is-framed-requires : tie.Need-is-framed-requires
-is-framed-requires c κs = search row-room
+is-framed-requires c κs = search needs
 
 enum-told-2 : tie.Need-enum-told-2
 enum-told-2 c = search needs
@@ -17,7 +17,7 @@ mul-is-framed : tie.Need-mul-is-framed
 mul-is-framed c = search row-three-fits
 
 is-framed-requires-2 : tie.Need-is-framed-requires-2
-is-framed-requires-2 c κs = search row-room-three
+is-framed-requires-2 c κs = search needs
 
 returns : tie.Need-returns
 returns c = search first-row
