@@ -1,7 +1,7 @@
 // One record of a directory: its letters, its numbers and the spaces behind them; the closing record.
 ghost use mathlib.Core.Path.{_≡_};
 ghost use mathlib.Core.List.{[], _∷_};
-ghost use Prim.Native.Nat.{_+_, _*_, _≤_, _<_};
+ghost use Prim.Native.Nat.{_+_, _*_, _<_};
 ghost use lib.ListN.{length};
 ghost use Rattle.format.specs.Layout.{column};
 ghost use Rattle.format_directory.specs.Directory.{endLetters, endColumns, numberIn, isWritten, closingOk, isSecond};

@@ -1,4 +1,4 @@
--- The functions in the code's own words, and what callers cite of `numberIs`. Assumes nothing.
+-- The functions in the code's own words, and what callers cite of `numberIs` and `listsPacked`. Assumes nothing.
 use mathlib.Core.Path.{_≡_, refl, ap, sym, _∙_}
 use mathlib.Core.Bool.{Bool, true, false, not, _&&_, and-true, and-false, and-eq-true-iff}
 use mathlib.Core.List.{List, [], _∷_}

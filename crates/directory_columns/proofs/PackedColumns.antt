@@ -290,7 +290,7 @@ number-bytes l n = go (leb n 9999999) refl
         rw (lt-ltb (packedNumber n) 72057594037927936 (fits-seven n h), bytes-are)
     go false e = rw (← none-packed n (leb-false n 9999999 e))
 
--- ---- `packed_near`
+-- ---- numbers with the same tenth
 zeros-by : (w n m : ℕ) → n / 10 ≡ m / 10 → zerosPart (suc w) n ≡ zerosPart (suc w) m
 unfolding zerosPart
 zeros-by w n m e = ap₂ (λ (t : Bool) (q : ℕ). cond t (packed (replicate w 32)) (zerosPart w q) + 256 ^ w * 48) (one-digit-both (ltb m 10) refl) e

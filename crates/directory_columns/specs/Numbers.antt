@@ -24,10 +24,11 @@ hasColumn r k = ltb k 11 && leb (2 + 7 * k + 7) (length r)
 unfoldable pub spacesFrom : List ℕ → (k : ℕ) → Bool
 spacesFrom r k = eqb (length r) 84 && spaces (drop (2 + 7 * k) r)
 
--- column k holds the seven bytes of a number
+-- column k holds the seven bytes of a packed number; none does of 256 ^ 7 or more
 unfoldable pub columnIs : List ℕ → (k p : ℕ) → Bool
 columnIs r k p = hasColumn r k && (ltb p (256 ^ 7) && same (column (2 + 7 * k) 7 r) (unpacked 7 p))
 
+-- the columns from k on hold these
 abbrev pub columnsAre : List ℕ → (k : ℕ) → List ℕ → Bool
 columnsAre r k [] = true
 columnsAre r k (p ∷ ps) = columnIs r k p && columnsAre r (suc k) ps
@@ -50,10 +51,11 @@ listedOf Two n = n .header ∷ n .total ∷ n .last ∷ []
 unfoldable pub listsLayer : Edition → (directory : List (List ℕ)) → (layer : ℕ) → (numbers : List ℕ) → Bool
 listsLayer e directory layer numbers = numbersAre (getD directory (layer / perRecord e) []) (perLayer e * (layer % perRecord e)) numbers
 
--- the same by the bytes of its columns, as packed numbers
+-- what is listed of a layer, as packed numbers
 unfoldable pub packedOf : Edition → PackedNumbers → List ℕ
 packedOf One n = n .header ∷ []
 packedOf Two n = n .header ∷ packedNumber (n .total) ∷ n .last ∷ []
 
+-- a layer is listed by these: `listsLayer`, where they are its own (`lists-packed`)
 unfoldable pub listsPacked : Edition → (directory : List (List ℕ)) → (layer : ℕ) → (numbers : List ℕ) → Bool
 listsPacked e directory layer numbers = columnsAre (getD directory (layer / perRecord e) []) (perLayer e * (layer % perRecord e)) numbers

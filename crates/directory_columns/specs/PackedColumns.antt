@@ -31,10 +31,11 @@ pub record Packs (bs : List ℕ) (n : ℕ) : Type 0 where
 unfoldable pub packedNumber : ℕ → ℕ
 packedNumber n = cond (leb n 9999999) (packed (written 7 (pos n))) (256 ^ 7)
 
--- the same from that of another number, the last digit raised where that is enough (57 is the byte of the digit 9)
+-- the last byte of another number's, raised by the difference, is at most 57, that of the digit 9
 unfoldable pub isRaised : (number other of-other : ℕ) → Bool
 isRaised n m p = leb m n && leb (p / 256 ^ 6 + (n - m)) 57
 
+-- the written form of a number from that of another one, of which the last digit is raised where that is enough
 unfoldable pub packedNear : (number other of-other : ℕ) → ℕ
 packedNear n m p = cond (eqb n m) p (cond (isRaised n m p) (p + (n - m) * 256 ^ 6) (packedNumber n))
 

@@ -1,7 +1,6 @@
 // The numbers in the records of a directory, by edition: how many records list so many layers, whether the numbers of a layer stand where they belong, and
 // whether spaces stand behind them.
 ghost use mathlib.Core.Path.{_≡_};
-ghost use Prim.Native.Nat.{_≤_};
 ghost use Rattle.format.specs.Basics.{roundUp};
 ghost use Rattle.format_directory.specs.Directory.{perLayer, perRecord};
 ghost use Rattle.files.specs.declared.Stride.the-variants.{Plain};
@@ -41,7 +40,7 @@ pub struct LayerNumbers {
     pub last: usize,
 }
 
-// The same for a comparison: header and last record as packed numbers, each of which is made from the one before it.
+// The same for a comparison: header and last record as packed numbers, the total as it is.
 pub struct PackedNumbers {
     pub header: u64,
     pub total: usize,
@@ -150,7 +149,7 @@ pub fn is_listed(directory: &[u8], edition: Edition, layer: usize, numbers: Pack
 {
     let each = per_record(edition);
     let record = files::record_at(directory, Stride::Plain, layer / each);
-    // Known to have 84 bytes, it is not asked for its length at each column.
+    // So the compiler knows the 84 bytes and can leave out the test of the length at each column.
     if record.len() != RECORD {
         return false;
     }

@@ -112,7 +112,7 @@ pub fn packed_number(number: usize) -> u64
 // The byte of the digit 9.
 const NINE: u64 = 57;
 
-// The last digit of a number, of which the written form is known, may be raised to that of another number.
+// `other`, whose written form is `of_other`, becomes `number` by raising its last digit, which stays at most 9.
 fn is_raised(number: usize, other: usize, of_other: u64) -> bool
     ensures { λ r. ⌜ r ≡ isRaised number other «of_other» ⌝ }
 {
@@ -120,13 +120,14 @@ fn is_raised(number: usize, other: usize, of_other: u64) -> bool
         return false;
     }
     let more = (number - other) as u64;
+    // Else the sum below might not fit.
     if NINE < more {
         return false;
     }
     of_other / ONES + more <= NINE
 }
 
-// The same as `packed_number`, where that of another number is known: numbers that differ in their last digit alone differ in their last byte alone.
+// The same as `packed_number`, if `of_other` is that of `other`: numbers that differ in their last digit alone differ in their last byte alone.
 pub fn packed_near(number: usize, other: usize, of_other: u64) -> u64
     ensures { λ r. ⌜ r ≡ packedNear number other «of_other» ⌝ }
 {

@@ -316,14 +316,15 @@ fn walk_body(file: &[u8], extent: Extent, k: usize, open_level: usize, given: Se
     passed_body(at, low, tally, seen)
 }
 
-// A layer against a directory: its number, counted from 1, where it is not listed with its numbers, else 0; and the written form of its last record, packed.
+// A layer against a directory: its number, counted from 1, where it is not listed with its numbers, else 0; and, where there is a directory, the number of
+// its last record as a packed number.
 struct Compared {
     unlisted: usize,
     last: u64,
 }
 
-// Where there is a directory, `before` is the written form of the number before the header's, from which that of the header is made, and so on. What is
-// shorter than a record lists nothing.
+// Where there is a directory, `before` is the number before the header's as a packed number: the header's is made from it, and the last record's from the
+// header's. What is shorter than a record lists nothing.
 fn compare(
     directory: &[u8],
     edition: Edition,
