@@ -30,10 +30,13 @@ module _ (l : List ℕ) where
   unfolding readAlone numberAnswer
   too-wide k h = simp (le-leb 1 (length l) k, lt-leb (length l) 18 h)
 
+  pub read-right : 1 ≤ length l → length l ≤ 18 → columnAnswer (columnOf l) ≡ readAlone l
+  unfolding readAlone
+  read-right k h = simp (le-leb 1 (length l) k, le-leb (length l) 18 h)
+
   -- what the column says, in the arm c′ that was found
   pub is-read : (c c′ : Column) (r : Number) → 1 ≤ length l → length l ≤ 18 → c ≡ columnOf l → c ≡ c′ → numberAnswer r ≡ columnAnswer c′ → numberAnswer r ≡ readAlone l
-  unfolding readAlone
-  is-read c c′ r k h e f g = simp (le-leb 1 (length l) k, le-leb (length l) 18 h) (g ∙ ap columnAnswer (sym f ∙ e))
+  is-read c c′ r k h e f g = g ∙ ap columnAnswer (sym f ∙ e) ∙ read-right k h
 
 -- ---- `write`
 

@@ -21,7 +21,6 @@ use Rattle.format.proofs.Columns.{length-column, length-written, length-splice,
 use Rattle.format.proofs.NormalReads.{read-fits}
 use Rattle.format.proofs.ColumnFits.{fits-plus}
 use Rattle.format.proofs.ColumnRoundTrip.{reads-back}
-use Rattle.columns.specs.declared.State.{State}
 use Rattle.columns.specs.InRecord.{columnAt, Rewritten, writeAt}
 
 -- ---- A COLUMN INSIDE A RECORD

@@ -7,5 +7,7 @@ pub mod Laws
 pub mod Alone
 pub mod InRecord
 pub mod NumberIn
+pub mod NumberAlone
 pub mod Spaces
 pub mod Compared
+pub mod Claims

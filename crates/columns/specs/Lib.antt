@@ -1,3 +1,3 @@
 pub mod InRecord
-pub mod ReadSteps
+pub mod Pass
 pub mod WriteSteps

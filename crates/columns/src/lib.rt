@@ -1,16 +1,18 @@
 // One integer column: leading spaces, at most one minus, then one digit or more to the last byte. It is read in one pass, and
 // written in written form (shortest digits, spaces in front), alone or inside a record.
 ghost use mathlib.Core.Path.{_≡_};
-ghost use Prim.Native.Nat.{_≤_, _<_, _^_};
+ghost use Prim.Native.Nat.{_≤_, _^_};
 ghost use lib.ListN.{length};
 ghost use lib.IntN.{natAbs};
-ghost use Rattle.format.specs.Column.{columnOf, integer, readAlone, writeAlone};
+ghost use Rattle.format.specs.Column.{integer, readAlone, writeAlone};
 ghost use Rattle.format.specs.Text.{same};
 ghost use Rattle.format.specs.Layout.{spaces};
 ghost use Rattle.format.specs.Answers.{numberAnswer, writtenAnswer};
 ghost use Rattle.columns.specs.InRecord.{columnAt, numberIn, spacesAt, writeAt, isWrittenAt};
-ghost use Rattle.columns.specs.ReadSteps.{roleOf, stepOf, finishOf, numberKept};
 ghost use Rattle.columns.specs.WriteSteps.{byteOf, beforeOf, filled, choiceOf};
+
+mod pass;
+
 use format::Column;
 use format::Number;
 use format::Written;
@@ -19,109 +21,6 @@ use format::Written;
 const WIDEST: usize = 18;
 
 // ---- reading
-
-// What a byte is to a column.
-enum Role {
-    Space,
-    Minus,
-    Digit(u8),
-    Other,
-}
-
-// What is kept of the bytes so far: spaces alone; spaces and a minus; digits, whether a minus stands before them, and their number;
-// no column.
-enum State {
-    Blank,
-    Signed,
-    Digits(bool, u64),
-    Bad,
-}
-
-fn role_of(b: u8) -> Role
-    ensures { λ r. ⌜ r ≡ roleOf b ⌝ }
-{
-    if b == b' ' {
-        return Role::Space;
-    }
-    if b == b'-' {
-        return Role::Minus;
-    }
-    if b < b'0' {
-        return Role::Other;
-    }
-    if b <= b'9' {
-        Role::Digit(b - b'0')
-    } else {
-        Role::Other
-    }
-}
-
-// One byte more.
-fn step(s: State, b: u8) -> State
-    requires { ⌜ numberKept s < 10 ^ 18 ⌝ }
-    ensures { λ r. ⌜ r ≡ stepOf s b ⌝ }
-{
-    let k = role_of(b);
-    match s {
-        State::Blank => match k {
-            Role::Space => State::Blank,
-            Role::Minus => State::Signed,
-            Role::Digit(d) => State::Digits(false, d as u64),
-            Role::Other => State::Bad,
-        },
-        State::Signed => match k {
-            Role::Space => State::Bad,
-            Role::Minus => State::Bad,
-            Role::Digit(d) => State::Digits(true, d as u64),
-            Role::Other => State::Bad,
-        },
-        State::Digits(minus, n) => match k {
-            Role::Space => State::Bad,
-            Role::Minus => State::Bad,
-            Role::Digit(d) => State::Digits(minus, n * 10 + (d as u64)),
-            Role::Other => State::Bad,
-        },
-        State::Bad => State::Bad,
-    }
-}
-
-// What the column says after its last byte.
-fn finish(s: State) -> Column
-    requires { ⌜ numberKept s < 10 ^ 18 ⌝ }
-    ensures { λ r. ⌜ r ≡ finishOf s ⌝ }
-{
-    match s {
-        State::Blank => Column::Malformed,
-        State::Signed => Column::Malformed,
-        State::Digits(minus, n) => {
-            let v = n as i64;
-            if minus {
-                if n == 0 {
-                    Column::MinusZero
-                } else {
-                    Column::Value(-v)
-                }
-            } else {
-                Column::Value(v)
-            }
-        }
-        State::Bad => Column::Malformed,
-    }
-}
-
-// The bytes of one column, in one pass. Eighteen digits are below 2 ^ 63.
-fn scan(part: &[u8]) -> Column
-    requires { ⌜ length (now part) ≤ 18 ⌝ }
-    ensures { λ r. ⌜ r ≡ columnOf (now (part .entry)) ⌝ }
-{
-    let mut s = State::Blank;
-    let mut i = 0;
-    while i < part.len() {
-        s = step(s, part[i]);
-        i += 1;
-    }
-    finish(s)
-}
 
 // A column read alone: 16 for a width that is not 1 to 18, 5 for a malformed one.
 pub fn read(column: &[u8]) -> Number
@@ -134,7 +33,7 @@ pub fn read(column: &[u8]) -> Number
     if WIDEST < width {
         return Number::Refused(16, 0);
     }
-    let c = scan(column);
+    let c = pass::scan(column);
     match c {
         Column::Value(z) => Number::Is(z),
         Column::MinusZero => Number::Refused(5, 0),
@@ -155,7 +54,7 @@ pub fn column_at(record: &[u8], start: usize, width: usize) -> Column
     if record.len() - start < width {
         return Column::Malformed;
     }
-    scan(&record[start..start + width])
+    pass::scan(&record[start..start + width])
 }
 
 // Its number; 0 where it has none.

@@ -30,11 +30,16 @@ pub(crate) fn entry_at(file: &[u8], extent: Extent, k: usize) -> Entry
     records::entry(record_at(file, extent, k))
 }
 
-// What is wrong with record k, where data is due and `behind` data records follow it.
+// What is wrong with record k, where data is due and `behind` data records follow it. A note is told apart here, as in `data_fault`: what judges points,
+// of which a sheet has most, is then a function without the many values that judging a note keeps.
 pub(crate) fn data_fault_at(file: &[u8], extent: Extent, k: usize, held: Held, behind: usize) -> u8
     ensures { λ r. ⌜ r ≡ dataFaultOf (recordAt (now (file .entry)) extent k) held behind ⌝ }
 {
-    records::data_fault(record_at(file, extent, k), held, behind)
+    let record = record_at(file, extent, k);
+    if let Held::Notes = held {
+        return records::note_fault(record);
+    }
+    records::columns_fault(record, held, behind)
 }
 
 // Whether the header at record k states this tally.

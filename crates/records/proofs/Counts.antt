@@ -114,12 +114,6 @@ module _ (l : List ℕ) (kind r : ℕ) (whole : length l ≡ 84) where
   count-small e = omega (arith, count-read e, count-there, number-in-below l (countStart kind) (countWidth kind), pow-le-pow-right {n = 10} (omega arith) {i = countWidth kind} {j = 5} (inside kind .1))
 
   module _ (start width : ℕ) (s : start ≡ countStart kind) (w : width ≡ countWidth kind) where
-    pub count-inside : start + width ≤ 84
-    count-inside = omega (arith, inside kind .0)
-
-    pub count-narrow : width ≤ 7
-    count-narrow = omega (arith, inside kind .1)
-
     pub count-stated : r ≡ numberIn l start width → r ≡ statedCount l kind
     unfolding statedCount
     count-stated e = rw (eq-eqb (length l) 84 whole) ((rw (s, w) at e) ∙ count-there)

@@ -4,7 +4,6 @@ pub mod Types
 pub mod DataRules
 pub mod Used
 pub mod Counts
-pub mod Plain
 pub mod Entries
 pub mod DataFaults
 pub mod Laws

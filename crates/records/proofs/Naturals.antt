@@ -1,121 +1,60 @@
--- `natural`: the lower halves of a column's bytes make its number, where it has one of at least 0; and which columns have one. Assumes nothing.
+-- `natural` in the code's own words, and which columns of a record without fault have a number of at least 0. Assumes nothing.
 use mathlib.Core.Path.{_≡_, refl, sym, _∙_}
-use mathlib.Core.Bool.{Bool, true, false, cond}
-use mathlib.Core.List.{List, [], _∷_}
-use Prim.Native.Nat.{ℕ, zero, suc, _+_, _-_, _*_, _%_, _^_, _≤_, _<_}
+use mathlib.Core.List.{List}
+use Prim.Native.Nat.{ℕ, suc, _+_, _-_, _*_, _^_, _≤_, _<_}
 use native.Mathlib.Nat.{pow-suc, pow-le-pow-right}
 use native.Mathlib.Numerals.{add-one}
 use native.Mathlib.Omega.{arith}
-use borrow.Author.Tests.{leb-true, eqb-false}
-use lib.Dec.{eqb, leb}
-use lib.IntN.{pos, negsuc, negℤ}
+use lib.IntN.{pos}
 use lib.ListN.{length, take, drop, getD}
 use lib.Seq.{drop-cons}
-use Rattle.format.specs.declared.Column.the-variants.{Value, MinusZero, Malformed}
-use Rattle.format.specs.Column.{strip, isDigit, allDigits, valueOf, isNumber, negative, positive, signed, columnOf}
+use Rattle.format.specs.declared.Column.the-variants.{Value}
 use Rattle.format.specs.Layout.{column, find, header, element, gridHeader, netHeader, dataNote}
-use Rattle.format.proofs.Basics.{and-true}
-use Rattle.format.proofs.Columns.{Byte, v-space, v-minus, v-digit, v-other, byte}
 use Rattle.columns.specs.InRecord.{columnAt, numberIn}
+use Rattle.columns.specs.Pass.{numberStep, numberFrom}
 use Rattle.columns.proofs.Laws.{column-at-inside}
-use Rattle.columns.proofs.Reading.{digit-more}
+use Rattle.columns.proofs.NumberAlone.{number-alone}
 use Rattle.layout_faults.specs.Faults.{faultIn}
 use Rattle.layout_faults.proofs.Laws.{number-at}
 use Rattle.records.specs.Steps.{Natural}
 
--- ---- the lower halves of bytes, after n
-
-unfoldable pub halves : ℕ → List ℕ → ℕ
-halves n [] = n
-halves n (b ∷ bs) = halves (n * 10 + b % 16) bs
-
-pub half-of-digit : (b : ℕ) → isDigit b ≡ true → b % 16 ≡ b - 48
-unfolding isDigit
-half-of-digit b d =
-    let t = and-true (leb 48 b) (leb b 57) d in
-    omega (arith, leb-true 48 b (t .0), leb-true b 57 (t .1))
-
-of-digits : (l : List ℕ) (n : ℕ) → allDigits l ≡ true → halves n l ≡ n * 10 ^ length l + valueOf l
-unfolding halves allDigits valueOf
-of-digits [] n d = omega arith
-of-digits (b ∷ bs) n d =
-    let t = and-true (isDigit b) (allDigits bs) d in
-    rw (half-of-digit b (t .0)) (of-digits bs (n * 10 + (b - 48)) (t .1) ∙ digit-more n (b - 48) (length bs) (valueOf bs))
-
--- a number after a minus is below 0
-not-negative : (l : List ℕ) (v : ℕ) → negative l ≡ Value (pos v) → ⊥
-unfolding negative
-not-negative l v = go (isNumber l) (eqb (valueOf l) 0) refl
-  where
-    below : (n : ℕ) → (n ≡ 0 → ⊥) → Value (negℤ (pos n)) ≡ Value (pos v) → ⊥
-    below zero h e = h refl
-    below (suc n) h e = let x : negsuc n ≡ pos v = cc in let z : _≡_ {A = ℕ} 0 1 = cc in omega arith
-
-    go : (t u : Bool) → eqb (valueOf l) 0 ≡ u → cond t (cond u MinusZero (Value (negℤ (pos (valueOf l))))) Malformed ≡ Value (pos v) → ⊥
-    go true true k e = let z : _≡_ {A = ℕ} 0 1 = cc in omega arith
-    go true false k e = below (valueOf l) (eqb-false (valueOf l) 0 k) e
-    go false u k e = let z : _≡_ {A = ℕ} 0 1 = cc in omega arith
-
-number-step : (b : ℕ) (bs : List ℕ) (v : ℕ) → positive (b ∷ bs) ≡ Value (pos v) → halves 0 (b ∷ bs) ≡ v
-unfolding positive isNumber
-number-step b bs v = go (allDigits (b ∷ bs)) refl
-  where
-    go : (t : Bool) → allDigits (b ∷ bs) ≡ t → cond t (Value (pos (valueOf (b ∷ bs)))) Malformed ≡ Value (pos v) → halves 0 (b ∷ bs) ≡ v
-    go true d k =
-        let x : valueOf (b ∷ bs) ≡ v = cc in
-        let y : 0 * 10 ^ length (b ∷ bs) + valueOf (b ∷ bs) ≡ v = omega arith in
-        of-digits (b ∷ bs) 0 d ∙ y
-    go false d k = let z : _≡_ {A = ℕ} 0 1 = cc in absurd (omega arith)
-
-column-step : (b : ℕ) (bs : List ℕ) (v : ℕ) → Byte b → (columnOf bs ≡ Value (pos v) → halves 0 bs ≡ v) → columnOf (b ∷ bs) ≡ Value (pos v) → halves 0 (b ∷ bs) ≡ v
-unfolding halves columnOf strip signed
-column-step b bs v (v-space e) ih h = rw e (ih (rw e at h))
-column-step b bs v (v-minus e) ih h = absurd (not-negative bs v (rw e at h))
-column-step b bs v (v-digit p q r) ih h = number-step b bs v (simp (p, q) at h)
-column-step b bs v (v-other p q r) ih h = number-step b bs v (simp (p, q) at h)
-
-of-column : (l : List ℕ) (v : ℕ) → columnOf l ≡ Value (pos v) → halves 0 l ≡ v
-unfolding columnOf strip signed
-of-column [] v h = let z : _≡_ {A = ℕ} 0 1 = cc in absurd (omega arith)
-of-column (b ∷ bs) v h = column-step b bs v (byte b) (of-column bs v) h
-
 -- ---- the loop, in the code's own words
 
 -- two below twice a power of ten: ten times that and 15 more are two below twice the next
-pub halves-small : (n b i : ℕ) → n + 2 ≤ 2 * 10 ^ i → n * 10 + b % 16 + 2 ≤ 2 * 10 ^ (i + 1)
-halves-small n b i h = rw (add-one, pow-suc) (omega arith)
+pub next-small : (n n′ b i : ℕ) → n′ ≡ numberStep n b → n + 2 ≤ 2 * 10 ^ i → n′ + 2 ≤ 2 * 10 ^ (i + 1)
+next-small n n′ b i e h = rw (e, add-one, pow-suc) (omega arith)
 
 pub small-number : (n i width : ℕ) → n + 2 ≤ 2 * 10 ^ i → i < width → width ≤ 7 → n < 20000000
 small-number n i width h k w = omega (arith, pow-le-pow-right {n = 10} (omega arith) {i = i} {j = 7} (omega arith))
 
 module _ (l : List ℕ) (start width : ℕ) where
-  -- what the bytes from the i-th on make of n
-  unfoldable pub halvesFrom : ℕ → ℕ → ℕ
-  halvesFrom n i = halves n (take (width - i) (drop (start + i) l))
+  -- the number after the bytes from the i-th on, where it is n before them
+  unfoldable pub numberOn : ℕ → ℕ → ℕ
+  numberOn n i = numberFrom n (take (width - i) (drop (start + i) l))
 
-  pub no-byte : halvesFrom 0 0 ≡ halves 0 (take width (drop start l))
-  unfolding halvesFrom
+  pub no-byte : numberOn 0 0 ≡ numberFrom 0 (take width (drop start l))
+  unfolding numberOn
   no-byte =
       let e : width - 0 ≡ width = omega arith in
       let f : start + 0 ≡ start = omega arith in
       rw (e, f)
 
-  pub next-byte : (n i all : ℕ) → length l ≡ 84 → start + width ≤ 84 → i < width → halvesFrom n i ≡ all → halvesFrom (n * 10 + getD l (start + i) 0 % 16) (i + 1) ≡ all
-  unfolding halvesFrom halves
-  next-byte n i all whole h k e =
+  pub next-byte : (n n′ i all : ℕ) → n′ ≡ numberStep n (getD l (start + i) 0) → length l ≡ 84 → start + width ≤ 84 → i < width → numberOn n i ≡ all → numberOn n′ (i + 1) ≡ all
+  unfolding numberOn numberFrom
+  next-byte n n′ i all s whole h k e =
       let a : width - i ≡ suc (width - (i + 1)) = omega arith in
       let b : start + (i + 1) ≡ suc (start + i) = omega arith in
-      rw b (rw (a, drop-cons l (start + i) 0 (omega arith)) at e)
+      rw (s, b) (rw (a, drop-cons l (start + i) 0 (omega arith)) at e)
 
-  pub all-bytes : (n i : ℕ) → length l ≡ 84 → start + width ≤ 84 → width ≤ 7 → Natural l start width → width ≤ i → halvesFrom n i ≡ halves 0 (take width (drop start l)) → n ≡ numberIn l start width
-  unfolding halvesFrom halves column
+  pub all-bytes : (n i : ℕ) → length l ≡ 84 → start + width ≤ 84 → width ≤ 7 → Natural l start width → width ≤ i → numberOn n i ≡ numberFrom 0 (take width (drop start l)) → n ≡ numberIn l start width
+  unfolding numberOn numberFrom column
   all-bytes n i whole h w natural k e =
       let a : width - i ≡ 0 = omega arith in
-      rw a at e ∙ of-column (take width (drop start l)) (numberIn l start width) (sym (column-at-inside l start width (omega arith) (omega arith)) ∙ natural)
+      rw a at e ∙ number-alone (take width (drop start l)) (numberIn l start width) (sym (column-at-inside l start width (omega arith) (omega arith)) ∙ natural)
 
 -- ---- the columns of a record without fault
 
-known : (l : List ℕ) (start width v : ℕ) → columnAt l start width ≡ Value (pos v) → Natural l start width
+pub known : (l : List ℕ) (start width v : ℕ) → columnAt l start width ≡ Value (pos v) → Natural l start width
 unfolding numberIn
 known l start width v e = rw e
 

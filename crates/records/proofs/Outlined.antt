@@ -1,24 +1,70 @@
 -- Outlines in the code's own words, and what callers cite: an outline is what the view of its record says. Assumes nothing.
 use mathlib.Core.Path.{_≡_, refl, ap, ap₂, sym, _∙_}
-use mathlib.Core.Bool.{Bool, true, false, cond, _&&_}
-use mathlib.Core.List.{List}
-use Prim.Native.Nat.{ℕ, _*_, _+_, _-_, _≤_}
+use mathlib.Core.Bool.{Bool, true, false, cond, _&&_, false≢true}
+use mathlib.Core.List.{List, [], _∷_}
+use Prim.Native.Nat.{ℕ, suc, _+_, _-_, _*_, _≤_}
 use native.Mathlib.Omega.{arith}
-use borrow.Author.Tests.{eq-eqb, ne-eqb}
-use lib.Dec.{eqb}
-use lib.ListN.{length}
-use Rattle.format.specs.Layout.{find, header, element, gridHeader, netHeader}
+use borrow.Author.Tests.{eq-eqb, ne-eqb, eqb-true}
+use lib.Dec.{leb, eqb}
+use lib.IntN.{pos}
+use lib.ListN.{length, getD}
+use lib.Seq.{drop-cons}
+use Rattle.format.specs.Column.{strip, isDigit, allDigits, valueOf, isNumber, positive, signed, columnOf, numberOf}
+use Rattle.format.specs.declared.Column.the-variants.{Value}
+use Rattle.format.proofs.Basics.{and-true}
+use Rattle.format.proofs.Columns.{Byte, v-space, v-minus, v-digit, v-other, byte}
+use Rattle.format.specs.Layout.{column, find, header, element, gridHeader, netHeader}
 use Rattle.format.specs.Record.{RecordType, H, E1, E2, E3, E4, E5, E6, E7, E8, G, T, other, typeOf, isHead, countIndex, gridStates, View, headerView, elementView, gridView, netView, otherView, viewAs, view}
 use Rattle.format.specs.Judge.{isHeaderAt}
-use Rattle.columns.specs.InRecord.{numberIn}
+use Rattle.columns.specs.InRecord.{columnAt, numberIn}
+use Rattle.columns.proofs.Laws.{column-at-inside}
 use Rattle.records.specs.declared.outlines.Outline.{Outline}
 use Rattle.records.specs.declared.TypeCode.{TypeCode}
 use Rattle.records.specs.declared.TypeCode.the-variants.{Header, Element, Grid, Net, Other}
 use Rattle.records.specs.Outline.{outlineIn, noOutline, outlineOf}
-use Rattle.records.specs.Steps.{codeOf, elementType}
+use Rattle.records.specs.Steps.{Natural, codeOf, elementType}
 use Rattle.records.proofs.Numbers.{stated}
+use Rattle.records.proofs.Naturals.{known}
 use Rattle.records.proofs.Entries.{element-facts}
 use Rattle.records.proofs.Laws.{head-index, view-data-records-most}
+
+-- ---- `stated_records`: one digit behind three spaces
+
+four-bytes : (l : List ℕ) (start : ℕ) → start + 4 ≤ length l → column start 4 l ≡ getD l start 0 ∷ getD l (start + 1) 0 ∷ getD l (start + 2) 0 ∷ getD l (start + 3) 0 ∷ []
+unfolding column
+four-bytes l start h =
+    let a : start + 1 ≡ suc start = omega arith in
+    let b : start + 2 ≡ suc (suc start) = omega arith in
+    let c : start + 3 ≡ suc (suc (suc start)) = omega arith in
+    rw (a, b, c, drop-cons l start 0 (omega arith), drop-cons l (suc start) 0 (omega arith), drop-cons l (suc (suc start)) 0 (omega arith), drop-cons l (suc (suc (suc start))) 0 (omega arith))
+
+module _ (l : List ℕ) (whole : length l ≡ 84) (short : Bool) (s : short ≡ (eqb (getD l 31 0) 32 && eqb (getD l 32 0) 32) && eqb (getD l 33 0) 32) where
+  -- behind three spaces
+  spaced : short ≡ true → column 31 4 l ≡ 32 ∷ 32 ∷ 32 ∷ getD l 34 0 ∷ []
+  spaced e =
+      let third = and-true (eqb (getD l 31 0) 32 && eqb (getD l 32 0) 32) (eqb (getD l 33 0) 32) (sym s ∙ e) in
+      let both = and-true (eqb (getD l 31 0) 32) (eqb (getD l 32 0) 32) (third .0) in
+      four-bytes l 31 (omega arith) ∙ rw (eqb-true (getD l 31 0) 32 (both .0), eqb-true (getD l 32 0) 32 (both .1), eqb-true (getD l 33 0) 32 (third .1))
+
+  -- a digit is the column's number
+  digit-there : short ≡ true → leb 48 (getD l 34 0) && leb (getD l 34 0) 57 ≡ true → (d : Byte (getD l 34 0)) → columnAt l 31 4 ≡ Value (pos ((getD l 34 0 - 48) * 1 + 0))
+  unfolding columnOf strip signed positive isNumber allDigits isDigit valueOf
+  digit-there e g (v-space x) = absurd (false≢true (rw x at g))
+  digit-there e g (v-minus x) = absurd (false≢true (rw x at g))
+  digit-there e g (v-digit p q r) = column-at-inside l 31 4 (omega arith) (omega arith) ∙ ap columnOf (spaced e) ∙ simp (p, q, r)
+  digit-there e g (v-other p q r) = absurd (false≢true (sym r ∙ g))
+
+  pub short-natural : short && (leb 48 (getD l 34 0) && leb (getD l 34 0) 57) ≡ true → Natural l 31 4
+  short-natural e =
+      let t = and-true short (leb 48 (getD l 34 0) && leb (getD l 34 0) 57) e in
+      known l 31 4 _ (digit-there (t .0) (t .1) (byte (getD l 34 0)))
+
+  pub short-zero : short && eqb (getD l 34 0) 48 ≡ true → 0 ≡ numberIn l 31 4
+  unfolding numberIn columnOf strip signed positive isNumber allDigits isDigit valueOf
+  short-zero e =
+      let t = and-true short (eqb (getD l 34 0) 48) e in
+      let bytes : column 31 4 l ≡ 32 ∷ 32 ∷ 32 ∷ 48 ∷ [] = spaced (t .0) ∙ ap (λ (b : ℕ). 32 ∷ 32 ∷ 32 ∷ b ∷ []) (eqb-true (getD l 34 0) 48 (t .1)) in
+      sym (ap numberOf (column-at-inside l 31 4 (omega arith) (omega arith) ∙ ap columnOf bytes))
 
 -- ---- each layout's numbers make the outline of its view
 

@@ -58,6 +58,20 @@ entryOf l = cond (eqb (length l) 84) (entryIn (view l)) (refusedEntry 4)
 unfoldable pub dataFaultOf : List ℕ → Held → (behind : ℕ) → ℕ
 dataFaultOf l held behind = cond (eqb (length l) 84) (dataFault (toData held) behind l) 5
 
+-- what an item's data records hold, where a note counts as nothing
+abbrev pub noNote : Held → Held
+noNote Nothing = Nothing
+noNote (Points3D count) = Points3D count
+noNote (Points2D count) = Points2D count
+noNote (Triangles count) = Triangles count
+noNote (Heights count) = Heights count
+noNote Notes = Nothing
+noNote Attributes = Attributes
+
+-- the fault of a data record where a note counts as nothing: of points, heights and attributes it is the same
+unfoldable pub columnsFaultOf : List ℕ → Held → (behind : ℕ) → ℕ
+columnsFaultOf l held behind = dataFaultOf l (noNote held) behind
+
 -- how many columns of seven bytes of a data record are used, by the same two: "Points or heights after the last used one are not judged". A point
 -- in 3D has three columns, one in 2D two, a triangle three points in 3D, a height one
 unfoldable pub columnsUsed : Held → (behind : ℕ) → ℕ

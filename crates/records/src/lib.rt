@@ -2,8 +2,9 @@
 // whether a header states the counts of a tally.
 ghost use mathlib.Core.Path.{_≡_};
 ghost use lib.ListN.{length};
-ghost use Rattle.format.specs.Record.{typeOf, notes, dataFault};
-ghost use Rattle.records.specs.Entry.{entryOf, dataFaultOf, countStart, countWidth, statedCount, statesCounts};
+ghost use Rattle.format.specs.Record.{typeOf};
+ghost use Rattle.records.specs.declared.Held.the-variants.{Notes};
+ghost use Rattle.records.specs.Entry.{entryOf, columnsFaultOf, dataFaultOf, countStart, countWidth, statedCount, statesCounts};
 ghost use Rattle.records.specs.Outline.{outlineOf};
 ghost use Rattle.records.specs.Steps.{codeOf};
 
@@ -136,7 +137,7 @@ pub fn stated_count(record: &[u8], kind: usize) -> usize
     }
     let start = count_start(kind);
     let width = count_width(kind);
-    reading::plain_number(record, start, width)
+    columns::number_at(record, start, width)
 }
 
 // Counts by kind, as a header has them: groups, the eight types of elements, grid and net.
@@ -158,15 +159,17 @@ pub fn counts_agree(record: &[u8], tally: &Tally) -> bool
         sum += stated;
         kind += 1;
     }
-    let total = reading::plain_number(record, Header::TOTAL_START, Header::TOTAL_WIDTH);
+    let total = columns::number_at(record, Header::TOTAL_START, Header::TOTAL_WIDTH);
     agree & (total == sum)
 }
 
-// A note record: its own columns, then its direction.
-fn note_fault(record: &[u8]) -> u8
-    requires { ⌜ length (now «record») ≡ 84 ⌝ }
-    ensures { λ r. ⌜ r ≡ dataFault notes 0 (now («record» .entry)) ⌝ }
+// A note record: its own columns, then its direction. What is no record of 84 bytes is 5.
+pub fn note_fault(record: &[u8]) -> u8
+    ensures { λ r. ⌜ r ≡ dataFaultOf (now («record» .entry)) Notes 0 ⌝ }
 {
+    if record.len() != RECORD {
+        return 5;
+    }
     let fault = layout_faults::data_note_fault(record);
     if fault != 0 {
         return fault;
@@ -188,16 +191,13 @@ fn note_fault(record: &[u8]) -> u8
     }
 }
 
-// The first fault of a data record, by what its item's data records hold and how many of them stand behind this one; 0 for none. Points and
-// heights are read for form alone, those after the last used one not at all.
-pub fn data_fault(record: &[u8], held: Held, behind: usize) -> u8
-    ensures { λ r. ⌜ r ≡ dataFaultOf (now («record» .entry)) held behind ⌝ }
+// A record of points, heights or attributes: 5 for a malformed column, else 0. Points and heights are read for form alone, those after the last used
+// one not at all. A note counts as a record that holds nothing. What is no record of 84 bytes is 5.
+pub fn columns_fault(record: &[u8], held: Held, behind: usize) -> u8
+    ensures { λ r. ⌜ r ≡ columnsFaultOf (now («record» .entry)) held behind ⌝ }
 {
     if record.len() != RECORD {
         return 5;
-    }
-    if let Held::Notes = held {
-        return note_fault(record);
     }
     let used = columns_used(held, behind);
     if form_columns::columns_well_formed(record, 0, used) {
@@ -205,4 +205,14 @@ pub fn data_fault(record: &[u8], held: Held, behind: usize) -> u8
     } else {
         5
     }
+}
+
+// The first fault of a data record, by what its item's data records hold and how many of them stand behind this one; 0 for none.
+pub fn data_fault(record: &[u8], held: Held, behind: usize) -> u8
+    ensures { λ r. ⌜ r ≡ dataFaultOf (now («record» .entry)) held behind ⌝ }
+{
+    if let Held::Notes = held {
+        return note_fault(record);
+    }
+    columns_fault(record, held, behind)
 }

@@ -1,9 +1,11 @@
-// The outline of a header or an item by its layout: each number from its own column, and no other column read. A walk over a sheet has nothing
-// else to do at a record, so the numbers are read with few instructions where the columns are as an accepted sheet has them.
+// The outline of a header or an item by its layout: each number from its own column, and no other column read.
 ghost use mathlib.Core.Path.{_≡_};
+ghost use mathlib.Core.Bool.{_&&_};
 ghost use Prim.Native.Nat.{_≤_, _<_};
-ghost use lib.ListN.{length};
+ghost use lib.Dec.{eqb};
+ghost use lib.ListN.{length, getD};
 ghost use Rattle.format.specs.Record.{gridStates, headerView, elementView, gridView, netView};
+ghost use Rattle.columns.specs.InRecord.{numberIn};
 ghost use Rattle.records.specs.Outline.{noOutline, outlineIn};
 ghost use Rattle.records.specs.Steps.{elementType};
 use super::reading;
@@ -40,7 +42,7 @@ pub(crate) fn header_outline(record: &[u8]) -> Outline
     requires { ⌜ length (now «record») ≡ 84 ⌝ }
     ensures { λ r. ⌜ r ≡ outlineIn (headerView (now («record» .entry))) ⌝ }
 {
-    let level = reading::plain_number(record, Header::LEVEL_START, Header::LEVEL_WIDTH);
+    let level = columns::number_at(record, Header::LEVEL_START, Header::LEVEL_WIDTH);
     Outline {
         kind: 0,
         level,
@@ -48,12 +50,38 @@ pub(crate) fn header_outline(record: &[u8]) -> Outline
     }
 }
 
+// The three bytes before the last one of an element's data records are spaces.
+fn is_short(record: &[u8]) -> bool
+    requires { ⌜ length (now «record») ≡ 84 ⌝ }
+    ensures { λ r. ⌜ r ≡ (eqb (getD (now («record» .entry)) 31 0) 32 && eqb (getD (now («record» .entry)) 32 0) 32) && eqb (getD (now («record» .entry)) 33 0) 32 ⌝ }
+{
+    let at = Element::RECORDS_START;
+    (record[at] == b' ') & (record[at + 1] == b' ') & (record[at + 2] == b' ')
+}
+
+// The number of an element's data records. Where it is a written 0, as most are, a comparison tells so: a walk needs the number to find the next record,
+// and what the processor foretells it does not wait for. Where it is another digit behind spaces, the column is known to have a number of at least 0.
+fn stated_records(record: &[u8]) -> usize
+    requires { ⌜ length (now «record») ≡ 84 ⌝ }
+    ensures { λ r. ⌜ r ≡ numberIn (now («record» .entry)) 31 4 ⌝ }
+{
+    let short = is_short(record);
+    let last = record[Element::RECORDS_START + 3];
+    if short & (last == b'0') {
+        return 0;
+    }
+    if short & ((b'0' <= last) & (last <= b'9')) {
+        return reading::natural(record, Element::RECORDS_START, Element::RECORDS_WIDTH);
+    }
+    columns::number_at(record, Element::RECORDS_START, Element::RECORDS_WIDTH)
+}
+
 // `number` is that of the type, 1 to 8 for E1 to E8, and of the count.
 pub(crate) fn element_outline(record: &[u8], number: usize) -> Outline
     requires { ⌜ (length (now «record») ≡ 84) × (1 ≤ number) × (number ≤ 8) ⌝ }
     ensures { λ r. ⌜ r ≡ outlineIn (elementView (elementType number) (now («record» .entry))) ⌝ }
 {
-    let records = reading::short_number(record, Element::RECORDS_START, Element::RECORDS_WIDTH);
+    let records = stated_records(record);
     Outline {
         kind: number,
         level: 0,
@@ -76,12 +104,8 @@ pub(crate) fn grid_outline(record: &[u8]) -> Outline
     requires { ⌜ length (now «record») ≡ 84 ⌝ }
     ensures { λ r. ⌜ r ≡ outlineIn (gridView (now («record» .entry))) ⌝ }
 {
-    let records = reading::plain_number(
-        record,
-        GridHeader::RECORDS_START,
-        GridHeader::RECORDS_WIDTH,
-    );
-    let repeat = reading::plain_number(record, GridHeader::REPEAT_START, GridHeader::REPEAT_WIDTH);
+    let records = columns::number_at(record, GridHeader::RECORDS_START, GridHeader::RECORDS_WIDTH);
+    let repeat = columns::number_at(record, GridHeader::REPEAT_START, GridHeader::REPEAT_WIDTH);
     let states = grid_records(repeat, records);
     Outline {
         kind: GRID_OR_NET,
@@ -94,7 +118,7 @@ pub(crate) fn net_outline(record: &[u8]) -> Outline
     requires { ⌜ length (now «record») ≡ 84 ⌝ }
     ensures { λ r. ⌜ r ≡ outlineIn (netView (now («record» .entry))) ⌝ }
 {
-    let records = reading::plain_number(record, NetHeader::RECORDS_START, NetHeader::RECORDS_WIDTH);
+    let records = columns::number_at(record, NetHeader::RECORDS_START, NetHeader::RECORDS_WIDTH);
     Outline {
         kind: GRID_OR_NET,
         level: 0,

@@ -43,8 +43,8 @@ loop-less c = search needs
 loop-again : tie.Need-loop-again Inv-loop μ-loop
 loop-again c = search (needs, next-agrees, next-sum)
 
-plain-number-requires : tie.Need-plain-number-requires Inv-loop μ-loop
-plain-number-requires c κs = search needs
+number-at-requires : tie.Need-number-at-requires Inv-loop μ-loop
+number-at-requires c κs = search needs
 
 returns-2 : tie.Need-returns-2 Inv-loop μ-loop
 returns-2 c = search all-agree
@@ -64,5 +64,5 @@ counts-agree-spec =
     add-kind
     loop-less
     loop-again
-    plain-number-requires
+    number-at-requires
     returns-2)

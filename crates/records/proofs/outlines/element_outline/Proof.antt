@@ -4,11 +4,11 @@ use borrow.Author.Needs.{needs}
 use Rattle.records.proofs.outlines.element_outline.Statement.{statement}
 use Rattle.records.proofs.outlines.element_outline.Tie as tie
 
-short-number-requires : tie.Need-short-number-requires
-short-number-requires c κs = search needs
+stated-records-requires : tie.Need-stated-records-requires
+stated-records-requires c κs = search needs
 
 returns : tie.Need-returns
 returns c = search element-outlined
 
 pub element-outline-spec : {M : Type 1} → statement M
-element-outline-spec = tie.close (tie.spec short-number-requires returns)
+element-outline-spec = tie.close (tie.spec stated-records-requires returns)

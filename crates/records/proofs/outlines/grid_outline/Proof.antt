@@ -5,11 +5,11 @@ use borrow.Author.Needs.{needs}
 use Rattle.records.proofs.outlines.grid_outline.Statement.{statement}
 use Rattle.records.proofs.outlines.grid_outline.Tie as tie
 
-plain-number-requires : tie.Need-plain-number-requires
-plain-number-requires c κs = search needs
+number-at-requires : tie.Need-number-at-requires
+number-at-requires c κs = search needs
 
-plain-number-requires-2 : tie.Need-plain-number-requires-2
-plain-number-requires-2 c κs = search needs
+number-at-requires-2 : tie.Need-number-at-requires-2
+number-at-requires-2 c κs = search needs
 
 grid-records-requires : tie.Need-grid-records-requires
 grid-records-requires c κs = search (one-digit, four-digits)
@@ -20,4 +20,4 @@ returns c = search grid-outlined
 pub grid-outline-spec : {M : Type 1} → statement M
 grid-outline-spec =
     tie.close
-    (tie.spec plain-number-requires plain-number-requires-2 grid-records-requires returns)
+    (tie.spec number-at-requires number-at-requires-2 grid-records-requires returns)

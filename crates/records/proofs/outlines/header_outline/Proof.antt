@@ -4,11 +4,11 @@ use borrow.Author.Needs.{needs}
 use Rattle.records.proofs.outlines.header_outline.Statement.{statement}
 use Rattle.records.proofs.outlines.header_outline.Tie as tie
 
-plain-number-requires : tie.Need-plain-number-requires
-plain-number-requires c κs = search needs
+number-at-requires : tie.Need-number-at-requires
+number-at-requires c κs = search needs
 
 returns : tie.Need-returns
 returns c = search header-outlined
 
 pub header-outline-spec : {M : Type 1} → statement M
-header-outline-spec = tie.close (tie.spec plain-number-requires returns)
+header-outline-spec = tie.close (tie.spec number-at-requires returns)

@@ -4,11 +4,11 @@ use borrow.Author.Needs.{needs}
 use Rattle.records.proofs.outlines.net_outline.Statement.{statement}
 use Rattle.records.proofs.outlines.net_outline.Tie as tie
 
-plain-number-requires : tie.Need-plain-number-requires
-plain-number-requires c κs = search needs
+number-at-requires : tie.Need-number-at-requires
+number-at-requires c κs = search needs
 
 returns : tie.Need-returns
 returns c = search net-outlined
 
 pub net-outline-spec : {M : Type 1} → statement M
-net-outline-spec = tie.close (tie.spec plain-number-requires returns)
+net-outline-spec = tie.close (tie.spec number-at-requires returns)

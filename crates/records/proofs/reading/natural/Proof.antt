@@ -5,38 +5,29 @@ use mathlib.Core.Path.{_≡_}
 use Prim.Native.Nat.{_+_, _-_, _*_, _^_, _≤_}
 use native.Mathlib.Omega.{arith}
 use lib.ListN.{take, drop}
-use Rattle.records.proofs.Naturals.{halves, halvesFrom, halves-small, small-number, no-byte, next-byte, all-bytes}
+use Rattle.columns.specs.Pass.{numberFrom}
+use Rattle.records.proofs.Naturals.{numberOn, next-small, small-number, no-byte, next-byte, all-bytes}
 use Rattle.records.proofs.reading.natural.Statement.{statement}
 use Rattle.records.proofs.reading.natural.Tie as tie
 
 abbrev Inv-loop : tie.InvT-loop
-Inv-loop «record» start width n₀ i₀ n i =
-    (i ≤ width) × (n + 2 ≤ 2 * 10 ^ i) × (halvesFrom «record» start width n i ≡ halves 0 (take width (drop start «record»)))
+Inv-loop «record» start width number₀ i₀ number i =
+    (i ≤ width) × (number + 2 ≤ 2 * 10 ^ i) × (numberOn «record» start width number i ≡ numberFrom 0 (take width (drop start «record»)))
 
 abbrev μ-loop : tie.MeasureT-loop
-μ-loop «record» start width n₀ i₀ n i = width - i
+μ-loop «record» start width number₀ i₀ number i = width - i
 
 loop-holds : tie.Need-loop-holds Inv-loop μ-loop
 loop-holds c = (search needs, omega arith, no-byte _ _ _)
 
-mul-n : tie.Need-mul-n Inv-loop μ-loop
-mul-n c =
-    let k = c .before .loop in
-    omega (arith, small-number (k .n) (k .i) (c .before .before .args .width) (k .inv .1) (omega arith) (omega arith))
+add-number-step : tie.Need-add-number-step Inv-loop μ-loop
+add-number-step c = search needs
 
-add-n : tie.Need-add-n Inv-loop μ-loop
-add-n c = search needs
+shared-slice-read-number-step : tie.Need-shared-slice-read-number-step Inv-loop μ-loop
+shared-slice-read-number-step c = search needs
 
-shared-slice-read-n : tie.Need-shared-slice-read-n Inv-loop μ-loop
-shared-slice-read-n c = search needs
-
-cast-n : tie.Need-cast-n Inv-loop μ-loop
-cast-n c = search needs
-
-add-n-2 : tie.Need-add-n-2 Inv-loop μ-loop
-add-n-2 c =
-    let k = c .before .before .loop in
-    omega (arith, small-number (k .n) (k .i) (c .before .before .before .args .width) (k .inv .1) (omega arith) (omega arith))
+number-step-requires : tie.Need-number-step-requires Inv-loop μ-loop
+number-step-requires c κs = search small-number
 
 add-i : tie.Need-add-i Inv-loop μ-loop
 add-i c = search needs
@@ -45,7 +36,7 @@ loop-less : tie.Need-loop-less Inv-loop μ-loop
 loop-less c = search needs
 
 loop-again : tie.Need-loop-again Inv-loop μ-loop
-loop-again c = search (needs, halves-small, next-byte)
+loop-again c = search (needs, next-small, next-byte)
 
 returns : tie.Need-returns Inv-loop μ-loop
 returns c = search all-bytes
@@ -57,11 +48,9 @@ natural-spec =
     Inv-loop
     μ-loop
     loop-holds
-    mul-n
-    add-n
-    shared-slice-read-n
-    cast-n
-    add-n-2
+    add-number-step
+    shared-slice-read-number-step
+    number-step-requires
     add-i
     loop-less
     loop-again

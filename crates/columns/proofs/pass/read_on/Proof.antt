@@ -1,20 +1,20 @@
--- `columns::scan` meets its contract. The loop's invariant: the bytes that are left, read from what is kept, end where all the bytes
+-- `columns::pass::read_on` meets its contract. The loop's invariant: the bytes that are left, passed from what is kept, end where the bytes from `from` on
 -- end; and the number that is kept is below 10 ^ i. Assumes nothing.
 use mathlib.Core.Path.{_≡_, refl}
 use Prim.Native.Nat.{_-_, _^_, _≤_, _<_}
 use borrow.Author.Needs.{needs}
 use lib.ListN.{length, drop}
-use Rattle.columns.specs.declared.State.the-variants.{Blank}
-use Rattle.columns.specs.ReadSteps.{numberKept, run}
-use Rattle.columns.proofs.Reading.{again, grown, small, read-all}
-use Rattle.columns.proofs.scan.Statement.{statement}
-use Rattle.columns.proofs.scan.Tie as tie
+use Rattle.columns.specs.Pass.{passFrom}
+use Rattle.columns.proofs.Reading.{again, grown, small, read-out, read-all}
+use Rattle.columns.proofs.pass.read_on.Statement.{statement}
+use Rattle.columns.proofs.pass.read_on.Tie as tie
 
 abbrev Inv-loop : tie.InvT-loop
-Inv-loop part s₀ i₀ s i = (i ≤ length part) × (numberKept s < 10 ^ i) × (run s (drop i part) ≡ run Blank part)
+Inv-loop column from kept₀ i₀ kept i =
+    (i ≤ length column) × (kept .number < 10 ^ i) × (passFrom kept (drop i column) ≡ passFrom kept₀ (drop from column))
 
 abbrev μ-loop : tie.MeasureT-loop
-μ-loop part s₀ i₀ s i = length part - i
+μ-loop column from kept₀ i₀ kept i = length column - i
 
 loop-holds : tie.Need-loop-holds Inv-loop μ-loop
 loop-holds c = (search needs, search needs, refl)
@@ -24,6 +24,12 @@ shared-slice-read-step c = search needs
 
 step-requires : tie.Need-step-requires Inv-loop μ-loop
 step-requires c κs = search small
+
+enum-told : tie.Need-enum-told Inv-loop μ-loop
+enum-told c = search needs
+
+returns : tie.Need-returns Inv-loop μ-loop
+returns c = search read-out
 
 add-i : tie.Need-add-i Inv-loop μ-loop
 add-i c = search needs
@@ -37,11 +43,11 @@ loop-again c = search (needs, again, grown)
 finish-requires : tie.Need-finish-requires Inv-loop μ-loop
 finish-requires c κs = search small
 
-returns : tie.Need-returns Inv-loop μ-loop
-returns c = search read-all
+returns-2 : tie.Need-returns-2 Inv-loop μ-loop
+returns-2 c = search read-all
 
-pub scan-spec : {M : Type 1} → statement M
-scan-spec =
+pub read-on-spec : {M : Type 1} → statement M
+read-on-spec =
     tie.close
     (tie.spec
     Inv-loop
@@ -49,8 +55,10 @@ scan-spec =
     loop-holds
     shared-slice-read-step
     step-requires
+    enum-told
+    returns
     add-i
     loop-less
     loop-again
     finish-requires
-    returns)
+    returns-2)
