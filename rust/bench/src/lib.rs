@@ -1,4 +1,5 @@
-//! What the benchmark measures: sheets, and an idiomatic judge beside the proved one.
+//! What the benchmark measures: sheets, an idiomatic judge beside the proved one, and readers of a column beside the proved one.
 
 pub mod files;
 pub mod idiomatic;
+pub mod readers;

@@ -4,6 +4,7 @@
 //! can be repeated by `dmtool batch` and by the reference's `oracle`. The tests run some tens of thousands of cases, `differential CASES` millions.
 
 mod bytes;
+mod columns;
 mod directories;
 mod edits;
 mod files;
@@ -14,6 +15,7 @@ pub use bytes::{
     every_byte_of_a_directory, every_byte_of_a_sheet, every_byte_of_an_index, every_byte_of_lines,
     every_byte_of_the_second_edition, every_edition, every_line_end, every_pointer, every_pointer_of_the_second_edition,
 };
+pub use columns::{every_byte_of_a_column, every_short_column};
 pub use directories::{Calls, NEW_CALLS, OLD_CALLS};
 
 use reference::random::Random;

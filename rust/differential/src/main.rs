@@ -1,20 +1,22 @@
-//! `differential [CASES [SEED [WORDS]]]`: every area with so many cases (a million if not said), from a seed, and every byte of small files, every
-//! line end, every pointer and every edition of a directory; with words, only what has them in its name, as `differential 1000000 7 "line end"`. Ends with status 1
-//! and the case at the first difference.
+//! `differential [CASES [SEED [WORDS]]]`: every area with so many cases (a million if not said), from a seed, and every byte of small files and of
+//! columns, every line end, every pointer and every edition of a directory; with words, only what has them in its name, as `differential 1000000 7
+//! "line end"`. Ends with status 1 and the case at the first difference.
 
 use differential::{
-    every_byte_of_a_directory, every_byte_of_a_sheet, every_byte_of_an_index, every_byte_of_lines,
-    every_byte_of_the_second_edition, every_edition, every_line_end, every_pointer, every_pointer_of_the_second_edition, Answers,
-    AREAS,
+    every_byte_of_a_column, every_byte_of_a_directory, every_byte_of_a_sheet, every_byte_of_an_index, every_byte_of_lines,
+    every_byte_of_the_second_edition, every_edition, every_line_end, every_pointer, every_pointer_of_the_second_edition,
+    every_short_column, Answers, AREAS,
 };
 use reference::random::Random;
 use std::process::exit;
 use std::time::Instant;
 
-/// Tries every byte of a file that a seed gives.
+/// Tries every byte of what a seed gives.
 type Run = fn(u64) -> Result<Answers, String>;
 
-const EVERY_BYTE: [(&str, Run); 9] = [
+const EVERY_BYTE: [(&str, Run); 11] = [
+    ("every short column", |_| every_short_column()),
+    ("every byte of a column", every_byte_of_a_column),
     ("every byte of a sheet", every_byte_of_a_sheet),
     ("every byte of an index", every_byte_of_an_index),
     ("every byte with line ends", every_byte_of_lines),

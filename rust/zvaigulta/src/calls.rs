@@ -52,6 +52,7 @@ pub struct LayerEntry {
 }
 
 /// The answer of a call, whose refusal number is 0 where it was accepted.
+#[inline]
 fn answer<T>(refusal: u64, record: usize, value: T) -> Result<T, Refusal> {
     match refusal {
         0 => Ok(value),
@@ -115,6 +116,7 @@ pub fn judge_index(buffer: &[u8], used: usize) -> Result<Counts, Refusal> {
 /// assert_eq!(read_column(b"12  ").unwrap_err().reason, Reason::Malformed);
 /// assert_eq!(read_column(b"").unwrap_err().reason, Reason::Number);
 /// ```
+#[inline]
 pub fn read_column(column: &[u8]) -> Result<i64, Refusal> {
     let raw = raw::read(column);
     answer(raw.refusal, raw.at, raw.value)

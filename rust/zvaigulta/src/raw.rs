@@ -82,6 +82,7 @@ extern "C" {
     fn zv_report(input: *const u8, input_length: usize, out: *mut u8, out_length: usize) -> Length;
 }
 
+#[inline]
 pub fn read(column: &[u8]) -> Number {
     // SAFETY: the slice lends `width` bytes to read for the call; the library keeps no pointer and has no `requires`.
     unsafe { zv_read_column(column.as_ptr(), column.len()) }
