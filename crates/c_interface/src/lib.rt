@@ -27,7 +27,7 @@ use format_words::Described;
 const VERSION: u64 = 500;
 
 #[repr(C)]
-#[derive(Drop)]
+#[derive(Clone, Copy)]
 pub struct ZvNumber {
     pub refusal: u64,
     pub at: usize,
@@ -35,7 +35,7 @@ pub struct ZvNumber {
 }
 
 #[repr(C)]
-#[derive(Drop)]
+#[derive(Clone, Copy)]
 pub struct ZvCorner {
     pub refusal: u64,
     pub at: usize,
@@ -44,7 +44,7 @@ pub struct ZvCorner {
 }
 
 #[repr(C)]
-#[derive(Drop)]
+#[derive(Clone, Copy)]
 pub struct ZvCounts {
     pub refusal: u64,
     pub at: usize,
@@ -53,7 +53,7 @@ pub struct ZvCounts {
 }
 
 #[repr(C)]
-#[derive(Drop)]
+#[derive(Clone, Copy)]
 pub struct ZvLength {
     pub refusal: u64,
     pub at: usize,
@@ -62,7 +62,7 @@ pub struct ZvLength {
 
 // `header` is 0 where no header stands above.
 #[repr(C)]
-#[derive(Drop)]
+#[derive(Clone, Copy)]
 pub struct ZvWay {
     pub refusal: u64,
     pub at: usize,
@@ -71,7 +71,7 @@ pub struct ZvWay {
 }
 
 #[repr(C)]
-#[derive(Drop)]
+#[derive(Clone, Copy)]
 pub struct ZvLayer {
     pub refusal: u64,
     pub at: usize,
@@ -80,7 +80,7 @@ pub struct ZvLayer {
 
 // `total` and `last` are 0 for a directory of the first edition, which does not state them.
 #[repr(C)]
-#[derive(Drop)]
+#[derive(Clone, Copy)]
 pub struct ZvLayerEntry {
     pub refusal: u64,
     pub at: usize,
@@ -91,7 +91,7 @@ pub struct ZvLayerEntry {
 
 // `content` is the letter for what may stand in the column.
 #[repr(C)]
-#[derive(Drop)]
+#[derive(Clone, Copy)]
 pub struct ZvColumn {
     pub refusal: u64,
     pub at: usize,

@@ -102,7 +102,7 @@ pub fn spaces_at(record: &[u8], start: usize, width: usize) -> bool
 // ---- writing
 
 // What is still to be written, from the right: digits, whether a minus stands before them, and their number; the minus; spaces.
-#[derive(Drop)]
+#[derive(Clone, Copy)]
 enum Rest {
     Digits(bool, u64),
     Minus,
@@ -177,7 +177,7 @@ pub fn size(value: i64) -> u64
 }
 
 // What to write, or that width or number do not allow it.
-#[derive(Drop)]
+#[derive(Clone, Copy)]
 enum Choice {
     Write(Rest),
     Refuse,

@@ -6,7 +6,7 @@ ghost use Rattle.columns.specs.Pass.{digit_mark, other_mark, step_of, pass_from,
 use format::Column;
 
 // What the bytes so far are: spaces alone; a minus behind them; digits behind them; digits behind a minus; what no column has.
-#[derive(Drop)]
+#[derive(Clone, Copy)]
 pub(crate) enum Mark {
     Spaces,
     Minus,
@@ -16,7 +16,7 @@ pub(crate) enum Mark {
 }
 
 // All that is kept of the bytes so far. The number is that of the digits.
-#[derive(Drop)]
+#[derive(Clone, Copy)]
 pub(crate) struct Kept {
     number: u64,
     mark: Mark,

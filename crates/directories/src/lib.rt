@@ -16,7 +16,7 @@ mod writing;
 
 // A sheet with its directory: the fault, 0 for none, and its record; else the directory's edition, the number of its first record, how many layers it lists, and
 // how many items the sheet has.
-#[derive(Drop)]
+#[derive(Clone, Copy)]
 struct Found {
     fault: u8,
     at: usize,

@@ -19,7 +19,7 @@ use records::Outline;
 type Bytes = [u8; 84];
 
 // A record of the directory, and the record of the sheet from which the next layers are looked for.
-#[derive(Drop)]
+#[derive(Clone, Copy)]
 struct Row {
     bytes: Bytes,
     next: usize,
@@ -27,7 +27,7 @@ struct Row {
 
 // What stands from a record of the sheet up to the next header of a layer: how many items, and the record of that header, as many as the file has records where
 // there is none.
-#[derive(Drop)]
+#[derive(Clone, Copy)]
 struct Passed {
     items: usize,
     next: usize,

@@ -33,7 +33,7 @@ const NUMBERS: usize = 3;
 const LAYERS: usize = 3;
 
 // What may be listed of a layer: the record number of its header, how many items it has, at any depth, and the number of its last record.
-#[derive(Drop)]
+#[derive(Clone, Copy)]
 pub struct LayerNumbers {
     pub header: usize,
     pub total: usize,
@@ -41,7 +41,7 @@ pub struct LayerNumbers {
 }
 
 // The same for a comparison: header and last record as packed numbers, the total as it is.
-#[derive(Drop)]
+#[derive(Clone, Copy)]
 pub struct PackedNumbers {
     pub header: u64,
     pub total: usize,

@@ -7,7 +7,7 @@ use format::Written;
 use libc::{STDIN_FILENO, STDOUT_FILENO};
 
 // What reading came to: so many bytes, and whether it ended by a read that failed. Then they may be a part of the input.
-#[derive(Drop)]
+#[derive(Clone, Copy)]
 struct Input {
     used: usize,
     failed: bool,

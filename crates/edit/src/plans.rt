@@ -12,14 +12,14 @@ use format::Block;
 use judge::Sheet;
 use records::Entry;
 
-#[derive(Drop)]
+#[derive(Clone, Copy)]
 pub(crate) enum Plan {
     Refuse(u8, usize),
     Store(Change),
 }
 
 // The header above an item, by its index in the file, and what it states: its total, and its count of the item's kind.
-#[derive(Drop)]
+#[derive(Clone, Copy)]
 pub(crate) struct Above {
     pub header: usize,
     pub total: usize,

@@ -14,7 +14,7 @@ pub const LINE: usize = RECORD + 2;
 pub const MOST: usize = 200000;
 
 // How far a record starts behind the one before it: records of 84 bytes end to end, or with a line end of two bytes behind each.
-#[derive(Drop)]
+#[derive(Clone, Copy)]
 pub enum Stride {
     Plain,
     Lines,

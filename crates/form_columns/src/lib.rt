@@ -14,7 +14,7 @@ const LETTERS: [u8; 48] = *b"mmmmmdMmmmmmdMmmmmmdMmmmmmdMmmmmmdMmmmmmdMmmmmmd";
 const COLUMNS: [u8; 48] = *b"000000111111122222223333333444444455555556666666";
 
 // Whether seven columns are surely well formed, at the front and at the back of many.
-#[derive(Drop)]
+#[derive(Clone, Copy)]
 struct Ends {
     front: bool,
     back: bool,

@@ -10,7 +10,7 @@ use Rattle.format.specs.Basics.{Fault, none, fault, or_else, to_fault}
 use Rattle.format.specs.Record.{Data, nothing, view}
 use Rattle.format.specs.Part.{part_from, part_fault}
 use Rattle.format.specs.Sheet.{Phase, due_a, due_b, due_c, due_d, due_e, due_f, body, is_over, after, wrong_in, sheet_machine}
-use Rattle.format.specs.Judge.{open_of, fault_at, walk}
+use Rattle.format.specs.Judge.{open_of, fault_at, walk, open_after, due_after}
 use Rattle.format.specs.Checks.{FirstOf, in_order, Walk, due_behind_all, AllPass, FirstFault, Due, of_part, header_or_item, data_due, faults_due, enter, due_again, stated, due_next, sheet_walk, Missing, from_part, from_item, StageTwo}
 use Rattle.format.proofs.ChecksOrder.{one_first}
 use Rattle.format.proofs.ChecksRecords.{due_first, data_first}
@@ -117,7 +117,7 @@ body-total : (o n : ℕ) (held : Data) (owner i : ℕ) (rs : List (List ℕ)) �
 unfolding records-fault number_due lacking owner_next owner_behind
 body-total o zero held owner i [] = refl
 body-total o (suc n) held owner i [] = refl
-body-total o zero held owner i (r ∷ rs) = ap (or_else (to_fault (fault_at o 0 nothing (view r)) i)) (body-total _ _ _ i (suc i) rs) ∙ sym (or_else_assoc (to_fault (fault_at o 0 nothing (view r)) i) _ _)
+body-total o zero held owner i (r ∷ rs) = ap (or_else (to_fault (fault_at o 0 nothing (view r)) i)) (body-total (open_after o 0 (view r)) (due_after 0 (view r)) (view r).data_held i (suc i) rs) ∙ sym (or_else_assoc (to_fault (fault_at o 0 nothing (view r)) i) _ _)
 body-total o (suc n) held owner i (r ∷ rs) = ap (or_else (to_fault (fault_at o (suc n) held (view r)) i)) (body-total o n held owner (suc i) rs) ∙ sym (or_else_assoc (to_fault (fault_at o (suc n) held (view r)) i) _ _)
 
 -- the sheet part, and behind it the body

@@ -1,7 +1,7 @@
 // The answers of document 01. What each case means on paper stands in specs/Answers.antt.
 
 // What an integer column says.
-#[derive(Drop)]
+#[derive(Clone, Copy)]
 pub enum Column {
     Value(i64),
     MinusZero,
@@ -9,35 +9,35 @@ pub enum Column {
 }
 
 // A column read alone, or a corner joined: the number; or number and record of the refusal.
-#[derive(Drop)]
+#[derive(Clone, Copy)]
 pub enum Number {
     Is(i64),
     Refused(u8, usize),
 }
 
 // A column written alone, or a file brought to normal form: how many bytes were written.
-#[derive(Drop)]
+#[derive(Clone, Copy)]
 pub enum Written {
     Bytes(usize),
     Refused(u8, usize),
 }
 
 // A millimetre number split: whole metres and the fraction.
-#[derive(Drop)]
+#[derive(Clone, Copy)]
 pub enum Parts {
     Corner(i64, i64),
     Refused(u8, usize),
 }
 
 // A file judged: record and item counts.
-#[derive(Drop)]
+#[derive(Clone, Copy)]
 pub enum Judged {
     Accepted(usize, usize),
     Refused(u8, usize),
 }
 
 // An edit: the new used length.
-#[derive(Drop)]
+#[derive(Clone, Copy)]
 pub enum Edited {
     Used(usize),
     Refused(u8, usize),
@@ -45,14 +45,14 @@ pub enum Edited {
 
 // A block that is to be inserted: the item that it is, by the count of a header that it belongs to (1 to 8 for E1 to E8, 9 for a grid or a net) and its
 // level; or that it is not exactly one item.
-#[derive(Drop)]
+#[derive(Clone, Copy)]
 pub enum Block {
     Item(usize, usize),
     NoItem,
 }
 
 // The way up: the record number of the header above and how many headers were passed; a layer header has none above it.
-#[derive(Drop)]
+#[derive(Clone, Copy)]
 pub enum WayUp {
     Header(usize, u8),
     LayerHeader,

@@ -2,14 +2,14 @@
 // claims in proofs/Claims.antt.
 
 // The edition of a directory: what its records list of a layer, and how.
-#[derive(Drop)]
+#[derive(Clone, Copy)]
 pub enum Edition {
     One,
     Two,
 }
 
 // A jump: the record number of the layer's header; or number and record of the refusal.
-#[derive(Drop)]
+#[derive(Clone, Copy)]
 pub enum Jumped {
     Header(usize),
     Refused(u8, usize),
@@ -17,7 +17,7 @@ pub enum Jumped {
 
 // A jump in a directory of either edition: the record number of the layer's header, the total of its items, at any depth, and the number of its last record,
 // both 0 for the first edition; or number and record of the refusal.
-#[derive(Drop)]
+#[derive(Clone, Copy)]
 pub enum JumpedEither {
     Layer(usize, usize, usize),
     Refused(u8, usize),

@@ -7,7 +7,7 @@ use files::Stride;
 use records::{Entry, Held, Tally};
 
 // What a walk is told: how far record stands from record, how many records the file has, and how many of them stand before the place.
-#[derive(Drop)]
+#[derive(Clone, Copy)]
 pub(crate) struct Extent {
     pub stride: Stride,
     pub records: usize,

@@ -29,7 +29,7 @@ mod walk;
 // An opened sheet: the fault, 0 for none, and its record; else how many items it has, how many records its sheet part, its unit and corners.
 // Of a place of it: how many data records are still due there, and the open level; and by their numbers in the file the last header or item
 // before it and the last header of each level, the sheet part's last record where there is none.
-#[derive(Drop)]
+#[derive(Clone, Copy)]
 pub struct Sheet {
     pub fault: u8,
     pub at: usize,
@@ -56,7 +56,7 @@ pub fn open_sheet(buffer: &[u8], used: usize, before: usize) -> Sheet
 // A sheet against the records of a directory: the fault, 0 for none, and its record; else how many items it has, how many records its sheet part, how many
 // layers, the first of these, counted from 1, that the directory does not list with its numbers, 0 where it lists every one, and what one of this edition lists of
 // the first ones.
-#[derive(Drop)]
+#[derive(Clone, Copy)]
 pub struct ListedSheet {
     pub fault: u8,
     pub at: usize,

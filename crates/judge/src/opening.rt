@@ -122,7 +122,7 @@ fn at_place(file: &[u8], extent: Extent, part: SheetPart, seen: Seen) -> Sheet
 
 // A sheet that is opened against a directory: how many layers it has, the first of them, counted from 1, that the directory does not list, or 0, and
 // what one of its edition lists of the first ones.
-#[derive(Drop)]
+#[derive(Clone, Copy)]
 pub(crate) struct Against {
     pub sheet: Sheet,
     pub layers: usize,

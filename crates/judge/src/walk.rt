@@ -19,7 +19,7 @@ use records::{Entry, Tally};
 
 // What a walk has seen so far: how many items; and of what stands before the place the last header or item, and the last header of each level,
 // by their numbers in the file.
-#[derive(Drop)]
+#[derive(Clone, Copy)]
 pub(crate) struct Seen {
     pub items: usize,
     pub start: usize,
@@ -28,7 +28,7 @@ pub(crate) struct Seen {
 
 // What the walk of an item and its data came to. `number` is 0, or the number of the fault at record `at`. Where it is 0, `next` is the record
 // past the walk.
-#[derive(Drop)]
+#[derive(Clone, Copy)]
 struct Walked {
     number: u8,
     at: usize,
@@ -36,7 +36,7 @@ struct Walked {
 }
 
 // The same of a header with all that belongs to it. `low` is the first header with a wrong count, or 0.
-#[derive(Drop)]
+#[derive(Clone, Copy)]
 struct WalkedGroup {
     number: u8,
     at: usize,
@@ -46,7 +46,7 @@ struct WalkedGroup {
 }
 
 // The same of a body. `tally` counts, by kind, what stands one level below the open one.
-#[derive(Drop)]
+#[derive(Clone, Copy)]
 pub(crate) struct WalkedBody {
     pub number: u8,
     pub at: usize,
@@ -58,7 +58,7 @@ pub(crate) struct WalkedBody {
 
 // The same of all layers. `layers` counts them; `unlisted` is the first of them, counted from 1, that a directory does not list, or 0; `first_numbers` is what
 // one of its edition lists of the first ones.
-#[derive(Drop)]
+#[derive(Clone, Copy)]
 pub(crate) struct WalkedLayers {
     pub number: u8,
     pub at: usize,
@@ -319,7 +319,7 @@ fn walk_body(file: &[u8], extent: Extent, k: usize, open_level: usize, given: Se
 
 // A layer against a directory: its number, counted from 1, where it is not listed with its numbers, else 0; and, where there is a directory, the number of
 // its last record as a packed number.
-#[derive(Drop)]
+#[derive(Clone, Copy)]
 struct Compared {
     unlisted: usize,
     last: u64,

@@ -5,7 +5,7 @@ ghost use Rattle.layouts.specs.Tables.{spans_of};
 use super::{Span, Spans12};
 
 // Data 2D: six points of two I7 (any sign).
-#[derive(Drop)]
+#[derive(Clone, Copy)]
 pub struct Data2D {}
 
 impl Data2D {

@@ -5,7 +5,7 @@ ghost use Rattle.layouts.specs.Tables.{spans_of};
 use super::{Span, Spans12};
 
 // Data 3D: four points of three I7 (any sign).
-#[derive(Drop)]
+#[derive(Clone, Copy)]
 pub struct Data3D {}
 
 impl Data3D {

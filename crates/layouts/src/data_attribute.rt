@@ -5,7 +5,7 @@ ghost use Rattle.layouts.specs.Tables.{spans_of};
 use super::{Span, Spans1};
 
 // Data attribute: 84 free.
-#[derive(Drop)]
+#[derive(Clone, Copy)]
 pub struct DataAttribute {}
 
 impl DataAttribute {

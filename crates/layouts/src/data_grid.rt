@@ -5,7 +5,7 @@ ghost use Rattle.layouts.specs.Tables.{spans_of, starts_of, widths_of, forms_of,
 use super::{Bytes12, INTEGER, Span, Spans12};
 
 // Data grid: twelve I7 (any sign).
-#[derive(Drop)]
+#[derive(Clone, Copy)]
 pub struct DataGrid {}
 
 impl DataGrid {

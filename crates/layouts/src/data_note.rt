@@ -5,7 +5,7 @@ ghost use Rattle.layouts.specs.Tables.{spans_of, starts_of, widths_of, forms_of,
 use super::{Bytes5, INTEGER, Limits5, Span, Spans6};
 
 // Data note: I1 (0,1), direction I7, I5, I5, I2, A64.
-#[derive(Drop)]
+#[derive(Clone, Copy)]
 pub struct DataNote {}
 
 impl DataNote {

@@ -7,7 +7,7 @@ use super::{BLANK, Bytes19, INTEGER, INTEGER_OR_SPACES, Limits19, Span, Spans24}
 // Element: A2 "E1" to "E8", I4, I2, I4, number I4, level I2, figure I2, data kind I1 (0..6), accuracy I2, note kind I1
 // (0..2), shift I2 (-9..9), break I1, data count I4, records I4, X I7, Y I7 (any sign), value I7 (any sign) or seven
 // spaces, I2, A7, A4, A4, A4, 6X, repeat I1 (1..9).
-#[derive(Drop)]
+#[derive(Clone, Copy)]
 pub struct Element {}
 
 impl Element {

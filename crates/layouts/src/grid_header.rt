@@ -6,7 +6,7 @@ use super::{BLANK, Bytes16, INTEGER, Limits16, Span, Spans20};
 
 // Grid header: A2 "G ", I4, I2, I4, I4, level I2, rows I4, columns I4 (both at least 1), records I4, cell sizes I7, I7
 // (at least 1), origin I7, I7 (any sign), A4, A4, A4, I2, I2, 9X, repeat I1 (1..9).
-#[derive(Drop)]
+#[derive(Clone, Copy)]
 pub struct GridHeader {}
 
 impl GridHeader {

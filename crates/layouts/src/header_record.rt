@@ -6,7 +6,7 @@ use super::{BLANK, Bytes18, INTEGER, Limits18, Span, Spans22};
 
 // Header: A2 "H ", class I4, area I2, information I4, number I4, level I2, then ten I5: total, groups, area, line,
 // circle, arc, point, direction, note, attribute; grid and net I1, A4, A4, A4, method I2, 1X.
-#[derive(Drop)]
+#[derive(Clone, Copy)]
 pub struct Header {}
 
 impl Header {

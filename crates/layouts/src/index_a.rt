@@ -6,7 +6,7 @@ use super::{BLANK, Bytes10, INTEGER, Limits10, Span, Spans13};
 
 // Index a: A2 "I ", system I2 (1..19), A30, sheets I3, number of b records I2, number of c records I4, two flags I1
 // (0,1), year I4, A30, version I1 (1), blank use I1, 3X.
-#[derive(Drop)]
+#[derive(Clone, Copy)]
 pub struct IndexA {}
 
 impl IndexA {

@@ -5,7 +5,7 @@ ghost use Rattle.layouts.specs.Tables.{spans_of, starts_of, widths_of, forms_of,
 use super::{BLANK, Bytes1, Limits1, Span, Spans11};
 
 // Index b: ten A8, 4X.
-#[derive(Drop)]
+#[derive(Clone, Copy)]
 pub struct IndexB {}
 
 impl IndexB {

@@ -5,7 +5,7 @@ ghost use Rattle.layouts.specs.Tables.{spans_of, starts_of, widths_of, forms_of,
 use super::{Bytes13, INTEGER, Limits13, Span, Spans14};
 
 // Index c: I4, I4, nine flags I1 (0,1), direction I1 (0,1), dimension I1 (0,2,3), A65.
-#[derive(Drop)]
+#[derive(Clone, Copy)]
 pub struct IndexC {}
 
 impl IndexC {

@@ -51,7 +51,7 @@ pub use sheet_e::SheetE;
 pub use sheet_f::SheetF;
 
 // A column: its start in the record, from 0, and its width, in bytes.
-#[derive(Drop)]
+#[derive(Clone, Copy)]
 pub struct Span(pub usize, pub usize);
 
 // The forms of a column, one home for their numbers; text has none. An integer: it must be well formed, and inside its range or list. An integer or

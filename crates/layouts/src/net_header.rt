@@ -5,7 +5,7 @@ ghost use Rattle.layouts.specs.Tables.{spans_of, starts_of, widths_of, forms_of,
 use super::{BLANK, Bytes10, INTEGER, Limits10, Span, Spans14};
 
 // Net header: A2 "T ", I4, I2, I4, I4, level I2, I2, triangles I6 (at least 1), records I6, A4, A4, A4, I2, 38X.
-#[derive(Drop)]
+#[derive(Clone, Copy)]
 pub struct NetHeader {}
 
 impl NetHeader {

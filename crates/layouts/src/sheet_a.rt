@@ -5,7 +5,7 @@ ghost use Rattle.layouts.specs.Tables.{spans_of, starts_of, widths_of, forms_of,
 use super::{BLANK, Bytes5, INTEGER, Limits5, Span, Spans9};
 
 // Sheet a: A2 "M ", A8, A20, level I5, A30, revisions I2, version I1 (1), blank use I1, 15X.
-#[derive(Drop)]
+#[derive(Clone, Copy)]
 pub struct SheetA {}
 
 impl SheetA {

@@ -6,7 +6,7 @@ use super::{BLANK, Bytes13, INTEGER, Limits13, Span, Spans13};
 
 // Sheet b: lower left X, Y, upper right X, Y (I7, any sign), 3 unjudged, element count I6, record count I7, unit I3,
 // upper left X, Y, lower right X, Y (I7, any sign), 9X.
-#[derive(Drop)]
+#[derive(Clone, Copy)]
 pub struct SheetB {}
 
 impl SheetB {

@@ -6,7 +6,7 @@ use super::{BLANK, Bytes6, INTEGER, Limits6, Span, Spans10};
 
 // Sheet d: A4, A4, courses I1, number of f records I1, A30, A30, I1 (0..2), I1 and I1 (each 0..3 or 9; the sources
 // disagree on which is which), 11X.
-#[derive(Drop)]
+#[derive(Clone, Copy)]
 pub struct SheetD {}
 
 impl SheetD {

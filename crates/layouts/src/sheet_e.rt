@@ -5,7 +5,7 @@ ghost use Rattle.layouts.specs.Tables.{spans_of, starts_of, widths_of, forms_of,
 use super::{BLANK, Bytes9, INTEGER, Limits9, Span, Spans10};
 
 // Sheet e: A40, eight fractions I4 (any sign, corners in the order of b), 12X.
-#[derive(Drop)]
+#[derive(Clone, Copy)]
 pub struct SheetE {}
 
 impl SheetE {

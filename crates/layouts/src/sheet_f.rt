@@ -5,7 +5,7 @@ ghost use Rattle.layouts.specs.Tables.{spans_of, starts_of, widths_of, forms_of,
 use super::{BLANK, Bytes13, INTEGER, Limits13, Span, Spans19};
 
 // Sheet f: three times (A4, A4, I5, I1, I4, I4), 18X.
-#[derive(Drop)]
+#[derive(Clone, Copy)]
 pub struct SheetF {}
 
 impl SheetF {

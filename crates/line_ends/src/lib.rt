@@ -16,7 +16,7 @@ const CARRIAGE_RETURN: u8 = 13;
 const LINE_FEED: u8 = 10;
 
 // What is wrong with the form of a file: the number, 0 for nothing, and the record.
-#[derive(Drop)]
+#[derive(Clone, Copy)]
 struct Fault {
     number: u8,
     at: usize,

@@ -8,7 +8,7 @@ use records::Held;
 
 // The record that is due: one of a sheet part, or of an index; behind a sheet part a header or an item; or a data record, what the data records of its item
 // hold, and how many of them come after it.
-#[derive(Drop)]
+#[derive(Clone, Copy)]
 pub(crate) enum FileDue {
     Sheet(Due),
     Index(Due),

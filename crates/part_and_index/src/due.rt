@@ -10,7 +10,7 @@ use layouts::{IndexA, SheetA, SheetD};
 // The record that is due. In a sheet part: how many sets of d, e and f records come after this one, of b and c after the first; of e and f, first how
 // many f records of its own set come after it. In an index: of b, how many b records come after it and how many c records then; of c, how many c
 // records. Nothing is due where either is over.
-#[derive(Drop)]
+#[derive(Clone, Copy)]
 pub enum Due {
     SheetA,
     SheetB(usize),

@@ -19,7 +19,7 @@ pub type FourCorners = [i64; 8];
 
 // The sheet part of a file: the first fault, 0 for none, and its record; else how many records it has, the two counts and the unit that record 2 states, and
 // the corners in millimetres, in the order of record 2, that the last e record gives.
-#[derive(Drop)]
+#[derive(Clone, Copy)]
 pub struct SheetPart {
     pub fault: u8,
     pub at: usize,
@@ -31,7 +31,7 @@ pub struct SheetPart {
 }
 
 // A fault, 0 for none, and its record.
-#[derive(Drop)]
+#[derive(Clone, Copy)]
 pub struct Fault {
     pub number: u8,
     pub at: usize,

@@ -9,7 +9,7 @@ use layouts::{SheetA, SheetB};
 
 // How far the judging of a sheet part or of an index has come: the fault of the record that was judged last, 0 for none, and the record that is due. What
 // the records before it said: record a's level; record b's unit, wholes and two counts; the corners in millimetres that the last e record gives.
-#[derive(Drop)]
+#[derive(Clone, Copy)]
 pub struct Progress {
     pub fault: u8,
     pub due: Due,

@@ -10,7 +10,7 @@ use layouts::{Element, GridHeader, Header, NetHeader};
 
 // A header or an item. A fault is 4, 5 or 6, with no values; 0 for none. Kind is the count of a header that the record belongs to: 0 for a header,
 // 1 to 8 for E1 to E8, 9 for grid and net. The rule fault is 8 or 0.
-#[derive(Drop)]
+#[derive(Clone, Copy)]
 pub struct Entry {
     pub fault: u8,
     pub kind: usize,

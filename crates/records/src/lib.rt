@@ -20,7 +20,7 @@ use layouts::{DataNote, Header};
 pub use outlines::Outline;
 
 // What an item's data records hold: so many points in 3D or 2D, triangles or heights; a note; attributes.
-#[derive(Drop)]
+#[derive(Clone, Copy)]
 pub enum Held {
     Nothing,
     Points3D(usize),
@@ -32,7 +32,7 @@ pub enum Held {
 }
 
 // What the two type bytes of a record say.
-#[derive(Drop)]
+#[derive(Clone, Copy)]
 enum TypeCode {
     Header,
     Element(usize),

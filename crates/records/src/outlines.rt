@@ -10,7 +10,7 @@ use layouts::{Element, GridHeader, Header, NetHeader};
 
 // Kind is 0 for a header, 1 to 8 for E1 to E8, 9 for grid and net, 10 for what is neither header nor item. The level is a header's; of an item it is not
 // read, and 0.
-#[derive(Drop)]
+#[derive(Clone, Copy)]
 pub struct Outline {
     pub kind: usize,
     pub level: usize,
