@@ -1,0 +1,12 @@
+-- `layouts::IndexC::highs` meets its contract: result and table compute to one list, and each number is one that its column may hold.
+-- Assumes nothing.
+use mathlib.Core.Path.{refl}
+use Rattle.format.specs.Column.{fits, text_of, digits, digits_in}
+use Rattle.format.specs.Layout.{index_c}
+use Rattle.layouts.specs.Tables.{highs_of, tabled}
+use Rattle.layouts.proofs.Limits.{highs}
+use Rattle.layouts.proofs.index_c.IndexC.highs.Goals as goal
+
+pub returns : goal.returns
+unfolding index_c highs_of tabled fits text_of digits digits_in
+returns c = highs index_c _ refl refl

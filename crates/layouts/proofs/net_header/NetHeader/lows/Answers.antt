@@ -1,0 +1,12 @@
+-- `layouts::NetHeader::lows` meets its contract: result and table compute to one list, and each number is one that its column may hold.
+-- Assumes nothing.
+use mathlib.Core.Path.{refl}
+use Rattle.format.specs.Column.{fits, text_of, digits, digits_in}
+use Rattle.format.specs.Layout.{net_header}
+use Rattle.layouts.specs.Tables.{lows_of, tabled}
+use Rattle.layouts.proofs.Limits.{lows}
+use Rattle.layouts.proofs.net_header.NetHeader.lows.Goals as goal
+
+pub returns : goal.returns
+unfolding net_header lows_of tabled fits text_of digits digits_in
+returns c = lows net_header _ refl refl

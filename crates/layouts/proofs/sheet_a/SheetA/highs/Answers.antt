@@ -1,0 +1,12 @@
+-- `layouts::SheetA::highs` meets its contract: result and table compute to one list, and each number is one that its column may hold.
+-- Assumes nothing.
+use mathlib.Core.Path.{refl}
+use Rattle.format.specs.Column.{fits, text_of, digits, digits_in}
+use Rattle.format.specs.Layout.{sheet_a}
+use Rattle.layouts.specs.Tables.{highs_of, tabled}
+use Rattle.layouts.proofs.Limits.{highs}
+use Rattle.layouts.proofs.sheet_a.SheetA.highs.Goals as goal
+
+pub returns : goal.returns
+unfolding sheet_a highs_of tabled fits text_of digits digits_in
+returns c = highs sheet_a _ refl refl
