@@ -5,7 +5,4 @@ use Rattle.corners.proofs.Listed.{listed, unlisted}
 use Rattle.corners.proofs.is_unit.Goals as goal
 
 pub returns-in-1 : goal.returns-in-1
-returns-in-1 c = sym (listed 1 (10 ∷ 999 ∷ []) _ c.in-1.keys1)
-
-pub returns-in_default : goal.returns-in_default
-returns-in_default c = sym (unlisted 1 (10 ∷ 999 ∷ []) _ c.in-1.rest.1)
+returns-in-1 c = sym (listed 1 (10 ∷ 999 ∷ []) _ c.in-1.is)
