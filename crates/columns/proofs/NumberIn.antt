@@ -4,9 +4,6 @@ use mathlib.Core.Bool.{false≢true}
 use native.Mathlib.Nat.{pow-le-pow_right}
 use lib.Dec.{leb-suc-zero}
 use lib.Signed.{lt_z}
-use types.Run.{OneOf, miss}
-use denote.Enum.Declared.{tag_of}
-use Rattle.format.specs.contracts.Column.{the_type}
 use Rattle.format.specs.declared.Column.{Column}
 use Rattle.format.specs.declared.Column.TheVariants.{Value, MinusZero, Malformed}
 use Rattle.format.specs.Column.{column_of, integer, size, number_of}
@@ -18,8 +15,8 @@ use Rattle.format.proofs.Signed.{back, tested}
 
 -- ---- `integer_at`
 
-other_tag : (r : Column) → OneOf (1 ∷ 2 ∷ []) (tag_of the_type r) → pos 0 ≡ integer r
-other_tag (Value z) h = absurd (miss (1 ∷ 2 ∷ []) 0 tt h)
+other_tag : (r : Column) → ((z : ℤ) → r ≡ Value z → ⊥) → pos 0 ≡ integer r
+other_tag (Value z) h = absurd (h z refl)
 other_tag MinusZero h = refl
 other_tag Malformed h = refl
 
@@ -27,7 +24,7 @@ integer_of : (r r' : Column) → r ≡ r' → integer r ≡ integer r'
 integer_of r r' e = rw e
 
 module _ (l : List ℕ) (start width : ℕ) where
-  pub no_integer : (r : Column) → r ≡ column_at l start width → OneOf (1 ∷ 2 ∷ []) (tag_of the_type r) → pos 0 ≡ integer (column_at l start width)
+  pub no_integer : (r : Column) → r ≡ column_at l start width → ((z : ℤ) → r ≡ Value z → ⊥) → pos 0 ≡ integer (column_at l start width)
   no_integer r e h = other_tag r h ∙ integer_of r (column_at l start width) e
 
   pub an_integer : (r : Column) (z : ℤ) → r ≡ column_at l start width → r ≡ Value z → z ≡ integer (column_at l start width)

@@ -11,7 +11,6 @@ use Rattle.columns.specs.declared.pass.Mark.{Mark}
 use Rattle.columns.specs.declared.pass.Mark.TheVariants.{Spaces, Minus, Digits, MinusDigits, Other}
 use Rattle.columns.specs.declared.pass.Kept.{Kept}
 use Rattle.columns.specs.contracts.pass.Mark.{the_type}
-use types.Run.{OneOf, miss}
 use denote.Enum.Declared.{tag_of}
 use Rattle.columns.specs.Pass.{digit_mark, other_mark, step_of, start, pass_from, pass, says, says_of}
 
@@ -157,10 +156,10 @@ small n l i h j m = omega (arith, pow-le-pow_right {n = 10} (lit< tt) {i = i} {j
 
 -- one byte more behind digits, without a minus or with one: where it is a digit the numbers are the same, and where it is none both marks say so
 module _ (m : Mark) (s : digit_mark m ≡ m) (n b : ℕ) (k : Kept) (e : k ≡ step_of (kept Digits n) b) (next : Mark) (f : next ≡ k.mark) where
-  stays : (t : Bool) → is_digit b ≡ t → OneOf (0 ∷ 1 ∷ 2 ∷ 3 ∷ []) (tag_of the_type next) → kept m k.number ≡ step_of (kept m n) b
+  stays : (t : Bool) → is_digit b ≡ t → (next ≡ Other → ⊥) → kept m k.number ≡ step_of (kept m n) b
   unfolding step_of
   stays true d g = simp (e, d, s)
-  stays false d g = absurd (miss (0 ∷ 1 ∷ 2 ∷ 3 ∷ []) 4 tt (rw (f, e, d) at g))
+  stays false d g = absurd (g (simp (f, e, d)))
 
   out : (t : Bool) → is_digit b ≡ t → next ≡ Other → (step_of (kept m n) b).mark ≡ Other
   unfolding step_of
@@ -172,7 +171,7 @@ module _ (l : List ℕ) (k₀ : Kept) (from : ℕ) where
     once_more : pass_from (step_of (kept m n) (get_or l i 0)) (drop (i + 1) l) ≡ pass_from k₀ (drop from l)
     once_more = sym (pass-here l i h (kept m n)) ∙ p
 
-    pub digits_again : OneOf (0 ∷ 1 ∷ 2 ∷ 3 ∷ []) (tag_of the_type next) → pass_from (kept m k.number) (drop (i + 1) l) ≡ pass_from k₀ (drop from l)
+    pub digits_again : (next ≡ Other → ⊥) → pass_from (kept m k.number) (drop (i + 1) l) ≡ pass_from k₀ (drop from l)
     digits_again g = ap (λ (x : Kept). pass_from x (drop (i + 1) l)) (stays m s n (get_or l i 0) k e next f (is_digit (get_or l i 0)) refl g) ∙ once_more
 
     pub read_out : next ≡ Other → Malformed ≡ says_of (pass_from k₀ (drop from l))
@@ -189,16 +188,16 @@ same_mark : {k k' : Kept} → k ≡ k' → k.mark ≡ k'.mark
 same_mark e = ap (λ (x : Kept). x.mark) e
 
 -- neither a digit nor a minus behind spaces, and no digit behind a minus, is what no column has
-first-other : (b : ℕ) (m : Mark) → Byte b → (b ≡ 32 → ⊥) → m ≡ (step_of start b).mark → OneOf (0 ∷ 1 ∷ 3 ∷ 4 ∷ []) (tag_of the_type m) → OneOf (0 ∷ 2 ∷ 3 ∷ 4 ∷ []) (tag_of the_type m) → (step_of start b).mark ≡ Other
+first-other : (b : ℕ) (m : Mark) → Byte b → (b ≡ 32 → ⊥) → m ≡ (step_of start b).mark → (m ≡ Digits → ⊥) → (m ≡ Minus → ⊥) → (step_of start b).mark ≡ Other
 unfolding step_of is_digit
 first-other b m (v_space e) n f g o = absurd (n e)
-first-other b m (v_minus e) n f g o = absurd (miss (0 ∷ 2 ∷ 3 ∷ 4 ∷ []) 1 tt (rw (f, e) at o))
-first-other b m (v_digit p q r) n f g o = absurd (miss (0 ∷ 1 ∷ 3 ∷ 4 ∷ []) 2 tt (simp (f, r) at g))
+first-other b m (v_minus e) n f g o = absurd (o (rw (f, e)))
+first-other b m (v_digit p q r) n f g o = absurd (g (simp (f, r)))
 first-other b m (v_other p q r) n f g o = simp (p, q, r)
 
-second_other : (k : Kept) (b : ℕ) (m : Mark) → k.mark ≡ Minus → m ≡ (step_of k b).mark → OneOf (0 ∷ 1 ∷ 2 ∷ 4 ∷ []) (tag_of the_type m) → (t : Bool) → is_digit b ≡ t → (step_of k b).mark ≡ Other
+second_other : (k : Kept) (b : ℕ) (m : Mark) → k.mark ≡ Minus → m ≡ (step_of k b).mark → (m ≡ MinusDigits → ⊥) → (t : Bool) → is_digit b ≡ t → (step_of k b).mark ≡ Other
 unfolding step_of
-second_other k b m e f g true d = absurd (miss (0 ∷ 1 ∷ 2 ∷ 4 ∷ []) 3 tt (simp (f, d, e) at g))
+second_other k b m e f g true d = absurd (g (simp (f, d, e)))
 second_other k b m e f g false d = simp (d, e)
 
 module _ (l : List ℕ) (k : Kept) (f : k ≡ step_of start (get_or l 0 0)) where
@@ -213,7 +212,7 @@ module _ (l : List ℕ) (k : Kept) (f : k ≡ step_of start (get_or l 0 0)) wher
     behind-first r g = g ∙ ap (λ (x : Kept). says_of (pass_from x (drop 1 l))) f ∙ ap says_of (sym (pass-here l 0 h start))
 
     module _ (m : Mark) (g : m ≡ k.mark) where
-      pub no_first : (get_or l 0 0 ≡ 32 → ⊥) → OneOf (0 ∷ 1 ∷ 3 ∷ 4 ∷ []) (tag_of the_type m) → OneOf (0 ∷ 2 ∷ 3 ∷ 4 ∷ []) (tag_of the_type m) → Malformed ≡ says_of (pass l)
+      pub no_first : (get_or l 0 0 ≡ 32 → ⊥) → (m ≡ Digits → ⊥) → (m ≡ Minus → ⊥) → Malformed ≡ says_of (pass l)
       no_first n o p =
           let b : ℕ = get_or l 0 0 in
           behind-first Malformed (sym (other-pass (drop 1 l) k (same_mark f ∙ first-other b m (byte b) n (g ∙ same_mark f) o p)))
@@ -229,7 +228,7 @@ module _ (l : List ℕ) (k : Kept) (f : k ≡ step_of start (get_or l 0 0)) wher
         pub behind_second : (r : Column) → r ≡ says_of (pass_from k₂ (drop 2 l)) → r ≡ says_of (pass l)
         behind_second r s = behind-first r (s ∙ ap (λ (x : Kept). says_of (pass_from x (drop 2 l))) f₂ ∙ ap says_of (sym (pass-here l 1 long k)))
 
-        pub no_second : (m₂ : Mark) → m₂ ≡ k₂.mark → OneOf (0 ∷ 1 ∷ 2 ∷ 4 ∷ []) (tag_of the_type m₂) → Malformed ≡ says_of (pass l)
+        pub no_second : (m₂ : Mark) → m₂ ≡ k₂.mark → (m₂ ≡ MinusDigits → ⊥) → Malformed ≡ says_of (pass l)
         no_second m₂ g₂ o₂ =
             let b : ℕ = get_or l 1 0 in
             behind_second Malformed (sym (other-pass (drop 2 l) k₂ (same_mark f₂ ∙ second_other k b m₂ (sym g ∙ o) (g₂ ∙ same_mark f₂) o₂ (is_digit b) refl)))

@@ -8,9 +8,6 @@ use Rattle.columns.specs.declared.pass.Mark.{Mark}
 use Rattle.columns.specs.declared.pass.Mark.TheVariants.{Spaces, Digits, MinusDigits, Other}
 use Rattle.columns.specs.declared.pass.Mark.TheVariants as Mark
 use Rattle.columns.specs.declared.pass.Kept.{Kept}
-use Rattle.columns.specs.contracts.pass.Mark.{the_type}
-use types.Run.{OneOf, miss}
-use denote.Enum.Declared.{tag_of}
 use Rattle.columns.specs.Pass.{digit_mark, other_mark, step_of, says, says_of}
 use Rattle.columns.specs.declared.Rest.{Rest}
 use Rattle.columns.specs.declared.Rest.TheVariants.{Minus}
@@ -20,17 +17,17 @@ use Rattle.columns.proofs.Numbers.{minus-fits, minus-back}
 
 -- ---- `behind_digit`: digits and what no column has stay what they are
 
-pub digits_stay : (m : Mark) → OneOf (1 ∷ 2 ∷ 3 ∷ 4 ∷ []) (tag_of the_type m) → OneOf (0 ∷ 2 ∷ 3 ∷ 4 ∷ []) (tag_of the_type m) → m ≡ digit_mark m
-digits_stay Spaces h k = absurd (miss (1 ∷ 2 ∷ 3 ∷ 4 ∷ []) 0 tt h)
-digits_stay Mark.Minus h k = absurd (miss (0 ∷ 2 ∷ 3 ∷ 4 ∷ []) 1 tt k)
+pub digits_stay : (m : Mark) → (m ≡ Spaces → ⊥) → (m ≡ Mark.Minus → ⊥) → m ≡ digit_mark m
+digits_stay Spaces h k = absurd (h refl)
+digits_stay Mark.Minus h k = absurd (k refl)
 digits_stay Digits h k = refl
 digits_stay MinusDigits h k = refl
 digits_stay Other h k = refl
 
 -- ---- `behind_other`: what stands behind spaces, and behind all else
 
-pub nothing-behind : (m : Mark) (b : ℕ) → OneOf (1 ∷ 2 ∷ 3 ∷ 4 ∷ []) (tag_of the_type m) → Other ≡ other_mark m b
-nothing-behind Spaces b h = absurd (miss (1 ∷ 2 ∷ 3 ∷ 4 ∷ []) 0 tt h)
+pub nothing-behind : (m : Mark) (b : ℕ) → (m ≡ Spaces → ⊥) → Other ≡ other_mark m b
+nothing-behind Spaces b h = absurd (h refl)
 nothing-behind Mark.Minus b h = refl
 nothing-behind Digits b h = refl
 nothing-behind MinusDigits b h = refl
@@ -74,14 +71,14 @@ module _ (k : Kept) (b d : ℕ) (w : (d + 48) % 2 ^ 64 ≡ b) where
 
 -- ---- `finish`
 
-no_digits : (m : Mark) (n : ℕ) → OneOf (0 ∷ 1 ∷ 3 ∷ 4 ∷ []) (tag_of the_type m) → OneOf (0 ∷ 1 ∷ 2 ∷ 4 ∷ []) (tag_of the_type m) → Malformed ≡ says m n
+no_digits : (m : Mark) (n : ℕ) → (m ≡ Digits → ⊥) → (m ≡ MinusDigits → ⊥) → Malformed ≡ says m n
 no_digits Spaces n h k = refl
 no_digits Mark.Minus n h k = refl
-no_digits Digits n h k = absurd (miss (0 ∷ 1 ∷ 3 ∷ 4 ∷ []) 2 tt h)
-no_digits MinusDigits n h k = absurd (miss (0 ∷ 1 ∷ 2 ∷ 4 ∷ []) 3 tt k)
+no_digits Digits n h k = absurd (h refl)
+no_digits MinusDigits n h k = absurd (k refl)
 no_digits Other n h k = refl
 
-pub says_nothing : (k : Kept) (m : Mark) → m ≡ k.mark → OneOf (0 ∷ 1 ∷ 3 ∷ 4 ∷ []) (tag_of the_type m) → OneOf (0 ∷ 1 ∷ 2 ∷ 4 ∷ []) (tag_of the_type m) → Malformed ≡ says_of k
+pub says_nothing : (k : Kept) (m : Mark) → m ≡ k.mark → (m ≡ Digits → ⊥) → (m ≡ MinusDigits → ⊥) → Malformed ≡ says_of k
 says_nothing k m e f g = no_digits m k.number f g ∙ ap (λ (x : Mark). says x k.number) e
 
 module _ (k : Kept) (n : ℕ) (e : n ≡ k.number) (h : k.number < 10 ^ 18) where

@@ -1,0 +1,11 @@
+-- `columns::fill` meets its contract. The loop's invariant: what is left to write, and behind it what was written, is the column that is
+-- due. Assumes nothing.
+use Rattle.std.proofs.Common.{◌≡◌, ◌≤◌, ◌++◌, length, drop}
+use Rattle.columns.specs.WriteSteps.{filled}
+use Rattle.columns.proofs.fill.Given as goal
+
+abbrev pub invariant-loop-i : goal.invariant-loop-i
+invariant-loop-i l = (l.i ≤ length l.initial.column) × (length l.column ≡ length l.initial.column) × (filled l.i l.s ++ drop l.i l.column ≡ filled (length l.initial.column) l.initial.s)
+
+abbrev pub decreases-loop-i : goal.decreases-loop-i
+decreases-loop-i l = l.i
