@@ -1,6 +1,12 @@
 -- `read` and `write` in the code's own words. Assumes nothing.
-use Rattle.std.proofs.Common.{◌≡◌, ℕ, ◌<◌, ◌≤◌, List, length, ℤ, sym, ap, ◌∙◌, w64, SFits, to_z, of_z, le-leb}
-use borrow.Author.Tests.{lt-leb}
+use mathlib.Core.Path.{◌≡◌, ap, sym, ◌∙◌}
+use mathlib.Core.List.{List}
+use Prim.Native.Nat.{ℕ, ◌<◌, ◌≤◌}
+use borrow.Author.Tests.{le-leb, lt-leb}
+use lib.IntN.{ℤ}
+use lib.ListN.{length}
+use mir.Syntax.{w64}
+use mir.Val.{SFits, to_z, of_z}
 use Rattle.format.specs.declared.Column.{Column}
 use Rattle.format.specs.declared.Number.{Number}
 use Rattle.format.specs.declared.Number.TheVariants as Number

@@ -1,8 +1,15 @@
 -- `choose` in the code's own words: what the tests on width and number come to; and what its answer tells those that call it. Assumes
 -- nothing.
-use Rattle.std.proofs.Common.{◌≡◌, ℕ, ◌^◌, ◌<◌, ◌≤◌, Bool, true, false, cond, ◌&&◌, ltb, leb, ℤ, pos, nat_abs, sym, refl, ap, ◌∙◌, arith, w64, SFits, to_z, of_z, le-ltb, lt-ltb, le-leb, leb-true}
-use borrow.Author.Tests.{lt-leb}
+use mathlib.Core.Path.{◌≡◌, refl, ap, sym, ◌∙◌}
+use mathlib.Core.Bool.{Bool, true, false, cond, ◌&&◌}
+use Prim.Native.Nat.{ℕ, ◌^◌, ◌≤◌, ◌<◌}
+use native.Mathlib.Omega.{arith}
+use borrow.Author.Tests.{lt-ltb, le-ltb, le-leb, lt-leb, leb-true}
+use lib.Dec.{leb, ltb}
+use lib.IntN.{ℤ, pos, nat_abs}
 use lib.Signed.{lt_z}
+use mir.Syntax.{w64}
+use mir.Val.{SFits, to_z, of_z}
 use Rattle.format.specs.Column.{fits, written, width_ok}
 use Rattle.format.proofs.Basics.{and-true}
 use Rattle.format.proofs.Signed.{back, tested}

@@ -1,6 +1,11 @@
 -- THE CLAIMS of order 3 about the pass over an integer column, in the words of document 02, for columns of any width where nothing else is said.
 -- Assumes nothing.
-use Rattle.std.proofs.Common.{◌≡◌, ℕ, zero, suc, ◌^◌, ◌<◌, ◌≤◌, List, [], ◌∷◌, ◌++◌, length, pos, sym, refl, ap, ◌∙◌, ap₂, arith}
+use mathlib.Core.Path.{◌≡◌, refl, ap, ap₂, sym, ◌∙◌}
+use mathlib.Core.List.{List, [], ◌∷◌, ◌++◌}
+use Prim.Native.Nat.{ℕ, zero, suc, ◌^◌, ◌≤◌, ◌<◌}
+use native.Mathlib.Omega.{arith}
+use lib.IntN.{pos}
+use lib.ListN.{length}
 use denote.Enum.Declared.{tag_of}
 use Rattle.format.specs.declared.Column.TheVariants.{Value}
 use Rattle.format.specs.Column.{column_of, column_answer, read_alone}

@@ -1,9 +1,17 @@
 -- `is_filled` and `is_written_at` in the code's own words, and what callers cite of them. Assumes nothing.
-use Rattle.std.proofs.Common.{◌≡◌, ℕ, zero, suc, ◌+◌, ◌-◌, ◌<◌, ◌≤◌, Bool, true, false, ◌&&◌, eqb, List, [], ◌∷◌, ◌++◌, length, get_or, take, drop, ℤ, sym, refl, ap, ◌∙◌, ap₂, not-suc-le-zero, arith, length-append, length-drop, length-take-le, take-suc, w64, SFits, to_z, of_z, le-leb}
-use mathlib.Core.Bool.{and_assoc, and-true, and-false}
-use native.Mathlib.Nat.{add-sub_cancel_left}
-use borrow.Author.Tests.{lt-leb}
-use lib.Seq.{take-length}
+use mathlib.Core.Path.{◌≡◌, refl, ap, ap₂, sym, ◌∙◌}
+use mathlib.Core.Bool.{Bool, true, false, ◌&&◌, and_assoc, and-true, and-false}
+use mathlib.Core.List.{List, [], ◌∷◌, ◌++◌}
+use Prim.Native.Nat.{ℕ, zero, suc, ◌+◌, ◌-◌, ◌≤◌, ◌<◌}
+use native.Mathlib.Nat.{add-sub_cancel_left, not-suc-le-zero}
+use native.Mathlib.Omega.{arith}
+use borrow.Author.Tests.{le-leb, lt-leb}
+use lib.Dec.{eqb}
+use lib.IntN.{ℤ}
+use lib.ListN.{length, length-append, take, drop, get_or, length-drop}
+use lib.Seq.{length-take-le, take-length, take-suc}
+use mir.Syntax.{w64}
+use mir.Val.{SFits, to_z, of_z}
 use Rattle.format.specs.Text.{same}
 use Rattle.format.specs.Column.{written}
 use Rattle.format.specs.Layout.{column}

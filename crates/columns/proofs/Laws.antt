@@ -1,7 +1,17 @@
 -- What callers cite: a column of a layout says what its bytes say; a value that was read fits its width; a number that fits is
 -- written, and reads as that number. Assumes nothing.
-use Rattle.std.proofs.Common.{◌≡◌, ℕ, ◌+◌, ◌^◌, ◌<◌, ◌≤◌, Bool, true, false, cond, ◌&&◌, leb, List, length, ℤ, pos, sym, refl, ap, ◌∙◌, arith, w64, SFits, to_z, of_z, lt-ltb, le-leb, leb-true}
+use mathlib.Core.Path.{◌≡◌, refl, ap, sym, ◌∙◌}
+use mathlib.Core.Bool.{Bool, true, false, cond, ◌&&◌}
+use mathlib.Core.List.{List}
+use Prim.Native.Nat.{ℕ, ◌+◌, ◌^◌, ◌≤◌, ◌<◌}
 use native.Mathlib.Nat.{pow-le-pow_right}
+use native.Mathlib.Omega.{arith}
+use borrow.Author.Tests.{le-leb, lt-ltb, leb-true}
+use lib.Dec.{leb}
+use lib.IntN.{ℤ, pos}
+use lib.ListN.{length}
+use mir.Syntax.{w64}
+use mir.Val.{SFits, to_z, of_z}
 use mir.ValLaws.{to_z-of_z}
 use Rattle.format.specs.declared.Column.TheVariants.{Value, Malformed}
 use Rattle.format.specs.Column.{column_of, fits, written}
@@ -50,6 +60,9 @@ module _ (l : List ℕ) (start width : ℕ) where
 
     -- the same of what `write_at` answered, r, and left, l'
     module _ (r : Bool) (l' : List ℕ) (e : record { done = r; bytes = l' } ≡ write_at l start width z) where
+      pub write_at_true : r ≡ true
+      write_at_true = ap (λ (x : Rewritten). x.done) (e ∙ write_at_done)
+
       pub write_at_bytes : l' ≡ splice start width (written width z) l
       write_at_bytes = ap (λ (x : Rewritten). x.bytes) (e ∙ write_at_done)
 

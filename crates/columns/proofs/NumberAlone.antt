@@ -1,8 +1,13 @@
 -- The number of a column of spaces and digits, by the lower halves of its bytes: after each byte that of the pass, and so the column's number at the
 -- end. Assumes nothing.
-use Rattle.std.proofs.Common.{◌≡◌, ℕ, zero, suc, ◌+◌, ◌-◌, ◌*◌, ◌%◌, Bool, true, false, cond, eqb, leb, List, [], ◌∷◌, ◌++◌, pos, negsuc, neg_ℤ, sym, refl, ap, ◌∙◌, arith, eqb-true, leb-true}
-use mathlib.Core.Bool.{false≢true}
-use borrow.Author.Tests.{eqb-false}
+use mathlib.Core.Path.{◌≡◌, refl, ap, sym, ◌∙◌}
+use mathlib.Core.Bool.{Bool, true, false, cond, false≢true}
+use mathlib.Core.List.{List, [], ◌∷◌, ◌++◌}
+use Prim.Native.Nat.{ℕ, zero, suc, ◌+◌, ◌-◌, ◌*◌, ◌%◌}
+use native.Mathlib.Omega.{arith}
+use borrow.Author.Tests.{leb-true, eqb-true, eqb-false}
+use lib.Dec.{eqb, leb}
+use lib.IntN.{pos, negsuc, neg_ℤ}
 use Rattle.format.specs.declared.Column.TheVariants.{Value, MinusZero}
 use Rattle.format.specs.Column.{is_digit, column_of}
 use Rattle.format.proofs.Basics.{and-true}

@@ -1,9 +1,17 @@
 -- The number of a column inside a record, in the code's own words, and that it is below its width's power of ten. Assumes nothing.
-use Rattle.std.proofs.Common.{◌≡◌, ℕ, ◌+◌, ◌^◌, ◌<◌, Bool, true, false, cond, ◌&&◌, leb, List, [], ◌∷◌, length, ℤ, pos, negsuc, nat_abs, sym, refl, ◌∙◌, true≢false, arith, w64, SFits, to_z, of_z, leb-true}
-use mathlib.Core.Bool.{false≢true}
+use mathlib.Core.Path.{◌≡◌, refl, sym, ◌∙◌}
+use mathlib.Core.Bool.{Bool, true, false, cond, ◌&&◌, true≢false, false≢true}
+use mathlib.Core.List.{List, [], ◌∷◌}
+use Prim.Native.Nat.{ℕ, ◌+◌, ◌^◌, ◌<◌}
 use native.Mathlib.Nat.{pow-le-pow_right}
-use lib.Dec.{leb-suc-zero}
+use native.Mathlib.Omega.{arith}
+use borrow.Author.Tests.{leb-true}
+use lib.Dec.{leb, leb-suc-zero}
+use lib.IntN.{ℤ, pos, negsuc, nat_abs}
+use lib.ListN.{length}
 use lib.Signed.{lt_z}
+use mir.Syntax.{w64}
+use mir.Val.{SFits, to_z, of_z}
 use Rattle.format.specs.declared.Column.{Column}
 use Rattle.format.specs.declared.Column.TheVariants.{Value, MinusZero, Malformed}
 use Rattle.format.specs.Column.{column_of, integer, size, number_of}

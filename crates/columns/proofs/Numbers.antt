@@ -1,10 +1,14 @@
 -- Signed numbers of 64 bits: the negation of a number that was cast to i64, and the size of an i64, the least one too. Assumes nothing.
-use Rattle.std.proofs.Common.{◌≡◌, ℕ, zero, suc, ◌+◌, ◌^◌, ◌<◌, true, false, T, ℤ, pos, negsuc, ◌+ℤ◌, ◌-ℤ◌, neg_ℤ, nat_abs, sym, refl, ap, ◌∙◌, subst, true≢false, add-one, arith, w64, Fits, SFits, to_z}
-use mathlib.Core.Path.{subst⁻¹}
-use mathlib.Core.Bool.{false≢true}
-use lib.Dec.{leb-suc-zero}
-use lib.IntN.{+ℤ_idl, +ℤ_one, neg_ℤ-neg_ℤ}
+use mathlib.Core.Path.{◌≡◌, refl, ap, sym, ◌∙◌, subst, subst⁻¹}
+use mathlib.Core.Bool.{true, false, true≢false, false≢true}
+use native.Mathlib.Numerals.{add-one}
+use Prim.Native.Nat.{ℕ, zero, suc, ◌+◌, ◌<◌, ◌^◌}
+use native.Mathlib.Omega.{arith}
+use lib.Dec.{T, leb-suc-zero}
+use lib.IntN.{ℤ, pos, negsuc, neg_ℤ, nat_abs, ◌+ℤ◌, ◌-ℤ◌, +ℤ_idl, +ℤ_one, neg_ℤ-neg_ℤ}
 use lib.Signed.{mag, lt_z, non_neg, nat_abs-le}
+use mir.Syntax.{w64}
+use mir.Val.{Fits, SFits, to_z}
 use mir.ValLaws.{to_z_pos}
 use Rattle.format.proofs.Signed.{stored, back, tested}
 

@@ -1,17 +1,24 @@
 -- The pass over the bytes ends in what the column says, for a list of any length: `means`. The width of 18 comes in only where the
 -- number must stay inside 64 bits: `small`. Assumes nothing.
-use Rattle.std.proofs.Common.{◌≡◌, ℕ, suc, ◌+◌, ◌-◌, ◌*◌, ◌^◌, ◌<◌, ◌≤◌, Bool, true, false, cond, leb, List, [], ◌∷◌, ◌++◌, length, get_or, take, drop, sym, refl, ap, ◌∙◌, add-zero, mul_assoc, add-mul, pow-suc, add-one, arith, lit<, length-drop, drop_of_length-le, take_all, drop-cons, leb-true}
-use native.Mathlib.Nat.{pow-succ', pow-le-pow_right}
+use mathlib.Core.Path.{◌≡◌, refl, ap, sym, ◌∙◌}
+use mathlib.Core.Bool.{Bool, true, false, cond}
+use mathlib.Core.List.{List, [], ◌∷◌, ◌++◌}
+use Prim.Native.Nat.{ℕ, suc, ◌+◌, ◌-◌, ◌*◌, ◌^◌, ◌<◌, ◌≤◌}
+use native.Mathlib.Nat.{add-zero, add-mul, mul_assoc, pow-succ', pow-suc, one-le-pow, pow-le-pow_right}
+use native.Mathlib.Numerals.{add-one}
+use native.Mathlib.Omega.{arith}
+use borrow.Author.Tests.{leb-true}
+use lib.Dec.{eqb, leb, lit<}
+use lib.ListN.{length, drop, get_or, drop_of_length-le}
+use lib.Seq.{drop-cons}
 use Rattle.format.specs.declared.Column.{Column}
 use Rattle.format.specs.declared.Column.TheVariants.{Malformed}
 use Rattle.format.specs.Column.{strip, is_digit, all_digits, value_of, is_number, negative, positive, signed, column_of}
 use Rattle.format.proofs.Basics.{and-true}
 use Rattle.format.proofs.Columns.{Byte, v_space, v_minus, v_digit, v_other, byte}
 use Rattle.columns.specs.declared.pass.Mark.{Mark}
-use Rattle.columns.specs.declared.pass.Mark.TheVariants.{Spaces, Minus, Digits, MinusDigits, Other}
+use Rattle.columns.specs.declared.pass.Mark.TheVariants.{Minus, Digits, MinusDigits, Other}
 use Rattle.columns.specs.declared.pass.Kept.{Kept}
-use Rattle.columns.specs.contracts.pass.Mark.{the_type}
-use denote.Enum.Declared.{tag_of}
 use Rattle.columns.specs.Pass.{digit_mark, other_mark, step_of, start, pass_from, pass, says, says_of}
 
 -- ---- after what no column has, after digits, after a minus, after spaces
@@ -37,23 +44,15 @@ other-pass (b ∷ bs) k e = other-pass bs (step_of k b) (other_stays k b e)
 digit-more : (n d k v : ℕ) → (n * 10 + d) * 10 ^ k + v ≡ n * 10 ^ suc k + (d * 10 ^ k + v)
 digit-more n d k v = omega (arith, add-mul (n * 10) d (10 ^ k), mul_assoc n 10 (10 ^ k), ap (λ (x : ℕ). n * x) (pow-succ' 10 k))
 
--- a mark that a digit leaves as it is: any other byte is none that a column has there
-stable_other : (m : Mark) (b : ℕ) → digit_mark m ≡ m → other_mark m b ≡ Other
-stable_other Spaces b e = let z : ◌≡◌ {A = ℕ} 2 0 = ap (tag_of the_type) e in absurd (omega arith)
-stable_other Minus b e = let z : ◌≡◌ {A = ℕ} 3 1 = ap (tag_of the_type) e in absurd (omega arith)
-stable_other Digits b e = refl
-stable_other MinusDigits b e = refl
-stable_other Other b e = refl
-
 -- a mark behind digits: one more keeps it, and no other byte may follow
-module _ (m : Mark) (same : digit_mark m ≡ m) where
+module _ (m : Mark) (same : digit_mark m ≡ m) (none : (b : ℕ) → other_mark m b ≡ Other) where
   -- what n and the digits of l say
   abbrev Result : ℕ → List ℕ → Column
   Result n l = cond (all_digits l) (says m (n * 10 ^ length l + value_of l)) Malformed
 
   no_digit : (b n : ℕ) → is_digit b ≡ false → step_of (kept m n) b ≡ kept Other n
   unfolding step_of
-  no_digit b n e = simp (e, stable_other m b same)
+  no_digit b n e = simp (e, none b)
 
   ended : (b : ℕ) (bs : List ℕ) (n : ℕ) → is_digit b ≡ false → says_of (pass_from (kept m n) (b ∷ bs)) ≡ Malformed
   unfolding pass_from
@@ -80,7 +79,7 @@ signed-step : (b : ℕ) (bs : List ℕ) → Byte b → says_of (pass_from (kept 
 unfolding pass_from step_of is_digit all_digits value_of is_number negative
 signed-step b bs (v_space e) = rw e (other-pass bs (kept Other 0) refl)
 signed-step b bs (v_minus e) = rw e (other-pass bs (kept Other 0) refl)
-signed-step b bs (v_digit p q r) = simp (r, first-digit) (digits-pass MinusDigits refl bs (b - 48))
+signed-step b bs (v_digit p q r) = simp (r, first-digit) (digits-pass MinusDigits refl (λ x. refl) bs (b - 48))
 signed-step b bs (v_other p q r) = simp r (other-pass bs (kept Other 0) refl)
 
 signed-pass : (l : List ℕ) → says_of (pass_from (kept Minus 0) l) ≡ negative l
@@ -92,7 +91,7 @@ column-step : (b : ℕ) (bs : List ℕ) → Byte b → says_of (pass bs) ≡ col
 unfolding pass_from step_of is_digit all_digits value_of is_number positive signed strip column_of
 column-step b bs (v_space e) ih = rw e ih
 column-step b bs (v_minus e) ih = rw e (signed-pass bs)
-column-step b bs (v_digit p q r) ih = simp (p, q, r, first-digit) (digits-pass Digits refl bs (b - 48))
+column-step b bs (v_digit p q r) ih = simp (p, q, r, first-digit) (digits-pass Digits refl (λ x. refl) bs (b - 48))
 column-step b bs (v_other p q r) ih = simp (p, q, r) (other-pass bs (kept Other 0) refl)
 
 -- THE PASS ENDS IN WHAT THE COLUMN SAYS
@@ -136,118 +135,73 @@ pass-small (b ∷ bs) k i h = let e : i + suc (length bs) ≡ i + 1 + length bs 
 pub inside_64 : (bytes : List ℕ) → length bytes ≤ 18 → (pass bytes).number < 2 ^ 63
 inside_64 bytes h = omega (arith, pass-small bytes start 0 (lit< tt), pow-le-pow_right {n = 10} (lit< tt) {i = 0 + length bytes} {j = 18} (omega arith))
 
--- ---- the bytes from the one at i on
+-- ---- `leading_spaces`
 
-module _ (l : List ℕ) (i : ℕ) (h : i < length l) where
-  here : drop i l ≡ get_or l i 0 ∷ drop (i + 1) l
-  here = rw add-one (drop-cons l i 0 h)
+module _ (l : List ℕ) (i : ℕ) where
+  here : i < length l → drop i l ≡ get_or l i 0 ∷ drop (i + 1) l
+  here h = rw add-one (drop-cons l i 0 h)
 
-  pass-here : (k : Kept) → pass_from k (drop i l) ≡ pass_from (step_of k (get_or l i 0)) (drop (i + 1) l)
-  unfolding pass_from
-  pass-here k = ap (pass_from k) here
+  pub one_space : i < length l → eqb (get_or l i 0) 32 ≡ true → strip (drop i l) ≡ strip l → strip (drop (i + 1) l) ≡ strip l
+  unfolding strip
+  one_space h e k = simp (here h, e) at k
 
-pub grown : (k k' : Kept) (b i : ℕ) → k' ≡ step_of k b → k.number < 10 ^ i → k'.number < 10 ^ (i + 1)
-grown k k' b i e h = rw e (step_small k b i h)
+  pub no_space_lem : i < length l → eqb (get_or l i 0) 32 ≡ false → strip (drop i l) ≡ strip l → drop i l ≡ strip l
+  unfolding strip
+  no_space_lem h e k = here h ∙ simp (here h, e) at k
 
-pub small : (n : ℕ) (l : List ℕ) (i : ℕ) → n < 10 ^ i → i ≤ length l → length l ≤ 18 → n < 10 ^ 18
-small n l i h j m = omega (arith, pow-le-pow_right {n = 10} (lit< tt) {i = i} {j = 18} (omega (arith, j, m)))
+  pub all-spaces : length l ≤ i → strip (drop i l) ≡ strip l → drop i l ≡ strip l
+  unfolding strip
+  all-spaces h k = drop_of_length-le l h ∙ rw (drop_of_length-le l h) at k
 
--- ---- `read_digits`
+-- ---- leading spaces leave what is kept before the first byte
 
--- one byte more behind digits, without a minus or with one: where it is a digit the numbers are the same, and where it is none both marks say so
-module _ (m : Mark) (s : digit_mark m ≡ m) (n b : ℕ) (k : Kept) (e : k ≡ step_of (kept Digits n) b) (next : Mark) (f : next ≡ k.mark) where
-  stays : (t : Bool) → is_digit b ≡ t → (next ≡ Other → ⊥) → kept m k.number ≡ step_of (kept m n) b
-  unfolding step_of
-  stays true d g = simp (e, d, s)
-  stays false d g = absurd (g (simp (f, e, d)))
+not_stripped : (b : ℕ) (bs : List ℕ) → eqb b 32 ≡ false → strip (b ∷ bs) ≡ b ∷ bs
+unfolding strip
+not_stripped b bs e = simp e
 
-  out : (t : Bool) → is_digit b ≡ t → next ≡ Other → (step_of (kept m n) b).mark ≡ Other
-  unfolding step_of
-  out true d g = let z : ◌≡◌ {A = ℕ} 2 4 = ap (tag_of the_type) (sym (rw (e, d) at f) ∙ g) in absurd (omega arith)
-  out false d g = simp (d, stable_other m b s)
+strip-step : (b : ℕ) (bs : List ℕ) → Byte b → pass (strip bs) ≡ pass bs → pass (strip (b ∷ bs)) ≡ pass (b ∷ bs)
+unfolding strip pass_from step_of is_digit
+strip-step b bs (v_space e) ih = rw e ih
+strip-step b bs (v_minus e) ih = rw e
+strip-step b bs (v_digit p q r) ih = ap (pass_from start) (not_stripped b bs p)
+strip-step b bs (v_other p q r) ih = ap (pass_from start) (not_stripped b bs p)
+
+pass-strip : (l : List ℕ) → pass (strip l) ≡ pass l
+unfolding strip pass_from
+pass-strip [] = refl
+pass-strip (b ∷ bs) = strip-step b bs (byte b) (pass-strip bs)
+
+-- ---- `read_on`
 
 module _ (l : List ℕ) (k₀ : Kept) (from : ℕ) where
-  module _ (m : Mark) (s : digit_mark m ≡ m) (n : ℕ) (k : Kept) (next : Mark) (i : ℕ) (e : k ≡ step_of (kept Digits n) (get_or l i 0)) (f : next ≡ k.mark) (h : i < length l) (p : pass_from (kept m n) (drop i l) ≡ pass_from k₀ (drop from l)) where
-    once_more : pass_from (step_of (kept m n) (get_or l i 0)) (drop (i + 1) l) ≡ pass_from k₀ (drop from l)
-    once_more = sym (pass-here l i h (kept m n)) ∙ p
+  pub again : (k k' : Kept) (i : ℕ) → k' ≡ step_of k (get_or l i 0) → i < length l → pass_from k (drop i l) ≡ pass_from k₀ (drop from l) → pass_from k' (drop (i + 1) l) ≡ pass_from k₀ (drop from l)
+  unfolding pass_from
+  again k k' i e h r =
+      let more : pass_from k (drop i l) ≡ pass_from (step_of k (get_or l i 0)) (drop (i + 1) l) = ap (pass_from k) (here l i h) in
+      rw e (sym more ∙ r)
 
-    pub digits_again : (next ≡ Other → ⊥) → pass_from (kept m k.number) (drop (i + 1) l) ≡ pass_from k₀ (drop from l)
-    digits_again g = ap (λ (x : Kept). pass_from x (drop (i + 1) l)) (stays m s n (get_or l i 0) k e next f (is_digit (get_or l i 0)) refl g) ∙ once_more
-
-    pub read_out : next ≡ Other → Malformed ≡ says_of (pass_from k₀ (drop from l))
-    read_out g =
-        sym (other-pass (drop (i + 1) l) (step_of (kept m n) (get_or l i 0)) (out m s n (get_or l i 0) k e next f (is_digit (get_or l i 0)) refl g)) ∙ ap says_of once_more
+  pub read_out : (k k' : Kept) (i : ℕ) → k' ≡ step_of k (get_or l i 0) → k'.mark ≡ Other → i < length l → pass_from k (drop i l) ≡ pass_from k₀ (drop from l) → Malformed ≡ says_of (pass_from k₀ (drop from l))
+  read_out k k' i e o h r = sym (other-pass (drop (i + 1) l) k' o) ∙ ap says_of (again k k' i e h r)
 
   pub read_all : (k : Kept) (i : ℕ) (r : Column) → r ≡ says_of k → length l ≤ i → pass_from k (drop i l) ≡ pass_from k₀ (drop from l) → r ≡ says_of (pass_from k₀ (drop from l))
   unfolding pass_from
   read_all k i r e h p = e ∙ ap says_of (rw (drop_of_length-le l h) at p)
 
--- ---- `read_from_first`
+pub grown : (k k' : Kept) (b i : ℕ) → k' ≡ step_of k b → k.number < 10 ^ i → k'.number < 10 ^ (i + 1)
+grown k k' b i e h = rw e (step_small k b i h)
 
-same_mark : {k k' : Kept} → k ≡ k' → k.mark ≡ k'.mark
-same_mark e = ap (λ (x : Kept). x.mark) e
+pub small : (k : Kept) (l : List ℕ) (i : ℕ) → k.number < 10 ^ i → i ≤ length l → length l ≤ 18 → k.number < 10 ^ 18
+small k l i h j m = omega (arith, pow-le-pow_right {n = 10} (lit< tt) {i = i} {j = 18} (omega arith))
 
--- neither a digit nor a minus behind spaces, and no digit behind a minus, is what no column has
-first-other : (b : ℕ) (m : Mark) → Byte b → (b ≡ 32 → ⊥) → m ≡ (step_of start b).mark → (m ≡ Digits → ⊥) → (m ≡ Minus → ⊥) → (step_of start b).mark ≡ Other
-unfolding step_of is_digit
-first-other b m (v_space e) n f g o = absurd (n e)
-first-other b m (v_minus e) n f g o = absurd (o (rw (f, e)))
-first-other b m (v_digit p q r) n f g o = absurd (g (simp (f, r)))
-first-other b m (v_other p q r) n f g o = simp (p, q, r)
+-- ---- `scan`
 
-second_other : (k : Kept) (b : ℕ) (m : Mark) → k.mark ≡ Minus → m ≡ (step_of k b).mark → (m ≡ MinusDigits → ⊥) → (t : Bool) → is_digit b ≡ t → (step_of k b).mark ≡ Other
-unfolding step_of
-second_other k b m e f g true d = absurd (g (simp (f, d, e)))
-second_other k b m e f g false d = simp (d, e)
+module _ (l : List ℕ) (i : ℕ) (e : drop i l ≡ strip l) where
+  pub spaces-alone : length l ≤ i → Malformed ≡ column_of l
+  unfolding column_of signed
+  spaces-alone h = rw (← e, drop_of_length-le l h)
 
-module _ (l : List ℕ) (k : Kept) (f : k ≡ step_of start (get_or l 0 0)) where
-  pub first-kept : k.number < 10 ^ 1
-  first-kept = grown start k (get_or l 0 0) 0 f (lit< tt)
+  pub first-kept : (k : Kept) → k ≡ step_of start (get_or l i 0) → k.number < 10 ^ (i + 1)
+  first-kept k f = grown start k (get_or l i 0) i f (one-le-pow i 10 (lit< tt))
 
-  pub second_kept : (k₂ : Kept) → k₂ ≡ step_of k (get_or l 1 0) → k₂.number < 10 ^ 2
-  second_kept k₂ f₂ = grown k k₂ (get_or l 1 0) 1 f₂ first-kept
-
-  module _ (h : 1 ≤ length l) where
-    pub behind-first : (r : Column) → r ≡ says_of (pass_from k (drop 1 l)) → r ≡ says_of (pass l)
-    behind-first r g = g ∙ ap (λ (x : Kept). says_of (pass_from x (drop 1 l))) f ∙ ap says_of (sym (pass-here l 0 h start))
-
-    module _ (m : Mark) (g : m ≡ k.mark) where
-      pub no_first : (get_or l 0 0 ≡ 32 → ⊥) → (m ≡ Digits → ⊥) → (m ≡ Minus → ⊥) → Malformed ≡ says_of (pass l)
-      no_first n o p =
-          let b : ℕ = get_or l 0 0 in
-          behind-first Malformed (sym (other-pass (drop 1 l) k (same_mark f ∙ first-other b m (byte b) n (g ∙ same_mark f) o p)))
-
-      pub minus-alone : m ≡ Minus → length l ≡ 1 → Malformed ≡ says_of (pass l)
-      unfolding pass_from
-      minus-alone o e = behind-first Malformed (rw (drop_of_length-le l {i = 1} (omega (arith, e))) (ap (λ (x : Mark). says x k.number) (sym o ∙ g)))
-
-      module _ (o : m ≡ Minus) (j : length l ≡ 1 → ⊥) (k₂ : Kept) (f₂ : k₂ ≡ step_of k (get_or l 1 0)) where
-        long : 1 < length l
-        long = omega (arith, h, j)
-
-        pub behind_second : (r : Column) → r ≡ says_of (pass_from k₂ (drop 2 l)) → r ≡ says_of (pass l)
-        behind_second r s = behind-first r (s ∙ ap (λ (x : Kept). says_of (pass_from x (drop 2 l))) f₂ ∙ ap says_of (sym (pass-here l 1 long k)))
-
-        pub no_second : (m₂ : Mark) → m₂ ≡ k₂.mark → (m₂ ≡ MinusDigits → ⊥) → Malformed ≡ says_of (pass l)
-        no_second m₂ g₂ o₂ =
-            let b : ℕ = get_or l 1 0 in
-            behind_second Malformed (sym (other-pass (drop 2 l) k₂ (same_mark f₂ ∙ second_other k b m₂ (sym g ∙ o) (g₂ ∙ same_mark f₂) o₂ (is_digit b) refl)))
-
--- ---- `scan`: leading spaces leave what is kept before the first byte
-
-pub scanned : (l rest : List ℕ) (r : Column) → r ≡ says_of (pass rest) → pass rest ≡ pass l → r ≡ column_of l
-scanned l rest r f e = f ∙ ap says_of e ∙ means l
-
-pub spaces-alone : (l rest : List ℕ) → length rest ≤ 0 → pass rest ≡ pass l → Malformed ≡ column_of l
-unfolding pass_from
-spaces-alone l [] h e = scanned l [] Malformed refl e
-spaces-alone l (b ∷ bs) h e = absurd (omega (arith, h))
-
-module _ (rest : List ℕ) where
-  -- the bytes behind the first one
-  tail_all : take (length rest - 1) (drop 1 rest) ≡ drop 1 rest
-  tail_all = take_all (length rest - 1) (drop 1 rest) (omega (arith, length-drop 1 rest))
-
-  pub one_space : (l : List ℕ) → 0 < length rest → get_or rest 0 0 ≡ 32 → pass rest ≡ pass l → pass (take (length rest - 1) (drop 1 rest)) ≡ pass l
-  unfolding step_of is_digit
-  one_space l h s e = rw tail_all (sym (rw s at (pass-here rest 0 h start)) ∙ e)
+  pub scanned : (k : Kept) (r : Column) → i < length l → k ≡ step_of start (get_or l i 0) → r ≡ says_of (pass_from k (drop (i + 1) l)) → r ≡ column_of l
+  scanned k r h f g = g ∙ ap says_of (again l start i start k i f h refl ∙ ap (pass_from start) e ∙ pass-strip l) ∙ means l

@@ -1,8 +1,15 @@
 -- `all_spaces` and `spaces_at` in the code's own words, and what callers cite of them. Assumes nothing.
-use Rattle.std.proofs.Common.{◌≡◌, ℕ, ◌+◌, ◌-◌, ◌<◌, ◌≤◌, Bool, false, ◌&&◌, eqb, List, length, get_or, take, drop, sym, ap, ◌∙◌, add-one, arith, drop_of_length-le, drop-cons, le-leb}
-use mathlib.Core.Bool.{and_assoc, and-true}
+use mathlib.Core.Path.{◌≡◌, ap, sym, ◌∙◌}
+use mathlib.Core.Bool.{Bool, false, ◌&&◌, and_assoc, and-true}
+use mathlib.Core.List.{List}
+use Prim.Native.Nat.{ℕ, ◌+◌, ◌-◌, ◌≤◌, ◌<◌}
 use native.Mathlib.Nat.{add-sub_cancel_left}
-use borrow.Author.Tests.{lt-leb}
+use native.Mathlib.Numerals.{add-one}
+use native.Mathlib.Omega.{arith}
+use borrow.Author.Tests.{le-leb, lt-leb}
+use lib.Dec.{eqb}
+use lib.ListN.{length, take, drop, get_or, drop_of_length-le}
+use lib.Seq.{drop-cons}
 use Rattle.format.specs.Layout.{column, spaces}
 use Rattle.columns.specs.InRecord.{spaces_at}
 

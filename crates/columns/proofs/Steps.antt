@@ -1,9 +1,19 @@
 -- `step` and `finish`, `last_byte` and `before_last` in the code's own words: what an arm of the match found, put into the definition;
 -- and that a number of eighteen digits stays inside 64 bits. Assumes nothing.
-use Rattle.std.proofs.Common.{◌≡◌, ℕ, ◌+◌, ◌-◌, ◌*◌, ◌/◌, ◌%◌, ◌^◌, ◌<◌, ◌≤◌, Bool, true, false, ◌&&◌, leb, [], ◌∷◌, pos, ◌-ℤ◌, neg_ℤ, sym, refl, ap, ◌∙◌, ap₂, arith, w64, SFits, to_z, of_z, le-ltb, lt-ltb, ne_eqb, le-leb, leb-true}
+use mathlib.Core.Path.{◌≡◌, refl, ap, ap₂, sym, ◌∙◌}
+use mathlib.Core.Bool.{Bool, true, false, ◌&&◌}
+use mathlib.Core.List.{[], ◌∷◌}
+use Prim.Native.Nat.{ℕ, ◌+◌, ◌-◌, ◌*◌, ◌/◌, ◌^◌, ◌<◌, ◌≤◌}
+use native.Mathlib.Omega.{arith}
+use borrow.Author.Tests.{ne_eqb, lt-ltb, le-ltb, leb-true}
+use lib.Dec.{leb}
+use lib.IntN.{pos, neg_ℤ, ◌-ℤ◌}
+use mir.Syntax.{w64}
+use mir.Val.{SFits, to_z, of_z}
 use mir.ValLaws.{to_z_pos}
 use Rattle.format.specs.declared.Column.TheVariants.{Value, MinusZero, Malformed}
 use Rattle.format.specs.Column.{is_digit}
+use Rattle.format.proofs.Basics.{and-true}
 use Rattle.columns.specs.declared.pass.Mark.{Mark}
 use Rattle.columns.specs.declared.pass.Mark.TheVariants.{Spaces, Digits, MinusDigits, Other}
 use Rattle.columns.specs.declared.pass.Mark.TheVariants as Mark
@@ -43,31 +53,19 @@ module _ {m : Mark} (e : m ≡ Spaces) (b : ℕ) where
   pub other-behind : (b ≡ 32 → ⊥) → (b ≡ 45 → ⊥) → Other ≡ other_mark m b
   other-behind n f = simp (e, ne_eqb b 32 n, ne_eqb b 45 f)
 
--- ---- `step`: a byte less 48 is at most 9 exactly where it is a digit; one before the digits wraps
+-- ---- `step`: a byte that is a digit, and one that is not
 
-module _ (k : Kept) (b d : ℕ) (w : (d + 48) % 2 ^ 64 ≡ b) where
-  digit_is : d ≤ 9 → b ≡ d + 48
-  digit_is h = omega (arith, w, h)
+pub digit-least : (b : ℕ) → leb 48 b && leb b 57 ≡ true → 48 ≤ b
+digit-least b e = leb-true 48 b (and-true (leb 48 b) (leb b 57) e).0
 
-  pub digit-kept : d ≤ 9 → (m m' : Mark) → m ≡ k.mark → m' ≡ digit_mark m → record { number = k.number * 10 + d; mark = m' } ≡ step_of k b
+module _ (k : Kept) (b : ℕ) where
+  pub digit-kept : leb 48 b && leb b 57 ≡ true → (m m' : Mark) → m ≡ k.mark → m' ≡ digit_mark m → record { number = k.number * 10 + (b - 48); mark = m' } ≡ step_of k b
   unfolding step_of is_digit
-  digit-kept h m m' f g =
-      let e : b ≡ d + 48 = digit_is h in
-      let less : b - 48 ≡ d = omega (arith, e) in
-      simp (le-leb 48 b (omega (arith, e)), le-leb b 57 (omega (arith, e, h)), less, g, f)
+  digit-kept e m m' f g = simp (e, g, f)
 
-  no_digit : d < 2 ^ 64 → 10 ≤ d → is_digit b ≡ false
-  unfolding is_digit
-  no_digit r h = by (leb 48 b) (leb b 57) refl refl
-    where
-      by : (x y : Bool) → leb 48 b ≡ x → leb b 57 ≡ y → x && y ≡ false
-      by false y p q = refl
-      by true false p q = refl
-      by true true p q = absurd (omega (arith, w, r, h, leb-true 48 b p, leb-true b 57 q))
-
-  pub other-kept : d < 2 ^ 64 → 10 ≤ d → (m m' : Mark) → m ≡ k.mark → m' ≡ other_mark m b → record { number = k.number; mark = m' } ≡ step_of k b
-  unfolding step_of
-  other-kept r h m m' f g = simp (no_digit r h, g, f)
+  pub other-kept : leb 48 b && leb b 57 ≡ false → (m m' : Mark) → m ≡ k.mark → m' ≡ other_mark m b → record { number = k.number; mark = m' } ≡ step_of k b
+  unfolding step_of is_digit
+  other-kept e m m' f g = simp (e, g, f)
 
 -- ---- `finish`
 

@@ -1,11 +1,19 @@
 -- Writing byte by byte from the right gives the written form. Assumes nothing.
-use Rattle.std.proofs.Common.{◌≡◌, ℕ, zero, suc, ◌+◌, ◌-◌, ◌*◌, ◌/◌, ◌^◌, ◌<◌, ◌≤◌, Bool, true, false, cond, ltb, List, [], ◌∷◌, ◌++◌, length, drop, set, replicate, ℤ, pos, negsuc, nat_abs, sym, refl, ap, ◌∙◌, true≢false, append_assoc, append-nil, le_of_suc-le-suc, not-suc-le-zero, mod-eq_of_lt, pow-suc, add-one, arith, lit<, length-append, length-set, take_all, w64, Fits, ltb-true, le-ltb, lt-ltb, leb-true}
-use mathlib.Core.Bool.{false≢true}
-use native.Mathlib.Nat.{pow-le-pow_right}
-use lib.Dec.{leb-suc-zero}
+use mathlib.Core.Path.{◌≡◌, refl, ap, sym, ◌∙◌}
+use mathlib.Core.Bool.{Bool, true, false, cond, false≢true, true≢false}
+use mathlib.Core.List.{List, [], ◌∷◌, ◌++◌, append_assoc, append-nil}
+use Prim.Native.Nat.{ℕ, zero, suc, ◌+◌, ◌-◌, ◌*◌, ◌/◌, ◌^◌, ◌≤◌, ◌<◌}
+use native.Mathlib.Nat.{not-suc-le-zero, le_of_suc-le-suc, pow-suc, pow-le-pow_right, mod-eq_of_lt}
+use native.Mathlib.Numerals.{add-one}
+use native.Mathlib.Omega.{arith}
+use borrow.Author.Tests.{lt-ltb, le-ltb, ltb-true, leb-true}
+use lib.Dec.{ltb, lit<, leb-suc-zero}
+use lib.IntN.{ℤ, pos, negsuc, nat_abs}
 use lib.Signed.{lt_z}
-use lib.ListN.{length-replicate, replicate-append-replicate}
-use lib.Seq.{drop-length}
+use lib.ListN.{length, drop, set, replicate, length-set, length-append, length-replicate, replicate-append-replicate}
+use lib.Seq.{take_all, drop-length}
+use mir.Syntax.{w64}
+use mir.Val.{Fits}
 use Rattle.format.specs.Column.{digits_in, digits, text_of, fits, written}
 use Rattle.format.proofs.Lists.{drop-set}
 use Rattle.format.proofs.ColumnFits.{fits_plus, fits-minus}

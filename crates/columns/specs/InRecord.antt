@@ -1,5 +1,5 @@
 -- A column inside a record: what it says, whether it is blank, and the record with a number written into it. Assumes nothing.
-use Rattle.std.specs.Prelude.{ℕ, ◌+◌, Bool, true, false, cond, ◌&&◌, List, length, ℤ, nat_le}
+use Rattle.std.specs.Prelude.{Bool, true, false, cond, ◌&&◌, List, ℕ, ◌+◌, leb, ℤ, length}
 use Rattle.format.specs.Text.{same}
 use Rattle.format.specs.declared.Column.{Column}
 use Rattle.format.specs.declared.Column.TheVariants.{Malformed}
@@ -10,7 +10,7 @@ use Rattle.format.specs.Layout.{column, splice, spaces}
 -- record, is malformed
 unfoldable pub column_at : List ℕ → ℕ → ℕ → Column
 column_at r start width =
-    cond (nat_le width 18 && nat_le (start + width) (length r)) (column_of (column start width r)) Malformed
+    cond (leb width 18 && leb (start + width) (length r)) (column_of (column start width r)) Malformed
 
 -- its number, if it is one of at least 0; else 0
 unfoldable pub number_in : List ℕ → (start width : ℕ) → ℕ
@@ -18,7 +18,7 @@ number_in r start width = number_of (column_at r start width)
 
 -- that column is of spaces alone, of any width; not so where it is not whole inside the record
 unfoldable pub spaces_at : List ℕ → ℕ → ℕ → Bool
-spaces_at r start width = nat_le (start + width) (length r) && spaces (column start width r)
+spaces_at r start width = leb (start + width) (length r) && spaces (column start width r)
 
 -- whether the number was written, and all bytes of the record afterwards
 pub record Rewritten : Type 0 where
@@ -29,11 +29,11 @@ pub record Rewritten : Type 0 where
 -- inside the record: nothing is written
 unfoldable pub write_at : List ℕ → ℕ → ℕ → ℤ → Rewritten
 write_at r start width z =
-    cond (width_ok width && fits width z && nat_le (start + width) (length r))
+    cond (width_ok width && fits width z && leb (start + width) (length r))
     (record { done = true; bytes = splice start width (written width z) r })
     (record { done = false; bytes = r })
 
 -- that column holds a number in written form: not so of a number that does not fit the width, of a width that is not allowed, or of a column that is not
 -- whole inside the record
 unfoldable pub is_written_at : List ℕ → ℕ → ℕ → ℤ → Bool
-is_written_at r start width z = (width_ok width && fits width z && nat_le (start + width) (length r)) && same (column start width r) (written width z)
+is_written_at r start width z = (width_ok width && fits width z && leb (start + width) (length r)) && same (column start width r) (written width z)

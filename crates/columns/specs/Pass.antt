@@ -1,6 +1,6 @@
 -- Order 3 of document 02: "read each integer column in one pass: what is kept after a byte, one 64-bit number and a small mark, follows from what
 -- was kept before and that byte alone". That the pass ends in document 01's answer is claimed in proofs/Claims. Assumes nothing.
-use Rattle.std.specs.Prelude.{ℕ, ◌+◌, ◌-◌, ◌*◌, ◌%◌, cond, List, [], ◌∷◌, pos, neg_ℤ, ◌==◌}
+use Rattle.std.specs.Prelude.{ℕ, ◌+◌, ◌-◌, ◌*◌, ◌%◌, cond, List, [], ◌∷◌, eqb, pos, neg_ℤ}
 use Rattle.format.specs.Column.{is_digit}
 use Rattle.format.specs.declared.Column.{Column}
 use Rattle.format.specs.declared.Column.TheVariants.{Value, MinusZero, Malformed}
@@ -18,7 +18,7 @@ digit_mark Other = Other
 
 -- the mark behind a byte that is no digit: a space (32) or a minus (45) stands behind spaces alone
 abbrev pub other_mark : Mark → ℕ → Mark
-other_mark Spaces b = cond (b == 32) Spaces (cond (b == 45) Minus Other)
+other_mark Spaces b = cond (eqb b 32) Spaces (cond (eqb b 45) Minus Other)
 other_mark Minus b = Other
 other_mark Digits b = Other
 other_mark MinusDigits b = Other
@@ -49,7 +49,7 @@ abbrev pub says : Mark → ℕ → Column
 says Spaces n = Malformed
 says Minus n = Malformed
 says Digits n = Value (pos n)
-says MinusDigits n = cond (n == 0) MinusZero (Value (neg_ℤ (pos n)))
+says MinusDigits n = cond (eqb n 0) MinusZero (Value (neg_ℤ (pos n)))
 says Other n = Malformed
 
 abbrev pub says_of : Kept → Column

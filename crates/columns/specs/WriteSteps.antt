@@ -1,6 +1,7 @@
 -- The writing of a column from its last byte to its first, as the code does it. Private functions cite it; that it ends in the
 -- written form is `filled-written` of proofs/Writing. Assumes nothing.
-use Rattle.std.specs.Prelude.{ℕ, zero, suc, ◌+◌, ◌/◌, ◌%◌, cond, ◌&&◌, List, [], ◌∷◌, ◌++◌, ℤ, pos, int_lt, nat_lt, unsigned_abs}
+use Rattle.std.specs.Prelude.{ℕ, zero, suc, ◌+◌, ◌/◌, ◌%◌, cond, ◌&&◌, List, [], ◌∷◌, ◌++◌, ltb, ℤ, pos, nat_abs}
+use Rattle.std.specs.Int.Signed.{lt_z}
 use Rattle.format.specs.Column.{fits, width_ok}
 use Rattle.columns.specs.declared.Rest.{Rest}
 use Rattle.columns.specs.declared.Rest.TheVariants.{Digits, Minus, Spaces}
@@ -14,7 +15,7 @@ byte_of Minus = 45
 byte_of Spaces = 32
 
 unfoldable pub before_of : Rest → Rest
-before_of (Digits m n) = cond (nat_lt n 10) (cond m Minus Spaces) (Digits m (n / 10))
+before_of (Digits m n) = cond (ltb n 10) (cond m Minus Spaces) (Digits m (n / 10))
 before_of Minus = Spaces
 before_of Spaces = Spaces
 
@@ -25,4 +26,4 @@ filled (suc w) s = filled w (before_of s) ++ (byte_of s ∷ [])
 
 -- what is written to a column of this width, where width and number allow it
 unfoldable pub choice_of : ℕ → ℤ → Choice
-choice_of width z = cond (width_ok width && fits width z) (Write (Digits (int_lt z (pos 0)) (unsigned_abs z))) Refuse
+choice_of width z = cond (width_ok width && fits width z) (Write (Digits (lt_z z (pos 0)) (nat_abs z))) Refuse

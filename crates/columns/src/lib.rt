@@ -1,6 +1,6 @@
 // One integer column: leading spaces, at most one minus, then one digit or more to the last byte. It is read in one pass, and
 // written in written form (shortest digits, spaces in front), alone or inside a record.
-ghost use Rattle.std.specs.Prelude.{◌≡◌, ◌^◌, ◌≤◌, length, unsigned_abs};
+ghost use Rattle.std.specs.Prelude.{◌≡◌, ◌≤◌, ◌^◌, length, nat_abs};
 ghost use Rattle.format.specs.Column.{integer, read_alone, write_alone};
 ghost use Rattle.format.specs.Text.{same};
 ghost use Rattle.format.specs.Layout.{spaces};
@@ -165,7 +165,7 @@ fn power(k: usize) -> u64
 
 // The number without its sign, the least i64 too.
 pub fn size(value: i64) -> u64
-    ensures { result ≡ unsigned_abs value }
+    ensures { result ≡ nat_abs value }
 {
     if value < 0 {
         let v = value + 1;

@@ -1,7 +1,7 @@
 // One column read in one pass: what is kept after a byte, one number and one mark, follows from what was kept before and that byte alone.
-ghost use Rattle.std.specs.Prelude.{◌≡◌, ◌^◌, ◌<◌, ◌≤◌, length, drop, ◌≢◌, slice_index};
-ghost use Rattle.format.specs.Column.{column_of};
-ghost use Rattle.columns.specs.Pass.{digit_mark, other_mark, step_of, pass_from, pass, says_of};
+ghost use Rattle.std.specs.Prelude.{◌≡◌, ◌≤◌, ◌<◌, ◌^◌, length, drop};
+ghost use Rattle.format.specs.Column.{column_of, strip};
+ghost use Rattle.columns.specs.Pass.{digit_mark, other_mark, step_of, pass_from, says_of};
 
 use format::Column;
 
@@ -58,11 +58,10 @@ fn step(kept: Kept, byte: u8) -> Kept
     ensures { result ≡ step_of kept byte }
 {
     let mark = kept.mark;
-    // Of a byte before the digits this wraps, to a number above 9.
-    let digit = std::num::wrapping_sub_u64(byte as u64, 48);
-    if digit <= 9 {
+    if (b'0' <= byte) & (byte <= b'9') {
+        let digit = byte - b'0';
         return Kept {
-            number: kept.number * 10 + digit,
+            number: kept.number * 10 + (digit as u64),
             mark: behind_digit(mark),
         };
     }
@@ -93,71 +92,53 @@ fn finish(kept: Kept) -> Column
     }
 }
 
-// What a column says of whose bytes before `from` this is kept, digits among them: the pass to its last byte, or to the first that is no digit. One byte
-// more goes the same way behind digits with a minus and without, so that each step is made with the mark that is known: the number alone changes, and
-// the mark is put to it at the end. Eighteen digits are below 2 ^ 63.
-fn read_digits(column: &[u8], from: usize, first: Kept) -> Column
-    requires { (from ≤ length column.now) × (length column.now ≤ 18) × (first.number < 10 ^ from) × (digit_mark first.mark ≡ first.mark) }
-    ensures { result ≡ says_of (pass_from first (drop from column.now)) }
+// How many spaces lead. By `step` they leave what is kept before the first byte as it is, so the pass begins behind them: each is then tested once.
+fn leading_spaces(column: &[u8]) -> usize
+    ensures { (result ≤ length column.now) × (drop result column.now ≡ strip column.now) }
 {
-    let mark = first.mark;
-    let mut number = first.number;
-    let mut i = from;
-    while i < column.len() {
-        let before = Kept {
-            number,
-            mark: Mark::Digits,
-        };
-        let kept = step(before, column[i]);
-        let next = kept.mark;
-        if let Mark::Other = next {
-            return Column::Malformed;
-        }
-        number = kept.number;
+    let mut i = 0;
+    while (i < column.len()) && (column[i] == b' ') {
         i += 1;
     }
-    finish(Kept { number, mark })
+    i
 }
 
-// What a column says whose first byte is no space.
-fn read_from_first(column: &[u8]) -> Column
-    requires { (1 ≤ length column.now) × (length column.now ≤ 18) × (slice_index column.now 0 ≢ 32) }
-    ensures { result ≡ says_of (pass column.now) }
+// What a column says of whose bytes before `from` this is kept: the pass to its last byte, or to the first that no column has there. Eighteen digits are
+// below 2 ^ 63.
+fn read_on(column: &[u8], from: usize, first: Kept) -> Column
+    requires { (from ≤ length column.now) × (length column.now ≤ 18) × (first.number < 10 ^ from) }
+    ensures { result ≡ says_of (pass_from first (drop from column.now)) }
 {
-    let start = Kept {
-        number: 0,
-        mark: Mark::Spaces,
-    };
-    let first = step(start, column[0]);
-    let mark = first.mark;
-    if let Mark::Digits = mark {
-        return read_digits(column, 1, first);
+    let mut kept = first;
+    let mut i = from;
+    while i < column.len() {
+        kept = step(kept, column[i]);
+        let mark = kept.mark;
+        if let Mark::Other = mark {
+            return Column::Malformed;
+        }
+        i += 1;
     }
-    let Mark::Minus = mark else {
-        return Column::Malformed;
-    };
-    if column.len() == 1 {
-        return Column::Malformed;
-    }
-    let second = step(first, column[1]);
-    let behind_minus = second.mark;
-    let Mark::MinusDigits = behind_minus else {
-        return Column::Malformed;
-    };
-    read_digits(column, 2, second)
+    finish(kept)
 }
 
-// The whole column. By `step` leading spaces leave what is kept before the first byte as it is, so the pass goes on behind them.
+// The whole column. Where a digit stands behind the spaces, the compiler knows the mark of all that follow, and has a number alone to keep.
 pub(crate) fn scan(column: &[u8]) -> Column
     requires { length column.now ≤ 18 }
     ensures { result ≡ column_of column.now }
 {
-    let mut rest = column;
-    while 0 < rest.len() {
-        if rest[0] != b' ' {
-            return read_from_first(rest);
-        }
-        rest = &rest[1..];
+    let begin = leading_spaces(column);
+    if column.len() <= begin {
+        return Column::Malformed;
     }
-    Column::Malformed
+    let start = Kept {
+        number: 0,
+        mark: Mark::Spaces,
+    };
+    let first = step(start, column[begin]);
+    let mark = first.mark;
+    if let Mark::Digits = mark {
+        return read_on(column, begin + 1, first);
+    }
+    read_on(column, begin + 1, first)
 }

@@ -7,9 +7,6 @@ use Prim.Native.Nat.{ℕ, ◌+◌, ◌≤◌}
 use native.Mathlib.Omega.{arith}
 use lib.IntN.{ℤ}
 use lib.ListN.{length, take, drop}
-use types.Run.{OneOf}
-use denote.Enum.Declared.{tag_of}
-use Rattle.format.specs.contracts.Column.{the_type}
 use Rattle.format.specs.declared.Column.{Column}
 use Rattle.format.specs.declared.Column.TheVariants.{Value}
 use Rattle.format.specs.Column.{column_of, formed}
@@ -22,7 +19,7 @@ read_inside : (l : List ℕ) (at : ℕ) (r : Column) → r ≡ column_at l at 7 
 unfolding column
 read_inside l at r e h = ap formed (e ∙ column-at-inside l at 7 h (omega arith))
 
-pub no_value : (l : List ℕ) (at : ℕ) (r : Column) → r ≡ column_at l at 7 → at + 7 ≤ length l → OneOf (1 ∷ 2 ∷ []) (tag_of the_type r) → false ≡ formed (column_of (take 7 (drop at l)))
+pub no_value : (l : List ℕ) (at : ℕ) (r : Column) → r ≡ column_at l at 7 → at + 7 ≤ length l → ((z : ℤ) → r ≡ Value z → ⊥) → false ≡ formed (column_of (take 7 (drop at l)))
 no_value l at r e h n = sym (other_tag r n) ∙ read_inside l at r e h
 
 pub a_value : (l : List ℕ) (at : ℕ) (r : Column) (z : ℤ) → r ≡ column_at l at 7 → at + 7 ≤ length l → r ≡ Value z → true ≡ formed (column_of (take 7 (drop at l)))

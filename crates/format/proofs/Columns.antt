@@ -12,9 +12,6 @@ use lib.Dec.{eqb, leb, ltb}
 use lib.ListN.{length, take, drop, get_or, replicate, length-append, length-replicate, length-drop, take-append-drop}
 use lib.Seq.{take_at, drop_at, length-take-le, take_all, drop-append-le, take-append-le, drop-append-add, drop-drop, get_or-take, get_or-drop}
 use lib.IntN.{ℤ, pos, neg_ℤ}
-use types.Run.{OneOf, miss}
-use denote.Enum.Declared.{tag_of}
-use Rattle.format.specs.contracts.Column.{the_type}
 use Rattle.format.specs.declared.Column.{Column}
 use Rattle.format.specs.declared.Column.TheVariants.{Value, MinusZero, Malformed}
 use Rattle.format.specs.Column.{strip, is_digit, all_digits, value_of, is_number, negative, positive, signed, column_of, formed, size, number_of, digits_in, digits, text_of, fits, written}
@@ -282,7 +279,7 @@ byte_column i r = sym (get_or-take 1 (drop i r) 0 0 (omega arith) ∙ get_or-dro
     none_more = omega arith
 
 -- what `let Column::Value(z) = .. else` tells of the column in its other way
-pub other_tag : (c : Column) → OneOf (1 ∷ 2 ∷ []) (tag_of the_type c) → formed c ≡ false
-other_tag (Value z) h = absurd (miss (1 ∷ 2 ∷ []) 0 tt h)
+pub other_tag : (c : Column) → ((z : ℤ) → c ≡ Value z → ⊥) → formed c ≡ false
+other_tag (Value z) h = absurd (h z refl)
 other_tag MinusZero h = refl
 other_tag Malformed h = refl

@@ -14,9 +14,6 @@ use lib.Dec.{eqb, leb}
 use lib.Text.{eqt}
 use lib.IntN.{ℤ, pos, negsuc}
 use lib.ListN.{length}
-use types.Run.{OneOf}
-use denote.Enum.Declared.{tag_of}
-use Rattle.format.specs.contracts.Column.{the_type}
 use Rattle.format.specs.declared.Column.{Column}
 use Rattle.format.specs.declared.Column.TheVariants.{Value, MinusZero, Malformed}
 use Rattle.format.specs.Basics.{first, unless}
@@ -147,7 +144,7 @@ module _ (table : List Col) (name : String) (start width : ℕ) (rule : Rule) (n
     integer-inside = rw named (rw named at (inside-find name l table (all-inside table l none)))
 
     -- the other way of `let Column::Value(z) = .. else` is not taken
-    pub never_malformed : (c : Column) → c ≡ column_at l start width → OneOf (1 ∷ 2 ∷ []) (tag_of the_type c) → ⊥
+    pub never_malformed : (c : Column) → c ≡ column_at l start width → ((z : ℤ) → c ≡ Value z → ⊥) → ⊥
     never_malformed c e o = false≢true (sym (other_tag c o) ∙ rw e is_formed_lem)
 
     module _ (natural : never_negative rule ≡ true) where

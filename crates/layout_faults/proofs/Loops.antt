@@ -11,12 +11,9 @@ use lib.IntN.{ℤ, pos, negsuc, nat_abs}
 use lib.Signed.{le_z, lt_z, mag}
 use lib.ListN.{length, drop, get_or, drop_of_length-le}
 use lib.Seq.{drop-cons}
-use types.Run.{OneOf}
-use denote.Enum.Declared.{tag_of}
 use mir.Syntax.{w64}
 use mir.Val.{SFits, hbits, to_z, of_z}
 use mir.ValLaws.{to_z-of_z}
-use Rattle.format.specs.contracts.Column.{the_type}
 use Rattle.format.specs.declared.Column.{Column}
 use Rattle.format.specs.declared.Column.TheVariants.{Value}
 use Rattle.format.specs.Basics.{first, unless, member}
@@ -30,7 +27,7 @@ use Rattle.layout_faults.specs.Tables.{unless_spaces, formed_as, between, betwee
 
 -- an integer
 module _ (l : List ℕ) (start width : ℕ) (low high : ℤ) (c : Column) (e : c ≡ column_at l start width) where
-  pub integer-malformed : OneOf (1 ∷ 2 ∷ []) (tag_of the_type c) → 5 ≡ fault_as l start width 0 low high
+  pub integer-malformed : ((z : ℤ) → c ≡ Value z → ⊥) → 5 ≡ fault_as l start width 0 low high
   unfolding fault_as formed_as
   integer-malformed n = rw (← e, other_tag c n)
 

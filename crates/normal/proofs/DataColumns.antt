@@ -5,15 +5,12 @@ use mathlib.Core.List.{List, [], ◌∷◌}
 use Prim.Native.Nat.{ℕ, zero, suc, ◌*◌, ◌≤◌}
 use lib.ListN.{length, take}
 use lib.Seq.{length-take-le}
-use types.Run.{OneOf, miss}
-use denote.Enum.Declared.{tag_of}
 use Rattle.format.specs.Layout.{Col, data_3d, data_2d, data_note, data_attribute, data_grid, data_net}
 use Rattle.format.specs.Record.{used_in, data_columns}
 use Rattle.format.specs.Normal.{normal_record}
 use Rattle.format.proofs.Basics.{and-true, true_and}
 use Rattle.layouts.specs.Tables.{starts_of, widths_of, form_of, forms_of, tabled}
 use Rattle.layouts.proofs.Lies.{lies, all_lie}
-use Rattle.records.specs.contracts.Held.{the_type}
 use Rattle.records.specs.declared.Held.{Held}
 use Rattle.records.specs.declared.Held.TheVariants.{Nothing, Points3D, Points2D, Triangles, Heights, Notes, Attributes}
 use Rattle.records.specs.Entry.{to_data, columns_used}
@@ -121,15 +118,15 @@ module _ (l l' : List ℕ) (held : Held) (behind : ℕ) where
     pub at-most-twelve : columns ≤ 12
     at-most-twelve = rw u (columns_most held behind)
 
-    pub columns_written : length l ≡ 84 → OneOf (0 ∷ 1 ∷ 2 ∷ 3 ∷ 4 ∷ 6 ∷ []) (tag_of the_type held) → l' ≡ first_sevens columns l → l' ≡ normal_record (data_columns (to_data held) behind) l
+    pub columns_written : length l ≡ 84 → (held ≡ Notes → ⊥) → l' ≡ first_sevens columns l → l' ≡ normal_record (data_columns (to_data held) behind) l
     unfolding columns_used data_columns data_attribute normal_record
     columns_written whole t e = e ∙ rw u (by_held held t)
       where
-        by_held : (held : Held) → OneOf (0 ∷ 1 ∷ 2 ∷ 3 ∷ 4 ∷ 6 ∷ []) (tag_of the_type held) → first_sevens (columns_used held behind) l ≡ normal_record (data_columns (to_data held) behind) l
+        by_held : (held : Held) → (held ≡ Notes → ⊥) → first_sevens (columns_used held behind) l ≡ normal_record (data_columns (to_data held) behind) l
         by_held Nothing t = first-form data_grid like_grid 0 l whole
         by_held (Points3D count) t = first-form data_3d like_3d (3 * used_in 4 count behind) l whole
         by_held (Points2D count) t = first-form data_2d like_2d (2 * used_in 6 count behind) l whole
         by_held (Triangles count) t = first-form data_net like_net (3 * used_in 4 (3 * count) behind) l whole
         by_held (Heights count) t = first-form data_grid like_grid (used_in 12 count behind) l whole
-        by_held Notes t = absurd (miss (0 ∷ 1 ∷ 2 ∷ 3 ∷ 4 ∷ 6 ∷ []) 5 tt t)
+        by_held Notes t = absurd (t refl)
         by_held Attributes t = first-form data_grid like_grid 0 l whole ∙ form_stays data_attribute l refl

@@ -5,8 +5,6 @@ use mathlib.Core.List.{List, [], ◌∷◌}
 use Prim.Native.Nat.{ℕ, zero, suc, ◌-◌}
 use native.Mathlib.Omega.{arith}
 use borrow.Author.Tests.{ne_eqb}
-use types.Run.{OneOf}
-use denote.Enum.Declared.{tag_of}
 use lib.ListN.{get_or}
 use Rattle.format.specs.Layout.{index_a, index_b, index_c, sheet_a, sheet_b, sheet_c, sheet_d, sheet_e, sheet_f, header, element, grid_header, net_header}
 use Rattle.format.specs.Record.{data_columns}
@@ -17,7 +15,6 @@ use Rattle.records.specs.Entry.{to_data, entry_of}
 use Rattle.part_and_index.specs.declared.due.Due.{Due}
 use Rattle.part_and_index.specs.declared.due.Due.TheVariants.{SheetA, SheetB, SheetC, SheetD, SheetE, SheetF, IndexA, IndexB, IndexC, Over}
 use Rattle.part_and_index.specs.Due as Part
-use Rattle.part_and_index.specs.contracts.due.Due.{the_type}
 use Rattle.part_and_index.proofs.WalkLaws.{due_still}
 use Rattle.normal.specs.declared.due.FileDue.{FileDue}
 use Rattle.normal.specs.declared.due.FileDue.TheVariants.{Sheet, Index, Entry, Data}
@@ -30,7 +27,7 @@ pub part-over : (due : Due) → due ≡ Over → Entry ≡ behind_part due
 unfolding behind_part
 part-over due h = rw h
 
-pub part_goes_on : (due : Due) → OneOf (0 ∷ 1 ∷ 2 ∷ 3 ∷ 4 ∷ 5 ∷ 6 ∷ 7 ∷ 8 ∷ []) (tag_of the_type due) → Sheet due ≡ behind_part due
+pub part_goes_on : (due : Due) → (due ≡ Over → ⊥) → Sheet due ≡ behind_part due
 unfolding behind_part
 part_goes_on due h = ap (λ (t : Bool). cond t Entry (Sheet due)) (due_still due h)
 

@@ -6,12 +6,9 @@ use Prim.Native.Nat.{ℕ, suc, ◌+◌, ◌≤◌, ◌<◌}
 use native.Mathlib.Numerals.{add-one}
 use native.Mathlib.Omega.{arith}
 use borrow.Author.Tests.{eq-eqb, ne_eqb, not-true, not-false}
-use types.Run.{OneOf, miss}
-use denote.Enum.Declared.{tag_of}
 use lib.Dec.{eqb}
 use lib.ListN.{length, drop, get_or, drop_of_length-le}
 use lib.Seq.{drop-cons}
-use Rattle.part_and_index.specs.contracts.due.Due.{the_type}
 use Rattle.part_and_index.specs.declared.due.Due.{Due}
 use Rattle.part_and_index.specs.declared.due.Due.TheVariants.{SheetA, SheetB, SheetC, SheetD, SheetE, SheetF, IndexA, IndexB, IndexC, Over}
 use Rattle.part_and_index.specs.declared.progress.Progress.{Progress}
@@ -50,7 +47,7 @@ module _ (rs : List (List ℕ)) (p : Progress) (k : ℕ) (whole : SheetPart) (le
   walk-missing part o n all h e = let past : length rs ≤ k = omega arith in e ∙ (rw (drop_of_length-le rs past, over_is, not-true over o) at left)
 
 -- ---- `is_over`
-pub due_still : (due : Due) → OneOf (0 ∷ 1 ∷ 2 ∷ 3 ∷ 4 ∷ 5 ∷ 6 ∷ 7 ∷ 8 ∷ []) (tag_of the_type due) → false ≡ is_over due
+pub due_still : (due : Due) → (due ≡ Over → ⊥) → false ≡ is_over due
 due_still SheetA h = refl
 due_still (SheetB sets) h = refl
 due_still (SheetC sets) h = refl
@@ -60,4 +57,4 @@ due_still (SheetF fs sets) h = refl
 due_still IndexA h = refl
 due_still (IndexB bs cs) h = refl
 due_still (IndexC cs) h = refl
-due_still Over h = absurd (miss (0 ∷ 1 ∷ 2 ∷ 3 ∷ 4 ∷ 5 ∷ 6 ∷ 7 ∷ 8 ∷ []) 9 tt h)
+due_still Over h = absurd (h refl)

@@ -10,8 +10,6 @@ use lib.IntN.{ℤ}
 use lib.ListN.{length}
 use mir.Syntax.{w64}
 use mir.Val.{SFits, to_z, of_z}
-use types.Run.{OneOf, miss}
-use denote.Enum.Declared.{tag_of}
 use Rattle.format.specs.Basics.{unless}
 use Rattle.format.specs.Column.{integer}
 use Rattle.format.specs.Layout.{find, number_at, integer_at, all_formed, all_inside, column_fault, data_note, data_attribute}
@@ -27,7 +25,6 @@ use Rattle.records.specs.declared.Held.{Held}
 use Rattle.records.specs.declared.Held.TheVariants.{Nothing, Points3D, Points2D, Triangles, Heights, Notes, Attributes}
 use Rattle.records.specs.Entry.{to_data, no_note, columns_fault_of, data_fault_of, columns_used}
 use Rattle.records.specs.Steps.{direction_in}
-use Rattle.records.specs.contracts.Held.{the_type}
 use Rattle.records.proofs.Numbers.{stated}
 
 -- ---- `note_fault`
@@ -110,15 +107,15 @@ pub of_note : (l : List ℕ) (held : Held) (behind r : ℕ) → held ≡ Notes �
 unfolding data_fault_of data_fault data_columns
 of_note l held behind r h e = rw h e
 
-other_held : (h : Held) → OneOf (0 ∷ 1 ∷ 2 ∷ 3 ∷ 4 ∷ 6 ∷ []) (tag_of the_type h) → no_note h ≡ h
+other_held : (h : Held) → (h ≡ Notes → ⊥) → no_note h ≡ h
 other_held Nothing t = refl
 other_held (Points3D count) t = refl
 other_held (Points2D count) t = refl
 other_held (Triangles count) t = refl
 other_held (Heights count) t = refl
-other_held Notes t = absurd (miss (0 ∷ 1 ∷ 2 ∷ 3 ∷ 4 ∷ 6 ∷ []) 5 tt t)
+other_held Notes t = absurd (t refl)
 other_held Attributes t = refl
 
-pub of_columns : (l : List ℕ) (held : Held) (behind r : ℕ) → OneOf (0 ∷ 1 ∷ 2 ∷ 3 ∷ 4 ∷ 6 ∷ []) (tag_of the_type held) → r ≡ columns_fault_of l held behind → r ≡ data_fault_of l held behind
+pub of_columns : (l : List ℕ) (held : Held) (behind r : ℕ) → (held ≡ Notes → ⊥) → r ≡ columns_fault_of l held behind → r ≡ data_fault_of l held behind
 unfolding columns_fault_of
 of_columns l held behind r t e = e ∙ ap (λ (h : Held). data_fault_of l h behind) (other_held held t)

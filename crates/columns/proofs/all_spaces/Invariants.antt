@@ -1,5 +1,8 @@
 -- `columns::all_spaces` meets its contract. The loop's invariant: the bytes so far and those still to come are spaces. Assumes nothing.
-use Rattle.std.proofs.Common.{◌≡◌, ◌-◌, ◌≤◌, ◌&&◌, length, drop}
+use mathlib.Core.Path.{◌≡◌}
+use mathlib.Core.Bool.{◌&&◌}
+use Prim.Native.Nat.{◌-◌, ◌≤◌}
+use lib.ListN.{length, drop}
 use Rattle.format.specs.Layout.{spaces}
 use Rattle.columns.proofs.all_spaces.Given as goal
 

@@ -1,5 +1,5 @@
 -- `columns::choose` meets its contract. Assumes nothing.
-use Rattle.std.proofs.Common.{rules}
+use borrow.Author.Rules.{rules}
 use Rattle.columns.proofs.Choosing.{narrow, wide, long, short}
 use Rattle.columns.proofs.choose.Goals as goal
 

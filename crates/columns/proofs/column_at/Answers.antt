@@ -1,5 +1,5 @@
 -- `columns::column_at` meets its contract. Assumes nothing.
-use Rattle.std.proofs.Common.{rules}
+use borrow.Author.Rules.{rules}
 use Rattle.columns.proofs.InRecord.{too_wide, starts_outside, ends_outside, part_read}
 use Rattle.columns.proofs.column_at.Goals as goal
 

@@ -1,6 +1,6 @@
 -- `columns::fill` meets its contract. The loop's invariant: what is left to write, and behind it what was written, is the column that is
 -- due. Assumes nothing.
-use Rattle.std.proofs.Common.{rules}
+use borrow.Author.Rules.{rules}
 use Rattle.columns.proofs.Writing.{nothing_stored, stored, length-kept, all_stored}
 use Rattle.columns.proofs.fill.Goals as goal
 

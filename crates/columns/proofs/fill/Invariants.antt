@@ -1,6 +1,9 @@
 -- `columns::fill` meets its contract. The loop's invariant: what is left to write, and behind it what was written, is the column that is
 -- due. Assumes nothing.
-use Rattle.std.proofs.Common.{◌≡◌, ◌≤◌, ◌++◌, length, drop}
+use mathlib.Core.Path.{◌≡◌}
+use mathlib.Core.List.{◌++◌}
+use Prim.Native.Nat.{◌≤◌}
+use lib.ListN.{length, drop}
 use Rattle.columns.specs.WriteSteps.{filled}
 use Rattle.columns.proofs.fill.Given as goal
 

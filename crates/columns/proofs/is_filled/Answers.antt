@@ -1,5 +1,5 @@
 -- `columns::is_filled` meets its contract. The loop's invariant: the bytes so far and those still to come are the ones that are due. Assumes nothing.
-use Rattle.std.proofs.Common.{rules}
+use borrow.Author.Rules.{rules}
 use Rattle.columns.proofs.Compared.{none_compared, one_compared, all_compared}
 use Rattle.columns.proofs.is_filled.Goals as goal
 

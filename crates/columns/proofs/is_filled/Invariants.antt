@@ -1,5 +1,8 @@
 -- `columns::is_filled` meets its contract. The loop's invariant: the bytes so far and those still to come are the ones that are due. Assumes nothing.
-use Rattle.std.proofs.Common.{◌≡◌, ◌≤◌, ◌&&◌, length, take}
+use mathlib.Core.Path.{◌≡◌}
+use mathlib.Core.Bool.{◌&&◌}
+use Prim.Native.Nat.{◌≤◌}
+use lib.ListN.{length, take}
 use Rattle.format.specs.Text.{same}
 use Rattle.columns.specs.WriteSteps.{filled}
 use Rattle.columns.proofs.is_filled.Given as goal

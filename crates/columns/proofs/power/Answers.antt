@@ -1,5 +1,7 @@
 -- `columns::power` meets its contract. Assumes nothing.
-use Rattle.std.proofs.Common.{◌-◌, refl, rules}
+use mathlib.Core.Path.{refl}
+use Prim.Native.Nat.{◌-◌}
+use borrow.Author.Rules.{rules}
 use Rattle.columns.proofs.Writing.{power_fits, next_power, last_power}
 use Rattle.columns.proofs.power.Goals as goal
 

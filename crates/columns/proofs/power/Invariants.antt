@@ -1,5 +1,6 @@
 -- `columns::power` meets its contract. Assumes nothing.
-use Rattle.std.proofs.Common.{◌≡◌, ◌-◌, ◌^◌, ◌≤◌}
+use mathlib.Core.Path.{◌≡◌}
+use Prim.Native.Nat.{◌-◌, ◌^◌, ◌≤◌}
 use Rattle.columns.proofs.power.Given as goal
 
 abbrev pub invariant-loop-i : goal.invariant-loop-i

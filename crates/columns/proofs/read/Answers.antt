@@ -1,5 +1,5 @@
 -- `columns::read` meets its contract. Assumes nothing.
-use Rattle.std.proofs.Common.{rules}
+use borrow.Author.Rules.{rules}
 use Rattle.format.specs.Answers.{number_answer}
 use Rattle.columns.proofs.Alone.{no_byte, too_wide, is_read}
 use Rattle.columns.proofs.read.Goals as goal

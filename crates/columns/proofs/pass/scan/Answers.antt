@@ -1,17 +1,19 @@
--- `columns::pass::scan` meets its contract. The loop's invariant: the pass over the bytes still to come ends where the pass over all of them ends. Assumes
--- nothing.
-use Rattle.std.proofs.Common.{refl, rules}
-use Rattle.columns.proofs.Reading.{one_space, spaces-alone, scanned}
+-- `columns::pass::scan` meets its contract. Assumes nothing.
+use Rattle.columns.proofs.Reading.{spaces-alone, first-kept, scanned}
+use borrow.Author.Rules.{rules}
 use Rattle.columns.proofs.pass.scan.Goals as goal
 
-pub loop-rest-init : goal.loop-rest-init
-loop-rest-init c = (search rules, refl)
+pub returns-then-column-begin : goal.returns-then-column-begin
+returns-then-column-begin c = search spaces-alone
 
-pub returns-then-rest-ne32 : goal.returns-then-rest-ne32
-returns-then-rest-ne32 c = search scanned
+pub read_on-requires : goal.read_on-requires
+read_on-requires c = search (rules, first-kept)
 
-pub loop-rest-preserved : goal.loop-rest-preserved
-loop-rest-preserved c = search (rules, one_space)
+pub returns-in-Digits : goal.returns-in-Digits
+returns-in-Digits c = search scanned
+
+pub read_on-requires-2 : goal.read_on-requires-2
+read_on-requires-2 c = search (rules, first-kept)
 
 pub returns : goal.returns
-returns c = search spaces-alone
+returns c = search scanned
