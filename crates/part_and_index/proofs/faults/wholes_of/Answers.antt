@@ -1,0 +1,6 @@
+-- `wholes_of` reads the eight wholes in their order. Assumes nothing.
+use Rattle.part_and_index.proofs.Corners.{wholes_read, stored_is}
+use Rattle.part_and_index.proofs.faults.wholes_of.Goals as goal
+
+pub returns : goal.returns
+returns c = search (wholes_read, stored_is)
