@@ -1,0 +1,9 @@
+-- `judge_sheet_lines` answers 1 and 18, then judges at the stride of lines. Assumes nothing.
+use Rattle.line_ends.proofs.Answers.{sheet-refused, sheet-judged}
+use Rattle.line_ends.proofs.judge_sheet_lines.Goals as goal
+
+pub returns-then-fault-ne0 : goal.returns-then-fault-ne0
+returns-then-fault-ne0 c = search sheet-refused
+
+pub returns : goal.returns
+returns c = search sheet-judged
