@@ -1,0 +1,25 @@
+-- `fill` writes one byte over a part. The loop keeps that the part is filled up to its index; each turn leaves one byte fewer. Assumes nothing.
+use mathlib.Core.Path.{◌≡◌, refl, ◌∙◌}
+use mathlib.Core.List.{append_assoc}
+use Prim.Native.Nat.{◌-◌}
+use native.Mathlib.Omega.{arith}
+use borrow.Author.Rules.{rules}
+use lib.ListN.{take, length-set}
+use Rattle.edit.proofs.Bytes.{fill_start, fill_step}
+use Rattle.edit.proofs.moves.fill.Goals as goal
+
+pub loop-i-init : goal.loop-i-init
+loop-i-init c = (search rules, search rules, refl, fill_start c.args.buffer.now c.args.from c.args.byte)
+
+pub loop-i-preserved : goal.loop-i-preserved
+loop-i-preserved c =
+    let i = c.loop-i in
+    (search rules, search rules, simp length-set i.invariant.2, fill_step c.args.buffer.now i.buffer c.args.from i.i c.args.byte (omega arith) (omega arith) i.invariant.3)
+
+pub shape_of-buffer : goal.shape_of-buffer
+shape_of-buffer c = c.loop-i.invariant.2
+
+pub returns : goal.returns
+returns c =
+    let e : c.loop-i.i ≡ c.args.to = omega arith in
+    (rw e at c.loop-i.invariant.3) ∙ append_assoc (take c.args.from c.args.buffer.now) _ _
