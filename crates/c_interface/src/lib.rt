@@ -174,7 +174,7 @@ pub extern "C" fn zv_read_column(column: &[u8]) -> ZvNumber
 // A column written alone: the answer's length is the column's.
 #[unsafe(no_mangle)]
 pub extern "C" fn zv_write_column(column: &mut [u8], value: i64) -> ZvLength
-    ensures* { λ r. ⌜ record { result = r; bytes = column.new } ≡ wrote_of (write_alone column.old value) ⌝ }
+    ensures { record { result = result; bytes = column.new } ≡ wrote_of (write_alone column.old value) }
 {
     length(columns::write(column, value))
 }
@@ -248,14 +248,14 @@ pub extern "C" fn zv_judge_index_lines(buffer: &[u8], used: usize) -> ZvCounts
 // A file written to a target with line ends, and one with line ends without them: the answer's length is the written file's.
 #[unsafe(no_mangle)]
 pub extern "C" fn zv_to_lines(buffer: &[u8], used: usize, target: &mut [u8]) -> ZvLength
-    ensures* { λ r. ⌜ record { result = r; bytes = target.new } ≡ wrote_of (to_lines used buffer.now target.old) ⌝ }
+    ensures { record { result = result; bytes = target.new } ≡ wrote_of (to_lines used buffer.now target.old) }
 {
     length(line_ends::to_lines(buffer, used, target))
 }
 
 #[unsafe(no_mangle)]
 pub extern "C" fn zv_from_lines(buffer: &[u8], used: usize, target: &mut [u8]) -> ZvLength
-    ensures* { λ r. ⌜ record { result = r; bytes = target.new } ≡ wrote_of (from_lines used buffer.now target.old) ⌝ }
+    ensures { record { result = result; bytes = target.new } ≡ wrote_of (from_lines used buffer.now target.old) }
 {
     length(line_ends::from_lines(buffer, used, target))
 }
@@ -296,14 +296,14 @@ pub extern "C" fn zv_way_up(buffer: &[u8], used: usize, number: usize) -> ZvWay
 // The normal form of a sheet, and of an index, written to a second buffer: the answer's length is the file's.
 #[unsafe(no_mangle)]
 pub extern "C" fn zv_normal_sheet(buffer: &[u8], used: usize, second: &mut [u8]) -> ZvLength
-    ensures* { λ r. ⌜ record { result = r; bytes = second.new } ≡ wrote_of (normal_sheet used buffer.now second.old) ⌝ }
+    ensures { record { result = result; bytes = second.new } ≡ wrote_of (normal_sheet used buffer.now second.old) }
 {
     length(normal::normal_sheet(buffer, used, second))
 }
 
 #[unsafe(no_mangle)]
 pub extern "C" fn zv_normal_index(buffer: &[u8], used: usize, second: &mut [u8]) -> ZvLength
-    ensures* { λ r. ⌜ record { result = r; bytes = second.new } ≡ wrote_of (normal_index used buffer.now second.old) ⌝ }
+    ensures { record { result = result; bytes = second.new } ≡ wrote_of (normal_index used buffer.now second.old) }
 {
     length(normal::normal_index(buffer, used, second))
 }
@@ -352,7 +352,7 @@ pub extern "C" fn zv_judge_directory(buffer: &[u8], used: usize) -> ZvCounts
 
 #[unsafe(no_mangle)]
 pub extern "C" fn zv_append_directory(buffer: &mut [u8], used: usize) -> ZvLength
-    ensures* { λ r. ⌜ record { result = r; bytes = buffer.new } ≡ wrote_of (append_directory One used buffer.old) ⌝ }
+    ensures { record { result = result; bytes = buffer.new } ≡ wrote_of (append_directory One used buffer.old) }
 {
     edited(directories::append_directory(buffer, used))
 }
@@ -392,7 +392,7 @@ pub extern "C" fn zv_judge_either_edition(buffer: &[u8], used: usize) -> ZvCount
 
 #[unsafe(no_mangle)]
 pub extern "C" fn zv_append_second_edition(buffer: &mut [u8], used: usize) -> ZvLength
-    ensures* { λ r. ⌜ record { result = r; bytes = buffer.new } ≡ wrote_of (append_directory Two used buffer.old) ⌝ }
+    ensures { record { result = result; bytes = buffer.new } ≡ wrote_of (append_directory Two used buffer.old) }
 {
     edited(directories::append_second_edition(buffer, used))
 }
@@ -429,7 +429,7 @@ pub extern "C" fn zv_jump_either_edition(buffer: &[u8], used: usize, layer: usiz
 // The line that the program prints on an input, put at the start of a buffer: the answer's length is the line's, its end included. 65 bytes always hold it.
 #[unsafe(no_mangle)]
 pub extern "C" fn zv_report(input: &[u8], out: &mut [u8]) -> ZvLength
-    ensures* { λ r. ⌜ record { result = r; bytes = out.new } ≡ wrote_of (report_to input.now out.old) ⌝ }
+    ensures { record { result = result; bytes = out.new } ≡ wrote_of (report_to input.now out.old) }
 {
     length(report::report(input, out))
 }
@@ -437,7 +437,7 @@ pub extern "C" fn zv_report(input: &[u8], out: &mut [u8]) -> ZvLength
 // The words of a refusal, put at the start of a buffer: the answer's length is theirs.
 #[unsafe(no_mangle)]
 pub extern "C" fn zv_refusal_text(number: u64, out: &mut [u8]) -> ZvLength
-    ensures* { λ r. ⌜ record { result = r; bytes = out.new } ≡ wrote_of (refusal_to number out.old) ⌝ }
+    ensures { record { result = result; bytes = out.new } ≡ wrote_of (refusal_to number out.old) }
 {
     length(words::refusal_text(number, out))
 }
@@ -477,7 +477,7 @@ pub extern "C" fn zv_layout_column(layout: usize, column: usize) -> ZvColumn
 
 #[unsafe(no_mangle)]
 pub extern "C" fn zv_column_name(layout: usize, column: usize, out: &mut [u8]) -> ZvLength
-    ensures* { λ r. ⌜ record { result = r; bytes = out.new } ≡ wrote_of (name_to (layout_column layout column) out.old) ⌝ }
+    ensures { record { result = result; bytes = out.new } ≡ wrote_of (name_to (layout_column layout column) out.old) }
 {
     length(words::column_name(layout, column, out))
 }
