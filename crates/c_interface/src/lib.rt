@@ -328,16 +328,16 @@ fn edited(answer: Edited) -> ZvLength
 // A block inserted into a sheet before a record, or at its end; and the item at a record removed. The answer's length is the new used length.
 #[unsafe(no_mangle)]
 pub extern "C" fn zv_insert(buffer: &mut [u8], used: usize, place: usize, block: &[u8]) -> ZvLength
-    ensures* { λ r. ⌜ record { result = r; bytes = buffer.new }
-        ≡ edited_of (call (insert place block.now) (record { bytes = buffer.old; used = used })) ⌝ }
+    ensures { record { result = result; bytes = buffer.new }
+        ≡ edited_of (call (insert place block.now) (record { bytes = buffer.old; used = used })) }
 {
     edited(edit::insert(buffer, used, place, block))
 }
 
 #[unsafe(no_mangle)]
 pub extern "C" fn zv_remove(buffer: &mut [u8], used: usize, place: usize) -> ZvLength
-    ensures* { λ r. ⌜ record { result = r; bytes = buffer.new }
-        ≡ edited_of (call (remove place) (record { bytes = buffer.old; used = used })) ⌝ }
+    ensures { record { result = result; bytes = buffer.new }
+        ≡ edited_of (call (remove place) (record { bytes = buffer.old; used = used })) }
 {
     edited(edit::remove(buffer, used, place))
 }
