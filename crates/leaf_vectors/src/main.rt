@@ -1,10 +1,13 @@
 // Answers stored commands on number columns and corners, a line for each: the batch protocol's read, write, join and split, and
 // `formed START COUNT BYTES`, whether so many seven-byte columns from a start are well formed.
 // What it writes is held to the answers of an implementation that shares nothing with the library.
-ghost use Rattle.std.specs.Prelude.{◌≤◌, ◌<◌, length};
+#![tactic(auto)]
+
+ghost use Rattle.std.specs.Prelude.{◌≡◌, ◌≤◌, ◌<◌, length, IfOk};
 
 use format::{Number, Parts, Written};
-use libc::STDOUT_FILENO;
+use std::io;
+use std::io::Read;
 
 // The end of the word that starts at `at`: the next space or line end, or the end of s.
 fn word_end(s: &[u8], at: usize) -> usize
@@ -111,55 +114,53 @@ fn unhex(word: &[u8], out: &mut [u8]) -> usize
     n
 }
 
-fn print_number(n: i64) {
+fn print_number(rt: &impl Print, n: i64) -> io::Result<()> {
     if n < 0 {
-        io::write_all(STDOUT_FILENO, b" -");
+        print!(rt; " -")?;
     } else {
-        io::write_all(STDOUT_FILENO, b" ");
+        print!(rt; " ")?;
     }
-    io::print_decimal(STDOUT_FILENO, columns::size(n));
+    print!(rt; "{}", columns::size(n))
 }
 
-fn print_refusal(number: u8, at: usize) {
-    io::write_all(STDOUT_FILENO, b"no ");
-    io::print_decimal(STDOUT_FILENO, number as u64);
-    io::write_all(STDOUT_FILENO, b" ");
-    io::print_decimal(STDOUT_FILENO, at as u64);
+fn print_refusal(rt: &impl Print, number: u8, at: usize) -> io::Result<()> {
+    print!(rt; "no {number} {at}")
 }
 
-fn print_number_answer(answer: Number) {
+fn print_number_answer(rt: &impl Print, answer: Number) -> io::Result<()> {
     match answer {
         Number::Is(n) => {
-            io::write_all(STDOUT_FILENO, b"ok");
-            print_number(n);
+            print!(rt; "ok")?;
+            print_number(rt, n)
         }
-        Number::Refused(number, at) => print_refusal(number, at),
+        Number::Refused(number, at) => print_refusal(rt, number, at),
     }
 }
 
 // read BYTES: the bytes are spelled out in `space` first.
-fn answer_read(word: &[u8], space: &mut [u8]) {
+fn answer_read(rt: &impl Print, word: &[u8], space: &mut [u8]) -> io::Result<()> {
     let width = unhex(word, space);
-    print_number_answer(columns::read(&space[..width]));
+    print_number_answer(rt, columns::read(&space[..width]))
 }
 
-fn print_bytes(bytes: &[u8]) {
+fn print_bytes(rt: &impl Print, bytes: &[u8]) -> io::Result<()> {
     let mut i = 0;
     while i < bytes.len() {
-        io::print_hex(STDOUT_FILENO, wide(bytes[i]), 2);
+        print!(rt; "{:02x}", bytes[i])?;
         i += 1;
     }
+    Ok(())
 }
 
 // write WIDTH VALUE: the column is lent by the caller, and has the width.
-fn answer_write(column: &mut [u8], value: i64) {
+fn answer_write(rt: &impl Print, column: &mut [u8], value: i64) -> io::Result<()> {
     let answer = columns::write(column, value);
     match answer {
         Written::Bytes(_) => {
-            io::write_all(STDOUT_FILENO, b"ok ");
-            print_bytes(column);
+            print!(rt; "ok ")?;
+            print_bytes(rt, column)
         }
-        Written::Refused(number, at) => print_refusal(number, at),
+        Written::Refused(number, at) => print_refusal(rt, number, at),
     }
 }
 
@@ -170,51 +171,68 @@ fn least(n: u64, most: usize) -> usize
 }
 
 // split UNIT MILLIMETRES
-fn answer_split(unit: u64, millimetres: i64) {
+fn answer_split(rt: &impl Print, unit: u64, millimetres: i64) -> io::Result<()> {
     let answer = corners::split(unit, millimetres);
     match answer {
         Parts::Corner(whole, fraction) => {
-            io::write_all(STDOUT_FILENO, b"ok");
-            print_number(whole);
-            print_number(fraction);
+            print!(rt; "ok")?;
+            print_number(rt, whole)?;
+            print_number(rt, fraction)
         }
-        Parts::Refused(number, at) => print_refusal(number, at),
+        Parts::Refused(number, at) => print_refusal(rt, number, at),
     }
 }
 
 // formed START COUNT BYTES: the bytes are spelled out in `space` first.
-fn answer_formed(start: usize, count: usize, word: &[u8], space: &mut [u8]) {
+fn answer_formed(
+    rt: &impl Print,
+    start: usize,
+    count: usize,
+    word: &[u8],
+    space: &mut [u8],
+) -> io::Result<()> {
     let length = unhex(word, space);
     if form_columns::columns_well_formed(&space[..length], start, count) {
-        io::write_all(STDOUT_FILENO, b"yes");
+        print!(rt; "yes")
     } else {
-        io::write_all(STDOUT_FILENO, b"no");
+        print!(rt; "no")
     }
 }
 
 // One command: its words behind the first, told apart by its first letter. A word that is missing is empty.
-fn answer(command: u8, first: &[u8], second: &[u8], third: &[u8], space: &mut [u8]) {
+fn answer(
+    rt: &impl Print,
+    command: u8,
+    first: &[u8],
+    second: &[u8],
+    third: &[u8],
+    space: &mut [u8],
+) -> io::Result<()> {
     match command {
-        b'r' => answer_read(first, space),
+        b'r' => answer_read(rt, first, space),
         b'w' => {
             let width = least(size_of(first), space.len());
-            answer_write(&mut space[..width], signed(second));
+            answer_write(rt, &mut space[..width], signed(second))
         }
         b'f' => answer_formed(
+            rt,
             size_of(first) as usize,
             size_of(second) as usize,
             third,
             space,
         ),
-        b'j' => print_number_answer(corners::join(size_of(first), signed(second), signed(third))),
-        _ => answer_split(size_of(first), signed(second)),
+        b'j' => print_number_answer(
+            rt,
+            corners::join(size_of(first), signed(second), signed(third)),
+        ),
+        _ => answer_split(rt, size_of(first), signed(second)),
     }
 }
 
 // The line that starts at `at`; answers where the next one starts.
-fn answer_line(s: &[u8], at: usize, space: &mut [u8]) -> usize
+fn answer_line(rt: &impl Print, s: &[u8], at: usize, space: &mut [u8]) -> io::Result<usize>
     requires { at < length s.now }
-    ensures { (at < result) × (result ≤ length s.now) }
+    ensures { IfOk result (λ next. (at < next) × (next ≤ length s.now)) }
 {
     let a = next_word(s, word_end(s, at));
     let b = word_end(s, a);
@@ -222,21 +240,38 @@ fn answer_line(s: &[u8], at: usize, space: &mut [u8]) -> usize
     let d = word_end(s, c);
     let e = next_word(s, d);
     let f = word_end(s, e);
-    answer(s[at], &s[a..b], &s[c..d], &s[e..f], space);
-    io::write_all(STDOUT_FILENO, b"\n");
-    next_line(s, at)
+    answer(rt, s[at], &s[a..b], &s[c..d], &s[e..f], space)?;
+    print!(rt; "\n")?;
+    Ok(next_line(s, at))
 }
 
-fn answer_lines(s: &[u8], space: &mut [u8]) {
+fn answer_lines(rt: &impl Print, s: &[u8], space: &mut [u8]) -> io::Result<()> {
     let mut at = 0;
     while at < s.len() {
-        at = answer_line(s, at, space);
+        at = answer_line(rt, s, at, space)?;
     }
+    Ok(())
 }
 
-fn main() {
-    let mut buffer = io::large_buffer();
-    let n = io::read_full(libc::STDIN_FILENO, &mut buffer);
-    let mut space = io::buffer();
-    answer_lines(&buffer[..n], &mut space);
+// Reads until the buffer is full or the input ends, and answers how many bytes were read. An error leaves a part of them at its start.
+fn read_full(from: &mut impl Read, buffer: &mut [u8]) -> io::Result<usize>
+    ensures ok { IfOk result (λ n. n ≤ length buffer.new) }
+    ensures kept { length buffer.new ≡ length buffer.old }
+{
+    let mut done = 0;
+    while done < buffer.len() {
+        let n = from.read(&mut buffer[done..])?;
+        if n == 0 {
+            break;
+        }
+        done += n;
+    }
+    Ok(done)
+}
+
+fn main(rt: HostRuntime) -> io::Result<()> {
+    let mut buffer = [0u8; 65536];
+    let n = read_full(&mut rt.stdin(), &mut buffer)?;
+    let mut space = [0u8; 4096];
+    answer_lines(&rt, &buffer[..n], &mut space)
 }
