@@ -10,7 +10,6 @@ use Rattle.io.specs.Counts.{IsPrefixLen}
 use Rattle.format.specs.Answers.{written_answer}
 use Rattle.format.specs.Program.{printed, unread, line_to, report_to, read_to}
 use Rattle.format.specs.declared.Written.{Written}
-use Rattle.format.specs.declared.Written.TheVariants as Written
 use Rattle.report.proofs.Laws.{line-inside}
 use Rattle.dm.specs.Printing.{printed_length}
 

@@ -1,7 +1,6 @@
 -- What the program's own steps answer. Assumes nothing.
 use Rattle.std.specs.Prelude.{ℕ}
 use Rattle.format.specs.declared.Written.{Written}
-use Rattle.format.specs.declared.Written.TheVariants as Written
 
 -- the length of the line that was put into a buffer, 0 for none
 unfoldable pub printed_length : Written → ℕ

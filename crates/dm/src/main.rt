@@ -1,10 +1,12 @@
 // The program: judges what stands on standard input and prints one line.
+#![tactic(auto)]
+
 ghost use Rattle.std.specs.Prelude.{◌≡◌, ◌+◌, ◌≤◌, length};
 ghost use Rattle.io.specs.Counts.{IsPrefixLen};
 ghost use Rattle.dm.specs.Printing.{printed_length};
 
 use format::Written;
-use libc::{STDIN_FILENO, STDOUT_FILENO};
+use std::io::Read;
 
 // What reading came to: so many bytes, and whether it ended by a read that failed. Then they may be a part of the input.
 #[derive(Clone, Copy)]
@@ -14,25 +16,29 @@ struct Input {
 }
 
 // One read into a buffer, from `used` on; no bytes at the input's end.
-fn read_more(fd: i32, input: &mut [u8], used: usize) -> Input
+fn read_more(from: &mut impl Read, input: &mut [u8], used: usize) -> Input
     requires { used ≤ length input.old }
     ensures { used + result.used ≤ length input.new }
 {
-    let room = &mut input[used..];
-    let got = libc::read(fd, room);
-    Input {
-        used: io::count(got, room),
-        failed: got < 0,
+    match from.read(&mut input[used..]) {
+        Ok(got) => Input {
+            used: got,
+            failed: false,
+        },
+        Err(_) => Input {
+            used: 0,
+            failed: true,
+        },
     }
 }
 
 // Reads until the buffer is full, the input ends or a read fails.
-fn read_input(fd: i32, input: &mut [u8]) -> Input
+fn read_input(from: &mut impl Read, input: &mut [u8]) -> Input
     ensures { IsPrefixLen result.used input.new }
 {
     let mut used = 0;
     while used < input.len() {
-        let more = read_more(fd, input, used);
+        let more = read_more(from, input, used);
         if more.used == 0 {
             return Input {
                 used,
@@ -58,18 +64,18 @@ fn printed_length(written: Written) -> usize
 }
 
 // Reads the input, puts the line for it at the start of a buffer, and answers the line's length.
-fn put_line(input: &mut [u8], out: &mut [u8]) -> usize
+fn put_line(from: &mut impl Read, input: &mut [u8], out: &mut [u8]) -> usize
     ensures { IsPrefixLen result out.new }
 {
-    let read = read_input(STDIN_FILENO, input);
+    let read = read_input(from, input);
     printed_length(report::report_read(input, read.used, read.failed, out))
 }
 
-fn main() {
+fn main(rt: HostRuntime) -> std::io::Result<()> {
     // Longer than the longest input that is judged, so that a longer input shows.
     let mut input = io::large_buffer();
     // A line has at most 65 bytes, so it always has room here.
     let mut line = io::buffer();
-    let length = put_line(&mut input, &mut line);
-    io::write_all(STDOUT_FILENO, &line[..length]);
+    let length = put_line(&mut rt.stdin(), &mut input, &mut line);
+    rt.write_all(&line[..length])
 }
