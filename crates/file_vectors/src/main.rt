@@ -3,10 +3,13 @@
 //
 // A case is a line of 24 bytes, `sheet ` or `index `, the used length in ten digits, a space, the buffer's length in six digits and a line
 // end; then the buffer's bytes.
-ghost use Rattle.std.specs.Prelude.{◌≡◌, ◌≤◌, ◌<◌, length};
+#![tactic(auto)]
+
+ghost use Rattle.std.specs.Prelude.{◌≡◌, ◌≤◌, ◌<◌, length, IfOk};
 
 use format::{Judged, Written};
-use libc::{STDIN_FILENO, STDOUT_FILENO};
+use std::io;
+use std::io::Read;
 
 // The most cases there may be, so that the loop ends.
 const MOST_CASES: usize = 10000;
@@ -45,11 +48,8 @@ fn digest(bytes: &[u8]) -> u64 {
     h
 }
 
-fn print_pair(word: &[u8], a: usize, b: usize) {
-    io::write_all(STDOUT_FILENO, word);
-    io::print_decimal(STDOUT_FILENO, a as u64);
-    io::write_all(STDOUT_FILENO, b" ");
-    io::print_decimal(STDOUT_FILENO, b as u64);
+fn print_pair(rt: &impl Print, word: &str, a: usize, b: usize) -> io::Result<()> {
+    print!(rt; "{word}{a} {b}")
 }
 
 fn fill(bytes: &mut [u8])
@@ -79,66 +79,114 @@ fn normal_file(sheet: bool, buffer: &[u8], used: usize, second: &mut [u8]) -> Wr
 }
 
 // The digest of the normal form, in a second buffer as long as the first, and the line's end.
-fn print_normal(sheet: bool, buffer: &[u8], used: usize, second: &mut [u8]) {
+fn print_normal(
+    rt: &impl Print,
+    sheet: bool,
+    buffer: &[u8],
+    used: usize,
+    second: &mut [u8],
+) -> io::Result<()> {
     fill(second);
     normal_file(sheet, buffer, used, second);
-    io::write_all(STDOUT_FILENO, b" ");
-    io::print_decimal(STDOUT_FILENO, digest(second));
-    io::write_all(STDOUT_FILENO, b"\n");
+    print!(rt; " {}\n", digest(second))
 }
 
 // One case: the judgement, and behind it the digest of an accepted file's normal form.
-fn answer(sheet: bool, buffer: &[u8], used: usize, second: &mut [u8]) {
+fn answer(
+    rt: &impl Print,
+    sheet: bool,
+    buffer: &[u8],
+    used: usize,
+    second: &mut [u8],
+) -> io::Result<()> {
     match judge_file(sheet, buffer, used) {
         Judged::Accepted(records, items) => {
-            print_pair(b"ok ", records, items);
-            print_normal(sheet, buffer, used, second);
+            print_pair(rt, "ok ", records, items)?;
+            print_normal(rt, sheet, buffer, used, second)
         }
         Judged::Refused(refusal, at) => {
-            print_pair(b"no ", refusal as usize, at);
-            io::write_all(STDOUT_FILENO, b"\n");
+            print_pair(rt, "no ", refusal as usize, at)?;
+            print!(rt; "\n")
         }
     }
 }
 
+// Reads until the buffer is full or the input ends, and answers how many bytes were read. An error leaves a part of them at its start.
+fn read_full(from: &mut impl Read, buffer: &mut [u8]) -> io::Result<usize>
+    ensures ok { IfOk result (λ n. n ≤ length buffer.new) }
+    ensures kept { length buffer.new ≡ length buffer.old }
+{
+    let mut done = 0;
+    while done < buffer.len() {
+        let n = from.read(&mut buffer[done..])?;
+        if n == 0 {
+            break;
+        }
+        done += n;
+    }
+    Ok(done)
+}
+
 // Reads a case's bytes into a buffer of their length, and answers it.
-fn read_case(sheet: bool, used: usize, buffer: &mut [u8], second: &mut [u8]) {
-    io::read_full(STDIN_FILENO, buffer);
-    answer(sheet, buffer, used, second);
+fn read_case(
+    rt: &impl Print,
+    from: &mut impl Read,
+    sheet: bool,
+    used: usize,
+    buffer: &mut [u8],
+    second: &mut [u8],
+) -> io::Result<()> {
+    read_full(from, buffer)?;
+    answer(rt, sheet, buffer, used, second)
 }
 
 // The case that a line heads.
-fn start_case(head: &[u8], buffer: &mut [u8], second: &mut [u8])
+fn start_case(
+    rt: &impl Print,
+    from: &mut impl Read,
+    head: &[u8],
+    buffer: &mut [u8],
+    second: &mut [u8],
+) -> io::Result<()>
     requires { 24 ≤ length head.now }
 {
     let used = number(&head[6..16]);
     let size = least(number(&head[17..23]), least(buffer.len(), second.len()));
     read_case(
+        rt,
+        from,
         head[0] == b's',
         used,
         &mut buffer[..size],
         &mut second[..size],
-    );
+    )
 }
 
 // Reads cases until the input ends.
-fn read_cases(head: &mut [u8], buffer: &mut [u8], second: &mut [u8])
+fn read_cases(
+    rt: &impl Print,
+    from: &mut impl Read,
+    head: &mut [u8],
+    buffer: &mut [u8],
+    second: &mut [u8],
+) -> io::Result<()>
     requires { 24 ≤ length head.old }
 {
     let mut n = 0;
     while n < MOST_CASES {
-        let got = io::read_full(STDIN_FILENO, head);
+        let got = read_full(from, head)?;
         if got < 24 {
-            return;
+            return Ok(());
         }
-        start_case(head, buffer, second);
+        start_case(rt, from, head, buffer, second)?;
         n += 1;
     }
+    Ok(())
 }
 
-fn main() {
+fn main(rt: HostRuntime) -> io::Result<()> {
     let mut head = [0u8; 24];
-    let mut buffer = io::large_buffer();
-    let mut second = io::large_buffer();
-    read_cases(&mut head, &mut buffer, &mut second);
+    let mut buffer = [0u8; 65536];
+    let mut second = [0u8; 65536];
+    read_cases(&rt, &mut rt.stdin(), &mut head, &mut buffer, &mut second)
 }
