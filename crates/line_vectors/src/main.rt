@@ -3,10 +3,13 @@
 //
 // A case is a line of 31 bytes: `sheet ` or `index ` to judge, `to    ` or `from  ` to write; the used length in ten digits, a space, the
 // buffer's length in six digits, a space, the target's in six and a line end; then the buffer's bytes. The target is filled with points.
-ghost use Rattle.std.specs.Prelude.{◌≡◌, ◌≤◌, ◌<◌, length};
+#![tactic(auto)]
+
+ghost use Rattle.std.specs.Prelude.{◌≡◌, ◌≤◌, ◌<◌, length, IfOk};
 
 use format::{Judged, Written};
-use libc::{STDIN_FILENO, STDOUT_FILENO};
+use std::io;
+use std::io::Read;
 
 // The most cases there may be, so that the loop ends.
 const MOST_CASES: usize = 10000;
@@ -55,42 +58,39 @@ fn fill(bytes: &mut [u8])
     }
 }
 
-fn print_number(n: usize) {
-    io::write_all(STDOUT_FILENO, b" ");
-    io::print_decimal(STDOUT_FILENO, n as u64);
+fn print_number(rt: &impl Print, n: usize) -> io::Result<()> {
+    print!(rt; " {n}")
 }
 
-fn print_refusal(refusal: u8, at: usize) {
-    io::write_all(STDOUT_FILENO, b"no");
-    print_number(refusal as usize);
-    print_number(at);
+fn print_refusal(rt: &impl Print, refusal: u8, at: usize) -> io::Result<()> {
+    print!(rt; "no")?;
+    print_number(rt, refusal as usize)?;
+    print_number(rt, at)
 }
 
 // A judgement: records and items, or the refusal.
-fn print_judged(answer: Judged) {
+fn print_judged(rt: &impl Print, answer: Judged) -> io::Result<()> {
     match answer {
         Judged::Accepted(records, items) => {
-            io::write_all(STDOUT_FILENO, b"ok");
-            print_number(records);
-            print_number(items);
+            print!(rt; "ok")?;
+            print_number(rt, records)?;
+            print_number(rt, items)?;
         }
-        Judged::Refused(refusal, at) => print_refusal(refusal, at),
+        Judged::Refused(refusal, at) => print_refusal(rt, refusal, at)?,
     }
-    io::write_all(STDOUT_FILENO, b"\n");
+    print!(rt; "\n")
 }
 
 // What a writer answers: the result's length, or the refusal; and the digest of the whole target.
-fn print_written(answer: Written, target: &[u8]) {
+fn print_written(rt: &impl Print, answer: Written, target: &[u8]) -> io::Result<()> {
     match answer {
         Written::Bytes(n) => {
-            io::write_all(STDOUT_FILENO, b"ok");
-            print_number(n);
+            print!(rt; "ok")?;
+            print_number(rt, n)?;
         }
-        Written::Refused(refusal, at) => print_refusal(refusal, at),
+        Written::Refused(refusal, at) => print_refusal(rt, refusal, at)?,
     }
-    io::write_all(STDOUT_FILENO, b" ");
-    io::print_decimal(STDOUT_FILENO, digest(target));
-    io::write_all(STDOUT_FILENO, b"\n");
+    print!(rt; " {}\n", digest(target))
 }
 
 fn judge_file(sheet: bool, buffer: &[u8], used: usize) -> Judged {
@@ -110,54 +110,101 @@ fn write_file(to: bool, buffer: &[u8], used: usize, target: &mut [u8]) -> Writte
 }
 
 // One call, told apart by its word's first letter.
-fn answer(word: u8, buffer: &[u8], used: usize, target: &mut [u8]) {
+fn answer(
+    rt: &impl Print,
+    word: u8,
+    buffer: &[u8],
+    used: usize,
+    target: &mut [u8],
+) -> io::Result<()> {
     if word == b's' {
-        print_judged(judge_file(true, buffer, used));
-        return;
+        return print_judged(rt, judge_file(true, buffer, used));
     }
     if word == b'i' {
-        print_judged(judge_file(false, buffer, used));
-        return;
+        return print_judged(rt, judge_file(false, buffer, used));
     }
     fill(target);
     let written = write_file(word == b't', buffer, used, target);
-    print_written(written, target);
+    print_written(rt, written, target)
+}
+
+// Reads until the buffer is full or the input ends, and answers how many bytes were read. An error leaves a part of them at its start.
+fn read_full(from: &mut impl Read, buffer: &mut [u8]) -> io::Result<usize>
+    ensures ok { IfOk result (λ n. n ≤ length buffer.new) }
+    ensures kept { length buffer.new ≡ length buffer.old }
+{
+    let mut done = 0;
+    while done < buffer.len() {
+        let n = from.read(&mut buffer[done..])?;
+        if n == 0 {
+            break;
+        }
+        done += n;
+    }
+    Ok(done)
 }
 
 // Reads a case's bytes into a buffer of their length, and answers it.
-fn read_case(word: u8, used: usize, buffer: &mut [u8], target: &mut [u8]) {
-    io::read_full(STDIN_FILENO, buffer);
-    answer(word, buffer, used, target);
+fn read_case(
+    rt: &impl Print,
+    from: &mut impl Read,
+    word: u8,
+    used: usize,
+    buffer: &mut [u8],
+    target: &mut [u8],
+) -> io::Result<()> {
+    read_full(from, buffer)?;
+    answer(rt, word, buffer, used, target)
 }
 
 // The case that a line heads.
-fn start_case(head: &[u8], buffer: &mut [u8], target: &mut [u8])
+fn start_case(
+    rt: &impl Print,
+    from: &mut impl Read,
+    head: &[u8],
+    buffer: &mut [u8],
+    target: &mut [u8],
+) -> io::Result<()>
     requires { 31 ≤ length head.now }
 {
     let used = number(&head[6..16]);
     let size = least(number(&head[17..23]), buffer.len());
     let room = least(number(&head[24..30]), target.len());
-    read_case(head[0], used, &mut buffer[..size], &mut target[..room]);
+    read_case(
+        rt,
+        from,
+        head[0],
+        used,
+        &mut buffer[..size],
+        &mut target[..room],
+    )
 }
 
 // Reads cases until the input ends.
-fn read_cases(head: &mut [u8], buffer: &mut [u8], target: &mut [u8])
+fn read_cases(
+    rt: &impl Print,
+    from: &mut impl Read,
+    head: &mut [u8],
+    buffer: &mut [u8],
+    target: &mut [u8],
+) -> io::Result<()>
     requires { 31 ≤ length head.old }
 {
     let mut n = 0;
     while n < MOST_CASES {
-        let got = io::read_full(STDIN_FILENO, head);
+        let got = read_full(from, head)?;
         if got < 31 {
-            return;
+            return Ok(());
         }
-        start_case(head, buffer, target);
+        start_case(rt, from, head, buffer, target)?;
         n += 1;
     }
+    Ok(())
 }
 
-fn main() {
+fn main(rt: HostRuntime) -> io::Result<()> {
     let mut head = [0u8; 31];
-    let mut buffer = io::large_buffer();
-    let mut target = io::large_buffer();
-    read_cases(&mut head, &mut buffer, &mut target);
+    let mut buffer = [0u8; 65536];
+    let mut target = [0u8; 65536];
+    read_cases(&rt, &mut rt.stdin(), &mut head, &mut buffer, &mut target)
 }
