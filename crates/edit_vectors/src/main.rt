@@ -4,10 +4,13 @@
 // A line has 24 bytes: a word in seven, a number in ten digits, a space, a length in five digits and a line end; so many bytes follow it.
 // `start` gives the used length, and the buffer follows; `insert` the place, and the block follows; `remove` the place; `up` a record
 // number; `end` ends the list.
-ghost use Rattle.std.specs.Prelude.{◌≤◌, ◌<◌, length};
+#![tactic(auto)]
+
+ghost use Rattle.std.specs.Prelude.{◌≡◌, ◌≤◌, ◌<◌, length, IfOk};
 
 use format::{Edited, WayUp};
-use libc::{STDIN_FILENO, STDOUT_FILENO};
+use std::io;
+use std::io::Read;
 
 // The most lists there may be, and calls in a list, so that the loops end.
 const MOST: usize = 10000;
@@ -46,51 +49,46 @@ fn digest(bytes: &[u8]) -> u64 {
     h
 }
 
-fn print_number(n: usize) {
-    io::write_all(STDOUT_FILENO, b" ");
-    io::print_decimal(STDOUT_FILENO, n as u64);
+fn print_number(rt: &impl Print, n: usize) -> io::Result<()> {
+    print!(rt; " {n}")
 }
 
 // The digest of the whole buffer, tail and all, and the line's end.
-fn print_digest(buffer: &[u8]) {
-    io::write_all(STDOUT_FILENO, b" ");
-    io::print_decimal(STDOUT_FILENO, digest(buffer));
-    io::write_all(STDOUT_FILENO, b"\n");
+fn print_digest(rt: &impl Print, buffer: &[u8]) -> io::Result<()> {
+    print!(rt; " {}\n", digest(buffer))
 }
 
-fn print_refusal(refusal: u8, at: usize) {
-    io::write_all(STDOUT_FILENO, b"no");
-    print_number(refusal as usize);
-    print_number(at);
+fn print_refusal(rt: &impl Print, refusal: u8, at: usize) -> io::Result<()> {
+    print!(rt; "no")?;
+    print_number(rt, refusal as usize)?;
+    print_number(rt, at)
 }
 
 // The way up: the header above, 0 for a layer header, and the headers passed.
-fn print_way_up(answer: WayUp) {
+fn print_way_up(rt: &impl Print, answer: WayUp) -> io::Result<()> {
     match answer {
         WayUp::Header(header, passed) => {
-            io::write_all(STDOUT_FILENO, b"ok");
-            print_number(header);
-            print_number(passed as usize);
+            print!(rt; "ok")?;
+            print_number(rt, header)?;
+            print_number(rt, passed as usize)?;
         }
-        WayUp::LayerHeader => {
-            io::write_all(STDOUT_FILENO, b"ok 0 0");
-        }
-        WayUp::Refused(refusal, at) => print_refusal(refusal, at),
+        WayUp::LayerHeader => print!(rt; "ok 0 0")?,
+        WayUp::Refused(refusal, at) => print_refusal(rt, refusal, at)?,
     }
-    io::write_all(STDOUT_FILENO, b"\n");
+    print!(rt; "\n")
 }
 
 // An edit's answer; answers the used length for the next call, which a refusal leaves.
-fn print_edited(answer: Edited, used: usize) -> usize {
+fn print_edited(rt: &impl Print, answer: Edited, used: usize) -> io::Result<usize> {
     match answer {
         Edited::Used(after) => {
-            io::write_all(STDOUT_FILENO, b"ok");
-            print_number(after);
-            after
+            print!(rt; "ok")?;
+            print_number(rt, after)?;
+            Ok(after)
         }
         Edited::Refused(refusal, at) => {
-            print_refusal(refusal, at);
-            used
+            print_refusal(rt, refusal, at)?;
+            Ok(used)
         }
     }
 }
@@ -110,83 +108,141 @@ fn edit_sheet(
 }
 
 // One call at a place or from a record, told apart by its word's first letter; answers the used length for the next call.
-fn answer(word: u8, place: usize, buffer: &mut [u8], used: usize, block: &[u8]) -> usize {
+fn answer(
+    rt: &impl Print,
+    word: u8,
+    place: usize,
+    buffer: &mut [u8],
+    used: usize,
+    block: &[u8],
+) -> io::Result<usize> {
     if word == b'u' {
-        print_way_up(way_up::way_up(buffer, used, place));
-        return used;
+        print_way_up(rt, way_up::way_up(buffer, used, place))?;
+        return Ok(used);
     }
     let edited = edit_sheet(word == b'i', buffer, used, place, block);
-    let after = print_edited(edited, used);
-    print_digest(buffer);
-    after
+    let after = print_edited(rt, edited, used)?;
+    print_digest(rt, buffer)?;
+    Ok(after)
+}
+
+// Reads until the buffer is full or the input ends, and answers how many bytes were read. An error leaves a part of them at its start.
+fn read_full(from: &mut impl Read, buffer: &mut [u8]) -> io::Result<usize>
+    ensures ok { IfOk result (λ n. n ≤ length buffer.new) }
+    ensures kept { length buffer.new ≡ length buffer.old }
+{
+    let mut done = 0;
+    while done < buffer.len() {
+        let n = from.read(&mut buffer[done..])?;
+        if n == 0 {
+            break;
+        }
+        done += n;
+    }
+    Ok(done)
 }
 
 // The call that a line heads: reads its block, and answers it.
-fn read_call(head: &[u8], buffer: &mut [u8], used: usize, block: &mut [u8]) -> usize
+fn read_call(
+    rt: &impl Print,
+    from: &mut impl Read,
+    head: &[u8],
+    buffer: &mut [u8],
+    used: usize,
+    block: &mut [u8],
+) -> io::Result<usize>
     requires { 24 ≤ length head.now }
 {
     let place = number(&head[7..17]);
     let length = least(number(&head[18..23]), block.len());
-    io::read_full(STDIN_FILENO, &mut block[..length]);
-    answer(head[0], place, buffer, used, &block[..length])
+    read_full(from, &mut block[..length])?;
+    answer(rt, head[0], place, buffer, used, &block[..length])
 }
 
 // Reads and answers calls until the list ends.
-fn read_calls(head: &mut [u8], buffer: &mut [u8], start: usize, block: &mut [u8])
+fn read_calls(
+    rt: &impl Print,
+    from: &mut impl Read,
+    head: &mut [u8],
+    buffer: &mut [u8],
+    start: usize,
+    block: &mut [u8],
+) -> io::Result<()>
     requires { 24 ≤ length head.old }
 {
     let mut used = start;
     let mut n = 0;
     while n < MOST {
-        let got = io::read_full(STDIN_FILENO, head);
+        let got = read_full(from, head)?;
         if got < 24 {
-            return;
+            return Ok(());
         }
         if head[0] == b'e' {
-            return;
+            return Ok(());
         }
-        used = read_call(head, buffer, used, block);
+        used = read_call(rt, from, head, buffer, used, block)?;
         n += 1;
     }
+    Ok(())
 }
 
 // One list, in a buffer of its length, and the digest that it leaves.
-fn read_list(head: &mut [u8], buffer: &mut [u8], used: usize, block: &mut [u8])
+fn read_list(
+    rt: &impl Print,
+    from: &mut impl Read,
+    head: &mut [u8],
+    buffer: &mut [u8],
+    used: usize,
+    block: &mut [u8],
+) -> io::Result<()>
     requires { 24 ≤ length head.old }
 {
-    io::read_full(STDIN_FILENO, buffer);
-    read_calls(head, buffer, used, block);
-    io::write_all(STDOUT_FILENO, b"end");
-    print_digest(buffer);
+    read_full(from, buffer)?;
+    read_calls(rt, from, head, buffer, used, block)?;
+    print!(rt; "end")?;
+    print_digest(rt, buffer)
 }
 
 // The list that a line starts.
-fn start_list(head: &mut [u8], buffer: &mut [u8], block: &mut [u8])
+fn start_list(
+    rt: &impl Print,
+    from: &mut impl Read,
+    head: &mut [u8],
+    buffer: &mut [u8],
+    block: &mut [u8],
+) -> io::Result<()>
     requires { 24 ≤ length head.old }
 {
     let used = number(&head[7..17]);
     let size = least(number(&head[18..23]), buffer.len());
-    read_list(head, &mut buffer[..size], used, block);
+    read_list(rt, from, head, &mut buffer[..size], used, block)
 }
 
 // Reads lists until the input ends.
-fn read_lists(head: &mut [u8], buffer: &mut [u8], block: &mut [u8])
+fn read_lists(
+    rt: &impl Print,
+    from: &mut impl Read,
+    head: &mut [u8],
+    buffer: &mut [u8],
+    block: &mut [u8],
+) -> io::Result<()>
     requires { 24 ≤ length head.old }
 {
     let mut n = 0;
     while n < MOST {
-        let got = io::read_full(STDIN_FILENO, head);
+        let got = read_full(from, head)?;
         if got < 24 {
-            return;
+            return Ok(());
         }
-        start_list(head, buffer, block);
+        start_list(rt, from, head, buffer, block)?;
         n += 1;
     }
+    Ok(())
 }
 
-fn main() {
+fn main(rt: HostRuntime) -> io::Result<()> {
     let mut head = [0u8; 24];
-    let mut buffer = io::large_buffer();
-    let mut block = io::large_buffer();
-    read_lists(&mut head, &mut buffer, &mut block);
+    let mut buffer = [0u8; 65536];
+    let mut block = [0u8; 65536];
+    read_lists(&rt, &mut rt.stdin(), &mut head, &mut buffer, &mut block)
 }
