@@ -23,17 +23,18 @@ VERSION := $(MAJOR).$(call part,MINOR).$(call part,PATCH)
 SONAME := libzvaigulta.so.$(MAJOR)
 SHARED := libzvaigulta.so.$(VERSION)
 
-# What is made, and where. ARCHIVE and DM are rt's, TOOL is cargo's. With SOURCES empty they are made only where they are missing.
+# What is made, and where. ARCHIVE and DM are rt's, TOOL is cargo's. With SOURCES empty they are made only where they are missing. What rt makes, in the
+# folders out, is no source.
 BUILD ?= target/make
-ARCHIVE ?= target/staticlib/libc_interface.a
-DM ?= target/bin/dm
+ARCHIVE ?= crates/c_interface/out/libc_interface.a
+DM ?= crates/dm/out/dm
 TOOL ?= rust/target/release/dmtool
-SOURCES ?= crates.txt $(shell find crates -name '*.rt' -o -name '*.antt')
+SOURCES ?= crates.txt $(shell find crates -name out -prune -o -name '*.rt' -print -o -name '*.antt' -print)
 TOOL_SOURCES ?= $(shell find rust/zvaigulta rust/dmtool -name '*.rs' -o -name 'Cargo.toml')
 LIBRARY := $(BUILD)/libzvaigulta.a $(BUILD)/$(SHARED) $(BUILD)/zvaigulta.pc
 
 .PHONY: all library test install install-library install-programs uninstall
-# One rt at a time: each works in target/.
+# One rt at a time: each builds the crates below.
 .NOTPARALLEL:
 .DELETE_ON_ERROR:
 
@@ -42,11 +43,12 @@ all: library $(TOOL) $(DM)
 library: $(LIBRARY)
 
 $(ARCHIVE): $(SOURCES)
-	rt staticlib c_interface
+	cd crates/c_interface && rt lib
 	touch $@
 
+# rt runs what it built, here on the example.
 $(DM): $(SOURCES)
-	rt check dm
+	cd crates/dm && rt run <stdin
 	touch $@
 
 $(TOOL): $(ARCHIVE) $(TOOL_SOURCES)

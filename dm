@@ -29,11 +29,12 @@ fi
 
 self=$(readlink -f "$0") || fail "its own folder cannot be found"
 root=$(dirname "$self")
-program=$root/target/bin/dm
+program=$root/crates/dm/out/dm
 # building starts here
 stale() {
     [ ! -x "$program" ] && return 0
-    [ -n "$(find "$root/crates" "$root/crates.txt" -newer "$program" \( -name '*.rt' -o -name '*.antt' -o -name crates.txt \) -print -quit)" ]
+    # What rt makes, in the folders out, is no source.
+    [ -n "$(find "$root/crates" "$root/crates.txt" -name out -prune -o -newer "$program" \( -name '*.rt' -o -name '*.antt' -o -name crates.txt \) -print -quit)" ]
 }
 if stale; then
     mkdir -p "$root/target" || fail "$root/target cannot be made"
@@ -43,7 +44,8 @@ if stale; then
 fi
 if stale; then
     echo "dm: proving and building the program, some minutes on first use" >&2
-    (cd "$root" && rt check dm) >"$root/target/dm-build.log" 2>&1 9>&- || fail "it could not be built; see $root/target/dm-build.log"
+    # rt runs what it built, here on the example.
+    (cd "$root/crates/dm" && rt run <stdin) >"$root/target/dm-build.log" 2>&1 9>&- || fail "it could not be built; see $root/target/dm-build.log"
     # A source that is newer but changes nothing leaves the program as it was: it is up to date from now on.
     touch "$program" || fail "$program cannot be written"
 fi

@@ -1,4 +1,4 @@
-//! The built program, as `target/bin/dm` and by the script `./dm`, prints the line that the reference has for its input.
+//! The built program, as `crates/dm/out/dm` and by the script `./dm`, prints the line that the reference has for its input.
 
 mod support;
 
@@ -34,7 +34,7 @@ fn prints(name: &str, input: &[u8], line: &str) {
     let program = built();
     let file = Path::new(env!("CARGO_TARGET_TMPDIR")).join(format!("program_{name}"));
     fs::write(&file, input).expect("a file");
-    assert_eq!(printed(&run(&mut Command::new(&program), vec![input.to_vec()])), expected, "{name}: target/bin/dm");
+    assert_eq!(printed(&run(&mut Command::new(&program), vec![input.to_vec()])), expected, "{name}: crates/dm/out/dm");
     let mut script = Command::new(support::script());
     assert_eq!(printed(&run(&mut script, vec![input.to_vec()])), by_script, "{name}: ./dm");
     assert_eq!(printed(&run(script.arg(&file), Vec::new())), by_script, "{name}: ./dm FILE");

@@ -59,7 +59,7 @@ fn a_file_that_may_not_be_read() {
     use std::os::unix::fs::MetadataExt;
     use std::os::unix::process::CommandExt;
     let folder = Folder::new("secret");
-    fs::copy(built(), folder.0.join("target/bin/dm")).expect("the program");
+    fs::copy(built(), folder.0.join("crates/dm/out/dm")).expect("the program");
     let secret = folder.0.join("secret.dm");
     fs::write(&secret, example()).expect("a file");
     fs::set_permissions(&secret, fs::Permissions::from_mode(0o000)).expect("its permissions");
@@ -119,8 +119,8 @@ impl Tree {
         fs::create_dir_all(folder.0.join("bin")).expect("a folder");
         fs::write(folder.0.join("crates/dm/src/main.rt"), "first").expect("a source");
         let path = format!("{}:{}", folder.0.join("bin").display(), std::env::var("PATH").expect("a PATH"));
-        let program = "printf '#!/bin/sh\\necho too long\\n' >target/bin/dm; chmod +x target/bin/dm";
-        executable(&folder.0.join("bin/rt"), &format!("#!/bin/sh\necho \"$@\" >>calls\nsleep 0.2\n{program}\n"));
+        let program = "printf '#!/bin/sh\\necho too long\\n' >out/dm; chmod +x out/dm";
+        executable(&folder.0.join("bin/rt"), &format!("#!/bin/sh\necho \"$@\" >>../../calls\nsleep 0.2\n{program}\n"));
         Tree { folder, path }
     }
 
@@ -139,16 +139,20 @@ impl Tree {
 fn built_anew_when_a_source_is_newer() {
     let tree = Tree::new("tree");
     for (round, expected) in [1, 1, 2, 2].into_iter().enumerate() {
+        if round == 1 {
+            // What is built beside the program is no source.
+            fs::write(tree.folder.0.join("crates/dm/out/kept.antt"), "newer").expect("a file");
+        }
         if round == 2 {
             // The program becomes older than the sources.
-            let program = File::options().write(true).open(tree.folder.0.join("target/bin/dm")).expect("the program");
+            let program = File::options().write(true).open(tree.folder.0.join("crates/dm/out/dm")).expect("the program");
             program.set_modified(SystemTime::now() - Duration::from_secs(1_000)).expect("its time");
         }
         let seen = tree.run();
         assert_eq!((seen.0, seen.1.as_str(), tree.calls()), (Some(1), "too long\n", expected), "round {round}: {}", seen.2);
     }
     executable(&tree.folder.0.join("bin/rt"), "#!/bin/sh\nexit 1\n");
-    fs::remove_file(tree.folder.0.join("target/bin/dm")).expect("the program");
+    fs::remove_file(tree.folder.0.join("crates/dm/out/dm")).expect("the program");
     no_answer(tree.run(), "it could not be built");
 }
 

@@ -26,7 +26,7 @@
 //! # Ok::<(), zvaigulta::Refusal>(())
 //! ```
 //!
-//! The archive of the library is linked from `target/staticlib`; `rt staticlib c_interface` at the repository's root makes it.
+//! The archive of the library is linked from `crates/c_interface/out`; `rt lib` in `crates/c_interface` makes it.
 
 #![deny(missing_docs)]
 #![deny(unsafe_code)]

@@ -181,7 +181,7 @@ fn installed_files_are_all_there_and_all_go() {
     assert_eq!((String::from_utf8_lossy(&judged.stderr), judged.status.code()), ("".into(), Some(0)));
     // It stands alone: the sources are not there to build it from.
     let script = std::fs::read_to_string(format!("{prefix}/bin/dm")).expect("the script");
-    assert!(!script.contains("rt check") && !script.contains("$root/crates"), "{script}");
+    assert!(!script.contains("rt run") && !script.contains("$root/crates"), "{script}");
     installed.make(&["uninstall"]);
     assert_eq!(files(Path::new(&prefix)), BTreeSet::new());
 }

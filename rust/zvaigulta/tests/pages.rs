@@ -83,7 +83,7 @@ fn the_programs_for_c_and_rust() {
     fs::write(&source, program("c")).expect("a file");
     let strict = ["-std=c99", "-Wall", "-Wextra", "-Werror", "-pedantic", "-Iinclude"];
     let mut gcc = Command::new("gcc");
-    gcc.current_dir(root()).args(strict).arg(&source).arg("target/staticlib/libc_interface.a").arg("-o").arg(&built);
+    gcc.current_dir(root()).args(strict).arg(&source).arg("crates/c_interface/out/libc_interface.a").arg("-o").arg(&built);
     assert!(gcc.status().expect("this test needs gcc: install gcc").success());
     let sheet = fs::File::open(root().join("crates/dm/stdin")).expect("a sheet");
     let done = Command::new(&built).stdin(sheet).output().expect("it runs");

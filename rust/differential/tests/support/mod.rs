@@ -12,19 +12,31 @@ pub fn root() -> PathBuf {
 
 /// The built program. The script would build it where it is missing, which takes minutes: that is no part of a test.
 pub fn built() -> PathBuf {
-    let program = root().join("target/bin/dm");
-    assert!(program.exists(), "target/bin/dm is missing: run `rt check dm` at the repository's root first");
+    let program = root().join("crates/dm/out/dm");
+    assert!(program.exists(), "crates/dm/out/dm is missing: run `rt run <stdin` in crates/dm first");
     program
 }
 
-/// A copy of the script `dm` with the built program, in a tree without sources, so that a source that is newer does not make it build anew.
+/// A copy of the script `dm` with the built program, in a tree without sources, so that a source that is newer does not make it build anew. It lies
+/// outside the repository, below which a second `crates.txt` has no place, and goes when the tests have ended.
 pub fn script() -> &'static Path {
-    static ONCE: OnceLock<PathBuf> = OnceLock::new();
-    ONCE.get_or_init(|| {
-        let tree = Path::new(env!("CARGO_TARGET_TMPDIR")).join(concat!("tree_of_", env!("CARGO_CRATE_NAME")));
+    static TREE: OnceLock<PathBuf> = OnceLock::new();
+    extern "C" fn remove() {
+        if let Some(tree) = TREE.get().and_then(|script| script.parent()) {
+            let _ = fs::remove_dir_all(tree);
+        }
+    }
+    extern "C" {
+        fn atexit(call: extern "C" fn()) -> i32;
+    }
+    TREE.get_or_init(|| {
+        let name = format!("dm_tree_of_{}_{}", env!("CARGO_CRATE_NAME"), std::process::id());
+        let tree = std::env::temp_dir().join(name);
         let _ = fs::remove_dir_all(&tree);
         laid_out(&tree);
-        fs::copy(built(), tree.join("target/bin/dm")).expect("the program");
+        fs::copy(built(), tree.join("crates/dm/out/dm")).expect("the program");
+        // SAFETY: the call is the C library's own, and what it is given ends without a panic.
+        unsafe { atexit(remove) };
         tree.join("dm")
     })
 }
@@ -32,7 +44,8 @@ pub fn script() -> &'static Path {
 /// A tree with the script, folders for sources and for the program, and neither.
 pub fn laid_out(tree: &Path) {
     fs::create_dir_all(tree.join("crates/dm/src")).expect("a folder");
-    fs::create_dir_all(tree.join("target/bin")).expect("a folder");
+    fs::create_dir_all(tree.join("crates/dm/out")).expect("a folder");
+    fs::write(tree.join("crates/dm/stdin"), "").expect("an example");
     fs::copy(root().join("dm"), tree.join("dm")).expect("the script");
     fs::write(tree.join("crates.txt"), "dm:").expect("a source");
 }

@@ -8,8 +8,8 @@ use std::process::{Command, Output};
 /// Compiler words under which the header, the example and the tests' own C compile without a warning.
 pub const STRICT: [&str; 6] = ["-std=c99", "-Wall", "-Wextra", "-Werror", "-pedantic", "-Iinclude"];
 
-/// The archive that `rt staticlib c_interface` makes, from the repository's root.
-pub const ARCHIVE: &str = "target/staticlib/libc_interface.a";
+/// The archive that `rt lib` makes in `crates/c_interface`, from the repository's root.
+pub const ARCHIVE: &str = "crates/c_interface/out/libc_interface.a";
 
 pub fn root() -> PathBuf {
     Path::new(env!("CARGO_MANIFEST_DIR")).join("../..").canonicalize().expect("the repository's root")
