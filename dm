@@ -1,6 +1,6 @@
 #!/bin/sh
 # Judges a file, or standard input, by the proved program, and prints its one line: ./dm [FILE]. The program is proved and built on first use, and
-# again when a source is newer. A program of Rattle has no exit status; this script gives one, by the line that it printed.
+# again when a source is newer. The program ends well whatever its line says; this script gives an exit status by the line that it printed.
 usage="usage: dm [FILE]
 
 Judges a mapping file, or standard input, by the proved program, and prints one line:
