@@ -28,7 +28,6 @@ use Rattle.c_interface.specs.declared.ZvLayerEntry.{ZvLayerEntry}
 use Rattle.c_interface.specs.declared.ZvColumn.{ZvColumn}
 use Rattle.format.specs.Layout.{Col}
 use Rattle.format_words.specs.declared.Described.{Described}
-use Rattle.format_words.specs.declared.Described.TheVariants as Described
 use Rattle.format_words.specs.Words.{refusal_to, layout_column, described_of, name_to}
 use Rattle.c_interface.specs.Interface.{number_of, corner_of, counts_of, length_of, way_of, layer_of, layer_entry_of, column_of, Numbered, answers, refuses, WayNumbered, has_none, has_header, refuses_way}
 use lib.ListN.{length}

@@ -12,26 +12,18 @@ use mir.ValLaws.{to_z-of_z}
 use Rattle.format.specs.Judge.{Counts}
 use Rattle.format.specs.Answers.{number_answer, written_answer, parts_answer, judged_answer, way_up_answer, edited_answer}
 use Rattle.format.specs.declared.Number.{Number}
-use Rattle.format.specs.declared.Number.TheVariants as Number
 use Rattle.format.specs.declared.Written.{Written}
-use Rattle.format.specs.declared.Written.TheVariants as Written
 use Rattle.format.specs.declared.Parts.{Parts}
-use Rattle.format.specs.declared.Parts.TheVariants as Parts
 use Rattle.format.specs.declared.Judged.{Judged}
-use Rattle.format.specs.declared.Judged.TheVariants as Judged
 use Rattle.format.specs.Above.{Way}
 use Rattle.format.specs.Run.{Step}
 use Rattle.format.specs.declared.Edited.{Edited}
-use Rattle.format.specs.declared.Edited.TheVariants as Edited
 use Rattle.format.specs.Answers.{step_for}
 use Rattle.format.specs.declared.WayUp.{WayUp}
-use Rattle.format.specs.declared.WayUp.TheVariants as WayUp
 use Rattle.format_directory.specs.Directory.{LayerEntry}
 use Rattle.format_directory.specs.Answers.{jumped_answer, jumped_either_answer}
 use Rattle.format_directory.specs.declared.Jumped.{Jumped}
-use Rattle.format_directory.specs.declared.Jumped.TheVariants as Jumped
 use Rattle.format_directory.specs.declared.JumpedEither.{JumpedEither}
-use Rattle.format_directory.specs.declared.JumpedEither.TheVariants as JumpedEither
 use Rattle.c_interface.specs.declared.ZvWay.{ZvWay}
 use Rattle.c_interface.specs.declared.ZvNumber.{ZvNumber}
 use Rattle.c_interface.specs.declared.ZvCorner.{ZvCorner}
@@ -41,7 +33,6 @@ use Rattle.c_interface.specs.declared.ZvLayer.{ZvLayer}
 use Rattle.c_interface.specs.declared.ZvLayerEntry.{ZvLayerEntry}
 use Rattle.c_interface.specs.declared.ZvColumn.{ZvColumn}
 use Rattle.format_words.specs.declared.Described.{Described}
-use Rattle.format_words.specs.declared.Described.TheVariants as Described
 use Rattle.c_interface.specs.Interface.{number_of, corner_of, counts_of, length_of, way_of, layer_of, layer_entry_of, column_of, Wrote, wrote_of, edited_of}
 
 pub is_number_lem : {a : Number} {v z : ℤ} → a ≡ Number.Is v → z ≡ v → ◌≡◌ {A = ZvNumber} (record { refusal = 0; at = 0; value = z }) (number_of (number_answer a))

@@ -7,7 +7,6 @@ use Rattle.format.specs.Above.{Way, no_header, to_header}
 use Rattle.format.specs.Run.{Step}
 use Rattle.format_directory.specs.Directory.{LayerEntry}
 use Rattle.format_words.specs.declared.Described.{Described}
-use Rattle.format_words.specs.declared.Described.TheVariants as Described
 use Rattle.c_interface.specs.declared.ZvWay.{ZvWay}
 use Rattle.c_interface.specs.declared.ZvNumber.{ZvNumber}
 use Rattle.c_interface.specs.declared.ZvCorner.{ZvCorner}

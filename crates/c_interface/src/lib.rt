@@ -2,6 +2,8 @@
 //
 // In each answer `refusal` is 0, or the number of the refusal, `at` the record that the refusal names, 0 where it names none; the other
 // fields hold the values of an accepted call, and 0 for a refused one.
+#![tactic(auto)]
+
 ghost use Rattle.std.specs.Prelude.{◌≡◌};
 ghost use Rattle.format.specs.Column.{read_alone, write_alone};
 ghost use Rattle.format.specs.Corner.{join, split};

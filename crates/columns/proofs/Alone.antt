@@ -9,7 +9,6 @@ use mir.Syntax.{w64}
 use mir.Val.{SFits, to_z, of_z}
 use Rattle.format.specs.declared.Column.{Column}
 use Rattle.format.specs.declared.Number.{Number}
-use Rattle.format.specs.declared.Number.TheVariants as Number
 use Rattle.format.specs.declared.Written.TheVariants as Written
 use Rattle.format.specs.Column.{column_of, column_answer, read_alone, write_alone}
 use Rattle.format.specs.Answers.{number_answer, written_answer}

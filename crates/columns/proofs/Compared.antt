@@ -13,7 +13,6 @@ use lib.Seq.{length-take-le, take-length, take-suc}
 use mir.Syntax.{w64}
 use mir.Val.{SFits, to_z, of_z}
 use Rattle.format.specs.Text.{same}
-use Rattle.format.specs.Column.{written}
 use Rattle.format.specs.Layout.{column}
 use Rattle.columns.specs.declared.Rest.{Rest}
 use Rattle.columns.specs.declared.Choice.{Choice}

@@ -2,7 +2,6 @@
 -- and that a number of eighteen digits stays inside 64 bits. Assumes nothing.
 use mathlib.Core.Path.{◌≡◌, refl, ap, ap₂, sym, ◌∙◌}
 use mathlib.Core.Bool.{Bool, true, false, ◌&&◌}
-use mathlib.Core.List.{[], ◌∷◌}
 use Prim.Native.Nat.{ℕ, ◌+◌, ◌-◌, ◌*◌, ◌/◌, ◌^◌, ◌<◌, ◌≤◌}
 use native.Mathlib.Omega.{arith}
 use borrow.Author.Tests.{ne_eqb, lt-ltb, le-ltb, leb-true}
@@ -16,12 +15,10 @@ use Rattle.format.specs.Column.{is_digit}
 use Rattle.format.proofs.Basics.{and-true}
 use Rattle.columns.specs.declared.pass.Mark.{Mark}
 use Rattle.columns.specs.declared.pass.Mark.TheVariants.{Spaces, Digits, MinusDigits, Other}
-use Rattle.columns.specs.declared.pass.Mark.TheVariants as Mark
 use Rattle.columns.specs.declared.pass.Kept.{Kept}
 use Rattle.columns.specs.Pass.{digit_mark, other_mark, step_of, says, says_of}
 use Rattle.columns.specs.declared.Rest.{Rest}
 use Rattle.columns.specs.declared.Rest.TheVariants.{Minus}
-use Rattle.columns.specs.declared.Rest.TheVariants as Rest
 use Rattle.columns.specs.WriteSteps.{byte_of, before_of}
 use Rattle.columns.proofs.Numbers.{minus-fits, minus-back}
 

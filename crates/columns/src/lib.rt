@@ -1,5 +1,7 @@
 // One integer column: leading spaces, at most one minus, then one digit or more to the last byte. It is read in one pass, and
 // written in written form (shortest digits, spaces in front), alone or inside a record.
+#![tactic(auto)]
+
 ghost use Rattle.std.specs.Prelude.{◌≡◌, ◌≤◌, ◌^◌, length, nat_abs};
 ghost use Rattle.format.specs.Column.{integer, read_alone, write_alone};
 ghost use Rattle.format.specs.Text.{same};

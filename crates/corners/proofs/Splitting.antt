@@ -10,9 +10,7 @@ use Rattle.format.specs.Basics.{given}
 use Rattle.format.specs.Corner.{millimetres_each, join, split}
 use Rattle.format.specs.Answers.{number_answer, parts_answer}
 use Rattle.format.specs.declared.Number.{Number}
-use Rattle.format.specs.declared.Number.TheVariants as Number
 use Rattle.format.specs.declared.Parts.{Parts}
-use Rattle.format.specs.declared.Parts.TheVariants as Parts
 use Rattle.format.proofs.Corners.{whole_of, fraction_of, split_only, split-refuses}
 use Rattle.format.proofs.Signed.{stored, back, same_bits}
 use Rattle.corners.proofs.Signed.{quot_fits, rem_fits}

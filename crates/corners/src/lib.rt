@@ -1,4 +1,6 @@
 // Corners of a sheet: whole metres and a fraction joined to millimetres, and a millimetre number split into them.
+#![tactic(auto)]
+
 ghost use Rattle.std.specs.Prelude.{◌≡◌, ◌&&◌, pos};
 ghost use Rattle.std.specs.Int.Signed.{le_z};
 ghost use Rattle.format.specs.Column.{fits};

@@ -1,6 +1,6 @@
 -- The right directory put behind a sheet: record after record, then the closing record; and the answer of an append. Assumes nothing.
-use mathlib.Core.Path.{◌≡◌, refl, ap, ap₂, sym, subst, ◌∙◌}
-use mathlib.Core.Bool.{Bool, true, false, cond}
+use mathlib.Core.Path.{◌≡◌, refl, ap, ap₂, sym, ◌∙◌}
+use mathlib.Core.Bool.{Bool, cond}
 use mathlib.Core.List.{List, [], ◌∷◌, ◌++◌, append_assoc, append-nil, map, map-append}
 use Prim.Native.Nat.{ℕ, zero, suc, ◌+◌, ◌-◌, ◌*◌, ◌/◌, ◌≤◌, ◌<◌}
 use native.Mathlib.Numerals.{add-one}
@@ -8,16 +8,13 @@ use native.Mathlib.Omega.{arith}
 use mir.Syntax.{w64}
 use mir.Val.{Fits}
 use borrow.Author.Tests.{le-leb, lt-leb}
-use lib.Dec.{leb}
 use lib.ListN.{length, length-append, length-drop, length-map, take, drop, take-append-drop}
 use lib.Seq.{drop-drop, take_at, take_all, length-take-le}
-use Rattle.format.specs.Basics.{Answer, given, refused, Outcome, flat, chunks, round_up}
+use Rattle.format.specs.Basics.{Answer, given, refused, flat, chunks, round_up}
 use Rattle.format.specs.declared.Edited.{Edited}
-use Rattle.format.specs.declared.Edited.TheVariants as Edited
 use Rattle.format.specs.Answers.{edited_answer}
-use Rattle.format.specs.Sheet.{part_length}
 use Rattle.format.specs.Record.{view}
-use Rattle.format.specs.Judge.{Counts, file_of, judge_sheet}
+use Rattle.format.specs.Judge.{Counts, judge_sheet}
 use Rattle.format.proofs.JudgeStages.{Whole}
 use Rattle.format.proofs.AcceptedSheet.{whole-records}
 use Rattle.format.proofs.Lists.{flat_append, length-flat, length-chunks}
@@ -25,7 +22,7 @@ use Rattle.files.specs.declared.Stride.TheVariants.{Plain}
 use Rattle.files.specs.Records.{records_of}
 use Rattle.files.specs.Buffers.{put_at}
 use Rattle.files.proofs.Buffers.{put-behind}
-use Rattle.files.proofs.Records.{front-records, length-records}
+use Rattle.files.proofs.Records.{front-records}
 use Rattle.format_directory.specs.declared.Edition.{Edition}
 use Rattle.format_directory.specs.declared.Edition.TheVariants.{One, Two}
 use Rattle.format_directory.specs.Directory.{Layer, layers_from, layers_of, per_record, row, closing, shared, directory_of, append_to, append_directory}

@@ -1,8 +1,8 @@
 -- The first record that differs from the right directory: record by record, from what was found when the sheet was judged. Assumes nothing.
 use mathlib.Core.Path.{◌≡◌, refl, ap, ap₂, sym, subst, ◌∙◌}
 use mathlib.Core.Bool.{Bool, true, false, cond, not, ◌&&◌, and-true, and-false}
-use mathlib.Core.List.{List, [], ◌∷◌, ◌++◌, map}
-use Prim.Native.Nat.{ℕ, zero, suc, ◌+◌, ◌-◌, ◌*◌, ◌/◌, ◌%◌, ◌^◌, ◌≤◌, ◌<◌}
+use mathlib.Core.List.{List, [], ◌∷◌, ◌++◌}
+use Prim.Native.Nat.{ℕ, zero, suc, ◌+◌, ◌-◌, ◌*◌, ◌/◌, ◌%◌, ◌≤◌, ◌<◌}
 use native.Mathlib.Nat.{zero-add, add-zero}
 use native.Mathlib.Numerals.{add-one}
 use native.Mathlib.Omega.{arith}
@@ -10,17 +10,17 @@ use mir.Syntax.{w64}
 use mir.Val.{Fits}
 use borrow.Author.Tests.{eq-eqb, ne_eqb, lt-ltb, le-ltb, ltb-true, ltb-false, not-true, not-false}
 use lib.Dec.{eqb, ltb}
-use lib.ListN.{length, length-append, length-drop, length-map, take, drop, get_or, drop_of_length-le, get_or-eq_default}
-use lib.Seq.{drop-cons, drop_at, take_all, length-take-le, get_or-take, get_or-drop}
+use lib.ListN.{length, length-drop, take, drop, get_or, drop_of_length-le, get_or-eq_default}
+use lib.Seq.{drop-cons, take_all, length-take-le, get_or-take, get_or-drop}
 use Rattle.format.specs.Text.{same}
-use Rattle.format.specs.Basics.{Fault, none, fault, or_else, to_fault, unless, first, round_up}
+use Rattle.format.specs.Basics.{fault, or_else, to_fault, unless, first, round_up}
 use Rattle.format.proofs.Basics.{true_and}
 use Rattle.format.proofs.ChecksParts.{same_decides}
 use Rattle.format.proofs.Lists.{Wide, wide_get}
 use Rattle.format_directory.specs.declared.Edition.{Edition}
 use Rattle.format_directory.specs.declared.Edition.TheVariants.{One, Two}
-use Rattle.format_directory.specs.Directory.{Layer, no_layer, letters, end_letters, end_listed, end_columns, listed, listed_all, per_layer, per_record, record_of, row, closing, shared, directory_of, differs}
-use Rattle.format_directory.proofs.DirectoryRecords.{AllFit, Short, short-all, length-listed, short_end, fit-take, fit-drop, two_letters, two_end_letters, length-listed_all, length-end_listed, length-shared, get_or-shared, get_d_rows, most, in_take, row_fits, end_fits, wide_directory, length_directory, row_at, closing_at}
+use Rattle.format_directory.specs.Directory.{Layer, no_layer, letters, end_letters, end_listed, listed, listed_all, per_layer, per_record, record_of, row, closing, directory_of, differs}
+use Rattle.format_directory.proofs.DirectoryRecords.{AllFit, short-all, length-listed, short_end, fit-take, fit-drop, two_letters, two_end_letters, length-listed_all, length-end_listed, most, in_take, row_fits, end_fits, wide_directory, length_directory, row_at, closing_at}
 use Rattle.directory_columns.specs.Numbers.{number_is, numbers_are, lists_layer}
 use Rattle.judge.specs.Listed.{first_unlisted}
 use Rattle.directories.specs.Steps.{framed, closing_is, right_rows, in_row, behind_rows, difference_at, Against, FirstDifferent}

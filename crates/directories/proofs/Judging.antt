@@ -2,8 +2,8 @@
 -- Assumes nothing.
 use mathlib.Core.Path.{◌≡◌, refl, ap, ap₂, sym, subst, ◌∙◌}
 use mathlib.Core.Bool.{Bool, true, false, cond, not, ◌&&◌, ◌||◌}
-use mathlib.Core.List.{List, [], ◌∷◌, ◌++◌}
-use Prim.Native.Nat.{ℕ, zero, suc, pred, ◌+◌, ◌-◌, ◌*◌, ◌/◌, ◌%◌, ◌^◌, ◌≤◌, ◌<◌}
+use mathlib.Core.List.{List, [], ◌∷◌}
+use Prim.Native.Nat.{ℕ, zero, suc, pred, ◌+◌, ◌-◌, ◌*◌, ◌/◌, ◌%◌, ◌≤◌, ◌<◌}
 use native.Mathlib.Omega.{arith}
 use mir.Syntax.{w64}
 use mir.Val.{Fits}
@@ -15,12 +15,11 @@ use lib.IntN.{pos}
 use Rattle.format.specs.Text.{same}
 use Rattle.format.specs.Column.{fits, width_ok, written}
 use Rattle.format.specs.Layout.{column}
-use Rattle.format.specs.Basics.{Answer, given, refused, Fault, none, fault, or_else, to_fault, unless, chunks}
+use Rattle.format.specs.Basics.{Answer, given, refused, fault, or_else, to_fault, unless, chunks}
 use Rattle.format.specs.declared.Judged.{Judged}
-use Rattle.format.specs.declared.Judged.TheVariants as Judged
 use Rattle.format.specs.Answers.{judged_answer}
-use Rattle.format.specs.Judge.{Counts, accepted, verdict, judge_sheet, after_stage_one}
-use Rattle.format.proofs.Basics.{and-true, true_and}
+use Rattle.format.specs.Judge.{Counts, accepted, judge_sheet, after_stage_one}
+use Rattle.format.proofs.Basics.{and-true}
 use Rattle.format.proofs.ColumnFits.{fits_plus}
 use Rattle.columns.specs.InRecord.{is_written_at}
 use Rattle.directory_columns.specs.Numbers.{number_is}
@@ -32,11 +31,9 @@ use Rattle.files.proofs.Records.{front-records, record_wide}
 use Rattle.format_directory.specs.declared.Edition.{Edition}
 use Rattle.format_directory.specs.declared.Edition.TheVariants.{One, Two}
 use Rattle.format_directory.specs.declared.Jumped.{Jumped}
-use Rattle.format_directory.specs.declared.Jumped.TheVariants as Jumped
 use Rattle.format_directory.specs.declared.JumpedEither.{JumpedEither}
-use Rattle.format_directory.specs.declared.JumpedEither.TheVariants as JumpedEither
 use Rattle.format_directory.specs.Answers.{jumped_answer, jumped_either_answer}
-use Rattle.format_directory.specs.Directory.{Layer, layers_of, end_letters, end_columns, are_written, per_layer, per_record, directory_of, used_ok, last_record, number_in, pointer_in, layer_count, closing_ok, records_before, records_from, differs, after_sheet, judge_from, after_closing, judge_edition, judge_directory, in_count, after_judging, listed_in, directory_in, jump, sheet_in, is_second, edition_of, edition_ok, after_edition, judge_either_edition, LayerEntry, entry_in, jump_either_edition}
+use Rattle.format_directory.specs.Directory.{layers_of, end_letters, end_columns, are_written, per_layer, per_record, directory_of, used_ok, last_record, number_in, pointer_in, layer_count, closing_ok, records_before, records_from, differs, after_sheet, judge_from, after_closing, judge_edition, judge_directory, in_count, after_judging, listed_in, directory_in, jump, sheet_in, is_second, edition_of, edition_ok, after_edition, judge_either_edition, entry_in, jump_either_edition}
 use Rattle.format_directory.proofs.DirectoryRecords.{length_directory}
 use Rattle.format_directory.proofs.DirectoryLayers.{sheet-fit}
 use Rattle.format_directory.proofs.DirectoryWords.{chunk_at}

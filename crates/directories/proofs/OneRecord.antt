@@ -1,6 +1,6 @@
 -- One record of a directory, in the code's own words: letters, numbers, spaces, and the closing record. Assumes nothing.
 use mathlib.Core.Path.{◌≡◌, refl, ap, ap₂, sym, subst, ◌∙◌}
-use mathlib.Core.Bool.{Bool, true, false, not, ◌&&◌, and-true, and-false}
+use mathlib.Core.Bool.{Bool, true, false, not, ◌&&◌, and-true}
 use mathlib.Core.List.{List, [], ◌∷◌}
 use Prim.Native.Nat.{ℕ, ◌+◌, ◌*◌, ◌≤◌, ◌<◌}
 use native.Mathlib.Omega.{arith}
@@ -15,7 +15,7 @@ use mir.ValLaws.{to_z-of_z}
 use Rattle.format.specs.Text.{bytes, same}
 use Rattle.format.specs.declared.Column.{Column}
 use Rattle.format.specs.declared.Column.TheVariants.{Value, MinusZero, Malformed}
-use Rattle.format.specs.Column.{column_of, formed, integer, number_of, written, fits}
+use Rattle.format.specs.Column.{column_of, number_of, fits}
 use Rattle.format.specs.Layout.{column, spaces}
 use Rattle.format.proofs.Columns.{length-column}
 use Rattle.format.proofs.NormalReads.{read_fits}
@@ -24,7 +24,7 @@ use Rattle.columns.specs.InRecord as InRecord
 use Rattle.columns.proofs.Laws.{column-at-inside}
 use Rattle.format_directory.specs.declared.Edition.{Edition}
 use Rattle.format_directory.specs.declared.Edition.TheVariants.{One, Two}
-use Rattle.format_directory.specs.Directory.{letters, end_letters, end_columns, end_listed, per_layer, per_record, number_in, pointer_in, is_written, closing_ok, is_second}
+use Rattle.format_directory.specs.Directory.{letters, end_letters, end_columns, per_layer, per_record, number_in, pointer_in, is_written, closing_ok, is_second}
 use Rattle.directory_columns.specs.Numbers.{number_is, spaces_from}
 use Rattle.directories.specs.Steps.{framed, others_written, closing_is}
 

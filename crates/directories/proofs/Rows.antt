@@ -8,13 +8,12 @@ use native.Mathlib.Omega.{arith}
 use borrow.Author.Tests.{eq-eqb, eqb-true, lt-ltb, le-leb}
 use lib.Dec.{eqb, ltb, leb}
 use lib.IntN.{pos}
-use lib.ListN.{length, length-append, length-drop, take, drop, get_or, replicate, take-append-drop}
+use lib.ListN.{length, length-drop, take, drop, get_or, replicate, take-append-drop}
 use lib.Seq.{drop-drop, drop_at, take_at}
 use Rattle.format.specs.Text.{same}
 use Rattle.format.specs.Column.{written, fits, width_ok}
 use Rattle.format.specs.Layout.{column, spaces}
 use Rattle.format.proofs.Basics.{and-true, true_and}
-use Rattle.format.proofs.ChecksOrder.{Decides}
 use Rattle.format.proofs.ChecksParts.{same_decides}
 use Rattle.format.proofs.ColumnFits.{fits_plus}
 use Rattle.columns.specs.InRecord.{is_written_at}

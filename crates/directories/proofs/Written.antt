@@ -1,33 +1,29 @@
 -- The right directory written record by record, in the code's own words: where the layers are, what a row holds, and what stands in the buffer. Assumes nothing.
 use mathlib.Core.Path.{◌≡◌, refl, ap, ap₂, sym, subst, ◌∙◌}
 use mathlib.Core.Bool.{Bool, true, false, cond, ◌&&◌}
-use mathlib.Core.List.{List, [], ◌∷◌, ◌++◌, append_assoc, append-nil, map, map-append}
-use Prim.Native.Nat.{ℕ, zero, suc, ◌+◌, ◌-◌, ◌*◌, ◌/◌, ◌^◌, ◌≤◌, ◌<◌}
+use mathlib.Core.List.{List, [], ◌∷◌, ◌++◌, append_assoc, append-nil, map}
+use Prim.Native.Nat.{ℕ, zero, suc, ◌+◌, ◌-◌, ◌*◌, ◌^◌, ◌≤◌, ◌<◌}
 use native.Mathlib.Nat.{zero-add, add-zero}
 use native.Mathlib.Numerals.{add-one}
 use native.Mathlib.Omega.{arith}
 use mir.Syntax.{w64}
-use mir.Val.{Fits, SFits, to_z, of_z}
-use borrow.Author.Tests.{eq-eqb, ne_eqb, eqb-true, ltb-true, ltb-false}
+use mir.Val.{Fits, to_z, of_z}
+use borrow.Author.Tests.{eq-eqb, ne_eqb, ltb-true, ltb-false}
 use lib.Dec.{eqb, ltb}
 use lib.IntN.{pos}
-use lib.ListN.{length, length-append, length-drop, length-map, take, drop, get_or, set, replicate, length-replicate, drop_of_length-le, take-append-drop, get_or-append}
-use lib.Seq.{drop-drop, drop-cons, drop_at, take_at, take-suc, take_all, length-take-le, take-append-le, get_or-drop, get_or-append-add}
+use lib.ListN.{length, length-append, length-drop, length-map, take, drop, get_or, replicate, length-replicate, drop_of_length-le, get_or-append}
+use lib.Seq.{drop-drop, drop-cons, drop_at, take_at, take-suc, take_all, length-take-le, get_or-drop, get_or-append-add}
 use Rattle.format.specs.Text.{bytes}
-use Rattle.format.specs.Basics.{flat, round_up}
 use Rattle.format.specs.Column.{written}
 use Rattle.format.specs.Layout.{splice}
-use Rattle.format.specs.Record.{View, view, is_head, count_index}
-use Rattle.format.specs.Judge.{due_of, due_after, headers_and_items, is_header_at, items}
+use Rattle.format.specs.Record.{View, view, is_head}
+use Rattle.format.specs.Judge.{due_after, headers_and_items, is_header_at, items}
 use Rattle.format.proofs.Basics.{and-true}
 use Rattle.format.proofs.Columns.{length-written, length-splice}
-use Rattle.format.proofs.Lists.{Wide, flat_append, length-flat}
 use Rattle.columns.specs.InRecord.{write_at}
 use Rattle.columns.proofs.Laws.{number-written}
 use Rattle.files.specs.declared.Stride.TheVariants.{Plain}
 use Rattle.files.specs.Records.{records_of}
-use Rattle.files.specs.Buffers.{put_at}
-use Rattle.files.proofs.Buffers.{put-behind}
 use Rattle.files.specs.Records.{stride_of}
 use Rattle.files.proofs.Records.{record_wide, record_inside}
 use Rattle.records.specs.declared.outlines.Outline.{Outline}
@@ -43,7 +39,6 @@ use Rattle.format_directory.proofs.DirectoryRecords.{TwoLetters, two_letters, tw
 use Rattle.format_directory.proofs.DirectoryRecords as DirectoryRecords
 use Rattle.format_directory.proofs.DirectoryLayers.{layers-fit}
 use Rattle.format_directory.proofs.DirectoryBodies.{layers-behind}
-use Rattle.directories.specs.declared.writing.Row.{Row}
 use Rattle.directories.specs.declared.writing.Passed.{Passed}
 use Rattle.directories.specs.Steps.{views_in, layers_in, is_layer, item_of, behind_entry, NextLayer, behind_layer, SmallNumbers, FirstLayer, LayerFrom, Kept, numbers_put, layer_put, RowFrom}
 

@@ -1,15 +1,15 @@
 -- The steps of the code: a record's letters and spaces, the first record that differs, the layers from a record on, and records put behind a sheet. Public
 -- functions cite nothing of this. Assumes nothing.
-use Rattle.std.specs.Prelude.{◌≡◌, Bool, true, cond, ◌&&◌, List, [], ◌∷◌, ◌++◌, map, ℕ, zero, suc, ◌+◌, ◌-◌, ◌*◌, ◌/◌, ◌%◌, ◌≤◌, ◌<◌, leb, ltb, eqb, pos, length, take, drop, get_or}
+use Rattle.std.specs.Prelude.{◌≡◌, Bool, cond, ◌&&◌, List, [], ◌∷◌, ◌++◌, map, ℕ, zero, suc, ◌+◌, ◌-◌, ◌*◌, ◌/◌, ◌%◌, ◌≤◌, ◌<◌, ltb, eqb, pos, length, take, drop, get_or}
 use Rattle.format.specs.Text.{same}
-use Rattle.format.specs.Basics.{Answer, given, Fault, none, fault, refused, chunks, flat, round_up}
+use Rattle.format.specs.Basics.{Answer, given, Fault, none, fault, refused, chunks, flat}
 use Rattle.format.specs.Column.{written}
 use Rattle.format.specs.Layout.{column, spaces, splice}
 use Rattle.format.specs.Record.{View, view}
-use Rattle.format.specs.Judge.{Counts, accepted, headers_and_items, items}
+use Rattle.format.specs.Judge.{Counts, headers_and_items, items}
 use Rattle.format_directory.specs.declared.Edition.{Edition}
 use Rattle.format_directory.specs.declared.Edition.TheVariants.{One, Two}
-use Rattle.format_directory.specs.Directory.{Layer, layer_body, layers_from, layers_of, records_before, end_letters, end_columns, end_listed, listed, per_layer, per_record, row, shared, directory_of, closing, last_record, number_in, is_written, pointer_in, layer_count, differs, judge_from, judge_edition, judge_directory, edition_of, judge_either_edition}
+use Rattle.format_directory.specs.Directory.{Layer, layer_body, layers_from, layers_of, records_before, end_letters, end_columns, end_listed, listed, per_layer, per_record, row, shared, directory_of, last_record, number_in, is_written, pointer_in, layer_count, differs, judge_from, judge_directory, edition_of, judge_either_edition}
 use Rattle.format_directory.proofs.DirectoryRecords.{AllFit}
 use Rattle.format_directory.proofs.DirectoryJudged.{RightDirectory}
 use Rattle.files.specs.declared.Stride.TheVariants.{Plain}

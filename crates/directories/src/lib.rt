@@ -1,4 +1,6 @@
 // A directory of layers behind a sheet, of the first or the second edition: judging a sheet with it, appending it, and jumping by it to the header of a layer.
+#![tactic(auto)]
+
 ghost use Rattle.std.specs.Prelude.{◌≡◌, true, ◌&&◌, ◌+◌, ◌*◌, ◌/◌, ◌≤◌, leb, length};
 ghost use Rattle.format.specs.Answers.{judged_answer, edited_answer};
 ghost use Rattle.format_directory.specs.declared.Edition.TheVariants.{One, Two};

@@ -13,7 +13,7 @@ use mir.Syntax.{w64}
 use mir.Val.{Fits}
 use Rattle.format.specs.Basics.{round_up}
 use Rattle.format.specs.Text.{same}
-use Rattle.format.specs.Column.{fits, written}
+use Rattle.format.specs.Column.{written}
 use Rattle.format.specs.Layout.{column}
 use Rattle.format.proofs.Columns.{length-column}
 use Rattle.format.proofs.ColumnFits.{fits_plus}

@@ -1,5 +1,7 @@
 // The numbers in the records of a directory, by edition: how many records list so many layers, whether the numbers of a layer stand where they belong, and
 // whether spaces stand behind them.
+#![tactic(auto)]
+
 ghost use Rattle.std.specs.Prelude.{◌≡◌};
 ghost use Rattle.format.specs.Basics.{round_up};
 ghost use Rattle.format_directory.specs.Directory.{per_layer, per_record};

@@ -4,7 +4,7 @@ use mathlib.Core.Bool.{Bool, true, false}
 use mathlib.Core.List.{List}
 use Prim.Native.Nat.{ℕ, ◌+◌, ◌-◌, ◌*◌, ◌^◌, ◌≤◌, ◌<◌}
 use native.Mathlib.Omega.{arith}
-use borrow.Author.Tests.{lt-ltb, ltb-true, ltb-false}
+use borrow.Author.Tests.{ltb-true, ltb-false}
 use lib.Dec.{ltb}
 use lib.IntN.{pos}
 use lib.ListN.{length}
@@ -13,7 +13,7 @@ use Rattle.format.specs.Layout.{column, splice, find, number_at, header, sheet_b
 use Rattle.format.specs.Record.{count_in}
 use Rattle.format.proofs.Columns.{length-column, number-below, length-splice, length-written}
 use Rattle.format.proofs.RecordHeaders.{number-count}
-use Rattle.columns.specs.InRecord.{number_in, write_at}
+use Rattle.columns.specs.InRecord.{number_in}
 use Rattle.columns.proofs.NumberIn.{number_in_below}
 use Rattle.edit.specs.declared.counts.Change.{Change}
 use Rattle.records.specs.Entry.{count_start, count_width}

@@ -12,7 +12,7 @@ use Rattle.format.specs.Basics.{unless, chunks, flat}
 use Rattle.format.specs.Layout.{find, number_at, header, sheet_b}
 use Rattle.format.specs.Record.{count_index, View, view, count_in}
 use Rattle.format.specs.Sheet.{part_length, stated_records}
-use Rattle.format.specs.Judge.{File, sheet_in}
+use Rattle.format.specs.Judge.{sheet_in}
 use Rattle.format.specs.Edit.{has_room, block_item, insert_fault, insert11, fault12, insert13, insert14, insert15, above_block, block_of, absent, above_in, open_behind, not_below, before, after, body_place}
 use Rattle.format.specs.declared.Block.{Block}
 use Rattle.format.specs.declared.Block.TheVariants.{Item, NoItem}
@@ -25,7 +25,7 @@ use Rattle.records.specs.Entry.{entry_of}
 use Rattle.files.specs.Records as Files
 use Rattle.files.specs.declared.Stride.TheVariants.{Plain}
 use Rattle.files.proofs.Records.{front-records}
-use Rattle.edit_block.proofs.Laws.{OneItem, read_item, read_none}
+use Rattle.edit_block.proofs.Laws.{read_item, read_none}
 use Rattle.edit.specs.declared.plans.Plan.TheVariants.{Refuse, Store}
 use Rattle.judge.specs.declared.Sheet.{Sheet}
 use Rattle.edit.specs.declared.plans.Above.{Above}
@@ -35,7 +35,7 @@ use Rattle.edit.proofs.Columns.{one_more_fits}
 use Rattle.edit.proofs.Inserted.{count_of_total, insert_stored}
 use Rattle.edit.proofs.Refused.{insert-refused}
 use Rattle.edit.proofs.AtPlace.{not-below, above_total, above_count}
-use Rattle.edit.proofs.OpenedAt.{start_is, insert_place, AtStart, at-start, at-inside, has_above, index_is, index-inside, record_is}
+use Rattle.edit.proofs.OpenedAt.{start_is, insert_place, at-start, at-inside, has_above, index_is, index-inside, record_is}
 
 -- ---- a block that is an item is whole records
 module _ (block : List ℕ) (no_fault : fault12 (map view (block_of block)) ≡ 0) where

@@ -7,7 +7,7 @@ use native.Mathlib.Omega.{arith}
 use borrow.Author.Tests.{leb-true, ltb-true, ltb-false, le-leb, lt-leb, eqb-true}
 use lib.Dec.{leb, ltb, eqb}
 use lib.ListN.{length, take, get_or}
-use Rattle.format.specs.Basics.{none, fault, unless, chunks}
+use Rattle.format.specs.Basics.{unless, chunks}
 use Rattle.format.specs.Layout.{number_at, header}
 use Rattle.format.specs.Record.{View, is_head, count_in}
 use Rattle.format.specs.Sheet.{part_length}

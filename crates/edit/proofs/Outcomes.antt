@@ -6,7 +6,6 @@ use native.Mathlib.Omega.{arith}
 use lib.ListN.{length}
 use mir.Syntax.{w64}
 use mir.Val.{Fits}
-use Rattle.format.specs.declared.Judged.TheVariants as Judged
 use Rattle.format.specs.declared.Edited.TheVariants as Edited
 use Rattle.format.specs.Answers.{edited_answer}
 use Rattle.format.specs.Calls.{insert, remove}

@@ -1,5 +1,7 @@
 // Inserting and removing items in a sheet: refuse first, store later. An edit costs one pass, which judges the sheet and keeps what stands
 // before the place, and one move.
+#![tactic(auto)]
+
 ghost use Rattle.std.specs.Prelude.{◌≡◌};
 ghost use Rattle.format.specs.Calls.{insert, remove};
 ghost use Rattle.format.specs.Run.{call};

@@ -23,7 +23,6 @@ use Rattle.files.specs.declared.Stride.TheVariants.{Plain}
 use Rattle.files.specs.Records.{records_of}
 use Rattle.files.proofs.Records.{plain-records}
 use Rattle.edit_block.proofs.Records.{block_long, block_wide}
-use Rattle.format.specs.declared.Block.{Block}
 use Rattle.format.specs.declared.Block.TheVariants.{Item, NoItem}
 use Rattle.format.specs.Answers.{block_answer}
 use Rattle.edit_block.specs.Steps.{is_item, data_walk}

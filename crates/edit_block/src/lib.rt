@@ -1,4 +1,6 @@
 // A block that is to be inserted: whether it is exactly one item that passes but for nesting.
+#![tactic(auto)]
+
 ghost use Rattle.std.specs.Prelude.{◌≡◌, map, ℕ, ◌-◌};
 ghost use Rattle.format.specs.Record.{view};
 ghost use Rattle.format.specs.Edit.{block_item};

@@ -1,5 +1,7 @@
 // The records of a file in a lent buffer: where each stands, how many there are, and stage one of judging; and bytes put into a buffer. A file has its
 // records end to end, or each with a line end behind it; the walks above take the stride and serve both.
+#![tactic(auto)]
+
 ghost use Rattle.std.specs.Prelude.{◌≡◌, [], length, get_or};
 ghost use Rattle.files.specs.Buffers.{put_at};
 ghost use Rattle.files.specs.Records.{stride_of, records_of, length_ok};

@@ -8,6 +8,8 @@
 //   s, m    the same behind the first byte, where a space or a minus stands only after a space
 //   Z       a first byte that adds nothing to the number: 0, a space or a minus
 // And nowhere a 0 right after a minus, which may be "a minus before zeros only".
+#![tactic(auto)]
+
 ghost use Rattle.std.specs.Prelude.{◌≡◌};
 ghost use Rattle.form_bytes.specs.Doubt.{least_at, most_at};
 ghost use Rattle.form_bytes.specs.Told.{Told};

@@ -1,5 +1,7 @@
 // Columns of seven bytes that hold integers of any sign, as data records have them: well formed or not. Most are told by comparing each byte
 // with the one before it, seven columns at a time and without a value; what that leaves in doubt is read.
+#![tactic(auto)]
+
 ghost use Rattle.std.specs.Prelude.{◌≡◌, true, ◌+◌, ◌*◌, ◌≤◌, ◌<◌, length, take, drop};
 ghost use Rattle.format.specs.Column.{column_of, formed};
 ghost use Rattle.form_columns.specs.Columns.{each_formed, Told};

@@ -3,6 +3,8 @@
 // be right: "-05" is.
 //
 // The bytes from 2 to 81 of a record, sixteen at a time, are compared with the letters of its layout; its two first and two last bytes apart.
+#![tactic(auto)]
+
 ghost use Rattle.std.specs.Prelude.{◌≡◌, length, get_or, drop};
 ghost use Rattle.format.specs.Layout.{index_c, sheet_b, sheet_e, sheet_f, header, element, grid_header, net_header, data_note};
 ghost use Rattle.form_bytes.specs.Letters.{doubts_in};

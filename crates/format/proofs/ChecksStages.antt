@@ -9,7 +9,7 @@ use lib.Dec.{ltb}
 use lib.ListN.{length}
 use borrow.Author.Tests.{ltb-true, ltb-false}
 use Rattle.format.specs.Basics.{Answer, given, refused, Fault, none, fault, or_else, length_ok, stage_one_ok}
-use Rattle.format.specs.Judge.{Counts, items, accepted, verdict, after_stage_one}
+use Rattle.format.specs.Judge.{Counts, accepted, verdict, after_stage_one}
 use Rattle.format.specs.Checks.{LengthFails, StageOneFails, Refusal, stage_one, stage_two, stage_three}
 use Rattle.format.proofs.ChecksOrder.{Says, says_map, says-and, says_eqb, says_leb}
 

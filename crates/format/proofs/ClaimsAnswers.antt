@@ -6,19 +6,12 @@ use Rattle.format.specs.Judge.{Counts}
 use Rattle.format.specs.Edit.{BlockItem}
 use Rattle.format.specs.Answers.{number_answer, written_answer, parts_answer, judged_answer, edited_answer, block_answer, way_up_answer}
 use Rattle.format.specs.declared.Number.{Number}
-use Rattle.format.specs.declared.Number.TheVariants as Number
 use Rattle.format.specs.declared.Written.{Written}
-use Rattle.format.specs.declared.Written.TheVariants as Written
 use Rattle.format.specs.declared.Parts.{Parts}
-use Rattle.format.specs.declared.Parts.TheVariants as Parts
 use Rattle.format.specs.declared.Judged.{Judged}
-use Rattle.format.specs.declared.Judged.TheVariants as Judged
 use Rattle.format.specs.declared.Edited.{Edited}
-use Rattle.format.specs.declared.Edited.TheVariants as Edited
 use Rattle.format.specs.declared.Block.{Block}
-use Rattle.format.specs.declared.Block.TheVariants as Block
 use Rattle.format.specs.declared.WayUp.{WayUp}
-use Rattle.format.specs.declared.WayUp.TheVariants as WayUp
 
 -- the values of an answer, and another value where it refuses
 module _ {A : Type 0} (other : A) where

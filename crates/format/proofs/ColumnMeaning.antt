@@ -7,7 +7,7 @@ use Prim.Native.Nat.{ℕ, zero, suc, ◌+◌, ◌-◌, ◌*◌, ◌^◌, ◌≤�
 use native.Mathlib.Nat.{add-mul, mul_assoc, mul_comm, pow-suc, one-le-pow, mul-le-mul_left}
 use native.Mathlib.Omega.{arith}
 use borrow.Author.Tests.{lt-leb, leb-true}
-use lib.Dec.{eqb, leb, eqb-suc-zero}
+use lib.Dec.{leb, eqb-suc-zero}
 use lib.ListN.{length, replicate, length-append}
 use lib.IntN.{ℤ, pos, negsuc}
 use Rattle.format.specs.declared.Column.{Column}

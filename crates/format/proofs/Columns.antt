@@ -14,7 +14,7 @@ use lib.Seq.{take_at, drop_at, length-take-le, take_all, drop-append-le, take-ap
 use lib.IntN.{ℤ, pos, neg_ℤ}
 use Rattle.format.specs.declared.Column.{Column}
 use Rattle.format.specs.declared.Column.TheVariants.{Value, MinusZero, Malformed}
-use Rattle.format.specs.Column.{strip, is_digit, all_digits, value_of, is_number, negative, positive, signed, column_of, formed, size, number_of, digits_in, digits, text_of, fits, written}
+use Rattle.format.specs.Column.{strip, is_digit, all_digits, value_of, is_number, negative, positive, signed, column_of, formed, size, number_of, digits_in, digits, text_of, written}
 use Rattle.format.specs.Layout.{column, splice}
 
 -- the four kinds of byte, each with what the tests say of it

@@ -15,7 +15,7 @@ use Rattle.format.specs.Sheet.{due_a, sheet_machine, after, wrong_in, wholes_of,
 use Rattle.format.specs.Edit.{alter_at}
 use Rattle.format.proofs.Basics.{and-true, first_zero, zero_first}
 use Rattle.format.proofs.Lists.{Wide}
-use Rattle.format.proofs.Columns.{Apart, left, right, column-other, length-splice, length-written}
+use Rattle.format.proofs.Columns.{Apart, left, column-other, length-splice, length-written}
 use Rattle.format.proofs.LayoutRewriting.{apart, apart_is, clear_all, new_own, new_other, column_fault-kept}
 use Rattle.format.proofs.SheetPhases.{fine_from, fault-fine, part_length_long, part_length_two, part_length-kept, fine-kept}
 use Rattle.format.proofs.EditRecords.{sheet_ok, Lawful}

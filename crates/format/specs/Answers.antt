@@ -11,19 +11,12 @@ use Rattle.format.specs.Run.{Step}
 use Rattle.format.specs.Judge.{Counts}
 use Rattle.format.specs.Above.{Way, no_header, to_header}
 use Rattle.format.specs.declared.Number.{Number}
-use Rattle.format.specs.declared.Number.TheVariants as Number
 use Rattle.format.specs.declared.Written.{Written}
-use Rattle.format.specs.declared.Written.TheVariants as Written
 use Rattle.format.specs.declared.Parts.{Parts}
-use Rattle.format.specs.declared.Parts.TheVariants as Parts
 use Rattle.format.specs.declared.Judged.{Judged}
-use Rattle.format.specs.declared.Judged.TheVariants as Judged
 use Rattle.format.specs.declared.Edited.{Edited}
-use Rattle.format.specs.declared.Edited.TheVariants as Edited
 use Rattle.format.specs.declared.Block.{Block}
-use Rattle.format.specs.declared.Block.TheVariants as Block
 use Rattle.format.specs.declared.WayUp.{WayUp}
-use Rattle.format.specs.declared.WayUp.TheVariants as WayUp
 
 -- a column read alone, a corner joined: the number
 unfoldable pub number_answer : Number → Answer ℤ

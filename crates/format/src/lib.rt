@@ -1,4 +1,5 @@
 // The answers of document 01. What each case means on paper stands in specs/Answers.antt.
+#![tactic(auto)]
 
 // What an integer column says.
 #[derive(Clone, Copy)]

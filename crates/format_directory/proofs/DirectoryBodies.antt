@@ -1,13 +1,13 @@
 -- The body of a layer: where it ends, how many items it has, and what stands behind it. Assumes nothing.
 use mathlib.Core.Path.{◌≡◌, refl, ap, sym, ◌∙◌}
-use mathlib.Core.Bool.{Bool, true, false, cond, ◌&&◌, false≢true}
+use mathlib.Core.Bool.{Bool, true, false, cond}
 use mathlib.Core.List.{List, [], ◌∷◌, ◌++◌}
-use Prim.Native.Nat.{ℕ, zero, suc, ◌+◌, ◌≤◌}
+use Prim.Native.Nat.{ℕ, zero, suc, ◌+◌}
 use native.Mathlib.Nat.{add-zero}
 use native.Mathlib.Omega.{arith}
 use lib.Dec.{eqb}
 use lib.ListN.{length, drop}
-use Rattle.format.specs.Record.{Kind, head, item, neither, is_head, View}
+use Rattle.format.specs.Record.{is_head, View}
 use Rattle.format.specs.Judge.{due_after, headers_and_items, is_header_at, one_if_item, items}
 use Rattle.format.proofs.Basics.{and-true}
 use Rattle.format.proofs.Above.{data_records-head}

@@ -5,13 +5,13 @@ use Prim.Native.Nat.{ℕ, zero, suc, ◌+◌, ◌-◌, ◌*◌, ◌≤◌, ◌<�
 use native.Mathlib.Nat.{zero-add}
 use native.Mathlib.Omega.{arith}
 use lib.IntN.{pos}
-use lib.ListN.{length, length-append, length-drop, take, drop, get_or, replicate, get_or-replicate, take-append-drop}
-use lib.Seq.{drop-drop, drop_at, drop-cons, take_at, length-take-le, get_or-take, get_or-drop}
+use lib.ListN.{length, length-drop, take, drop, get_or, replicate, get_or-replicate, take-append-drop}
+use lib.Seq.{drop-drop, drop_at, length-take-le, get_or-take, get_or-drop}
 use Rattle.format.specs.Column.{written}
 use Rattle.format.specs.Layout.{column}
 use Rattle.format_directory.specs.Directory.{columns_of, record_of}
 use Rattle.format_directory.specs.DirectoryChecks.{Holds}
-use Rattle.format_directory.proofs.DirectoryRecords.{TwoLetters, column-at, length_columns, length_record}
+use Rattle.format_directory.proofs.DirectoryRecords.{column-at, length_columns}
 
 -- numbers in written form one behind the other, then what stands behind them
 pub columns_from : (r : List ℕ) (k : ℕ) (ns : List ℕ) → ((j : ℕ) → j < length ns → take 7 (drop (2 + 7 * (k + j)) r) ≡ written 7 (pos (get_or ns j 0))) → drop (2 + 7 * k) r ≡ columns_of ns ++ drop (2 + 7 * (k + length ns)) r

@@ -16,7 +16,7 @@ use Rattle.format.specs.Column.{written}
 use Rattle.format.specs.Layout.{column}
 use Rattle.format.specs.Record.{Kind, head, item, neither, is_head, View, nothing, view}
 use Rattle.format.specs.Sheet.{part_length, sheet_fault}
-use Rattle.format.specs.Judge.{due_after, headers_and_items, is_header_at, one_if_item, items, file_of, Counts, after_stage_one, after_part, body_fault, verdict, judge, judge_records, judge_sheet}
+use Rattle.format.specs.Judge.{due_after, headers_and_items, is_header_at, items, file_of, Counts, after_stage_one, after_part, body_fault, verdict, judge, judge_records, judge_sheet}
 use Rattle.format.proofs.Basics.{and-true, true_and}
 use Rattle.format.proofs.Above.{data_records-head}
 use Rattle.format.proofs.ChecksParts.{same_decides}
@@ -25,7 +25,7 @@ use Rattle.format.proofs.JudgeStages.{stage_given}
 use Rattle.format.proofs.JudgeAccepted.{Ok, accepted_ok}
 use Rattle.format_directory.specs.declared.Edition.{Edition}
 use Rattle.format_directory.specs.declared.Edition.TheVariants.{One, Two}
-use Rattle.format_directory.specs.Directory.{Layer, layer_body, layers_from, layers_of, total_of, last_of, end_letters, end_listed, closing, used_ok, last_record, pointer_in, judge_edition, judge_directory, append_directory, sheet_in, is_second, edition_of, edition_ok, after_edition, judge_either_edition}
+use Rattle.format_directory.specs.Directory.{Layer, layer_body, layers_from, layers_of, last_of, end_letters, end_listed, closing, used_ok, last_record, pointer_in, judge_edition, judge_directory, append_directory, sheet_in, is_second, edition_of, edition_ok, after_edition, judge_either_edition}
 use Rattle.format_directory.specs.DirectoryChecks.{joined, ListsLayers, totals, Meet, UsedFails, wrong_closing, StartsYE, StatesTwo, EitherRefusal, either_length, wrong_edition, of_first, of_second}
 use Rattle.format_directory.proofs.DirectoryRecords.{two_end_letters, column-at, same_self}
 use Rattle.format_directory.proofs.DirectoryLayers.{one_more, body-length, entries}

@@ -12,7 +12,7 @@ use Rattle.format.specs.Basics.{Answer, given, refused, Outcome, Fault, none, fa
 use Rattle.format.specs.Judge.{Counts, after_stage_one, judge_records, judge_sheet}
 use Rattle.format_directory.specs.declared.Edition.{Edition}
 use Rattle.format_directory.specs.declared.Edition.TheVariants.{One}
-use Rattle.format_directory.specs.Directory.{Layer, layers_of, end_letters, listed, per_layer, per_record, end_columns, row, closing, shared, directory_of, used_ok, last_record, pointer_in, layer_count, are_written, closing_ok, differs, after_sheet, judge_from, after_closing, judge_edition, judge_directory, append_to, append_directory, in_count, after_judging, listed_in, sheet_in, directory_in, jump, layer_of, counted_header}
+use Rattle.format_directory.specs.Directory.{layers_of, end_letters, listed, per_layer, per_record, end_columns, row, closing, shared, directory_of, used_ok, last_record, pointer_in, layer_count, are_written, closing_ok, differs, after_sheet, judge_from, after_closing, judge_edition, judge_directory, append_to, append_directory, in_count, after_judging, listed_in, sheet_in, directory_in, jump, layer_of, counted_header}
 use Rattle.format.specs.Text.{same}
 use Rattle.format.proofs.Basics.{and-true, true_and}
 use Rattle.format.proofs.Lists.{Wide, wide_append, chunks-flat, length-flat, length-chunks, flat_append}

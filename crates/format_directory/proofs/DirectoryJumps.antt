@@ -15,9 +15,7 @@ use Rattle.format.proofs.Basics.{and-true, true_and, or_cases}
 use Rattle.format_directory.specs.declared.Edition.{Edition}
 use Rattle.format_directory.specs.declared.Edition.TheVariants.{One, Two}
 use Rattle.format_directory.specs.declared.Jumped.{Jumped}
-use Rattle.format_directory.specs.declared.Jumped.TheVariants as Jumped
 use Rattle.format_directory.specs.declared.JumpedEither.{JumpedEither}
-use Rattle.format_directory.specs.declared.JumpedEither.TheVariants as JumpedEither
 use Rattle.format_directory.specs.Answers.{jumped_answer, jumped_either_answer}
 use Rattle.format_directory.specs.Directory.{Layer, layers_of, total_of, last_of, last_record, layer_count, in_count, after_judging, listed_in, sheet_in, directory_in, judge_directory, jump, no_layer, layer_of, counted_header, edition_of, judge_either_edition, LayerEntry, entry_in, jump_either_edition}
 use Rattle.format_directory.specs.DirectoryChecks.{Rising, Spans, AllSpan, ListsLayers, NthHeader, NthLayer, header_of}

@@ -3,9 +3,7 @@
 use Rattle.std.specs.Prelude.{ℕ}
 use Rattle.format.specs.Basics.{Answer, given, refused}
 use Rattle.format_directory.specs.declared.Jumped.{Jumped}
-use Rattle.format_directory.specs.declared.Jumped.TheVariants as Jumped
 use Rattle.format_directory.specs.declared.JumpedEither.{JumpedEither}
-use Rattle.format_directory.specs.declared.JumpedEither.TheVariants as JumpedEither
 use Rattle.format_directory.specs.Directory.{LayerEntry}
 
 -- a jump: the record number of a layer's header

@@ -12,9 +12,7 @@ use Rattle.format.specs.Judge.{Counts, accepted, judge, judge_records, judge_she
 use Rattle.format_directory.specs.declared.Edition.{Edition}
 use Rattle.format_directory.specs.declared.Edition.TheVariants.{One, Two}
 use Rattle.format_directory.specs.declared.Jumped.{Jumped}
-use Rattle.format_directory.specs.declared.Jumped.TheVariants as Jumped
 use Rattle.format_directory.specs.declared.JumpedEither.{JumpedEither}
-use Rattle.format_directory.specs.declared.JumpedEither.TheVariants as JumpedEither
 use Rattle.format_directory.specs.Answers.{jumped_answer, jumped_either_answer}
 use Rattle.format_directory.specs.Directory.{layers_of, total_of, last_of, row, closing, directory_of, last_record, number_in, is_written, closing_ok, judge_from, judge_edition, judge_directory, append_directory, sheet_in, directory_in, jump, is_second, edition_ok, judge_either_edition, LayerEntry, jump_either_edition}
 use Rattle.format.specs.Examples.{example, wrong}

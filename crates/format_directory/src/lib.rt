@@ -1,5 +1,6 @@
 // A directory of layers behind a sheet: what is right, and what judging, appending and jumping answer. The meaning stands in specs/Directory.antt, the
 // claims in proofs/Claims.antt.
+#![tactic(auto)]
 
 // The edition of a directory: what its records list of a layer, and how.
 #[derive(Clone, Copy)]

@@ -7,7 +7,6 @@ use Rattle.format.specs.Program.{line_to}
 use Rattle.format.specs.Layout.{Rule, any_sign, at_least, range, within, one_of, What, text, blank, integral, integral_or_spaces, Col, layouts}
 use Rattle.layouts.specs.Tables.{low_in, high_in}
 use Rattle.format_words.specs.declared.Described.{Described}
-use Rattle.format_words.specs.declared.Described.TheVariants as Described
 
 -- entry n of a list, numbered from 1; a number that has none is not allowed, 16 at record 0
 abbrev pub from_zero : {A : Type 0} → ℕ → List A → Answer A

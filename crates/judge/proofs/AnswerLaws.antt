@@ -17,7 +17,6 @@ use Rattle.format.specs.Above.{last_start}
 use Rattle.format_directory.specs.declared.Edition.{Edition}
 use Rattle.part_and_index.specs.declared.SheetPart.{SheetPart}
 use Rattle.judge.specs.declared.body_records.Extent.{Extent}
-use Rattle.judge.specs.declared.walk.Seen.{Seen}
 use Rattle.judge.specs.declared.Sheet.{Sheet}
 use Rattle.judge.specs.declared.opening.Against.{Against}
 use Rattle.judge.specs.declared.walk.WalkedLayers.{WalkedLayers}

@@ -8,7 +8,7 @@ use borrow.Author.Tests.{not-true, not-false}
 use lib.ListN.{length, take}
 use Rattle.format.specs.Basics.{Answer, given, refused, chunks, stage_one_ok}
 use Rattle.format.specs.Sheet.{part_length}
-use Rattle.format.specs.Judge.{Counts, judge_sheet, after_stage_one, AcceptedSheet}
+use Rattle.format.specs.Judge.{Counts, judge_sheet}
 use Rattle.format.proofs.JudgeStages.{stage_one_lem}
 use Rattle.format.proofs.AcceptedSheet.{elements_are}
 use Rattle.format.proofs.ChecksJudging.{sheet_numbered}

@@ -1,5 +1,7 @@
 // Judging a sheet file and an index file, in the three stages of document 01, and opening a sheet: the verdict with what stands before a place
 // of it.
+#![tactic(auto)]
+
 ghost use Rattle.std.specs.Prelude.{◌≡◌};
 ghost use Rattle.format.specs.Judge.{judge_records, judge_index_records, judge_sheet, judge_index};
 ghost use Rattle.format.specs.Answers.{judged_answer};

@@ -1,6 +1,8 @@
 // The fault of one record's own columns, layout by layout: 5 for a malformed integer column, else 6 for a number outside its range or list,
 // else 0. Bytes that are no record of 84 answer 5. Most records of a sheet's body, records b, e and f of its part and c of an index are told at once
 // to be without fault; the others are read column by column.
+#![tactic(auto)]
+
 ghost use Rattle.std.specs.Prelude.{◌≡◌, true, [], ◌∷◌, ◌<◌, pos, length};
 ghost use Rattle.std.specs.Int.Signed.{le_z};
 ghost use Rattle.format.specs.Basics.{member};

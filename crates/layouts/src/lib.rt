@@ -10,6 +10,8 @@
 // - lows, highs: the least and the greatest number allowed in each, of a list its ends; of an integer or spaces, those of any sign in its width; 0 of a
 //   blank. The grid's data has neither: its integers may have any sign.
 // The data of attributes is text alone; it has no tables.
+#![tactic(auto)]
+
 mod data_2d;
 mod data_3d;
 mod data_attribute;

@@ -5,7 +5,7 @@ use Prim.Native.Nat.{ℕ, suc, ◌+◌, ◌-◌, ◌*◌, ◌≤◌, ◌<◌}
 use native.Mathlib.Numerals.{add-one}
 use native.Mathlib.Omega.{arith}
 use lib.ListN.{length, take, drop, get_or, set, length-set, length-append, length-drop}
-use lib.Seq.{length-take-le, take_all, take-suc, take_at, drop_at, drop-drop, drop-cons, set_at}
+use lib.Seq.{length-take-le, take_all, take-suc, drop-cons, set_at}
 use Rattle.format.specs.Basics.{flat}
 use Rattle.format.proofs.Lists.{Wide, wide_take, wide_get, length-flat, flat_append}
 use Rattle.format_lines.specs.LineEnds.{line_end, with_end}

@@ -1,4 +1,6 @@
 // Files with line ends: records of 84 bytes, each with carriage return and line feed behind it. Judging that form in place, and writing to it and from it.
+#![tactic(auto)]
+
 ghost use Rattle.std.specs.Prelude.{◌≡◌, ◌+◌, ◌*◌, ◌/◌, ◌≤◌, length, take, drop};
 ghost use Rattle.format.specs.Basics.{to_fault};
 ghost use Rattle.format.specs.Answers.{judged_answer, written_answer};

@@ -7,7 +7,7 @@ use native.Mathlib.Omega.{arith}
 use borrow.Author.Tests.{eqb-true, le-leb, lt-leb}
 use lib.Dec.{eqb, leb}
 use lib.ListN.{length, take, drop}
-use Rattle.format.specs.Basics.{Outcome, first, unless, fault, chunks, flat, stage_one_ok}
+use Rattle.format.specs.Basics.{Outcome, first, unless, chunks, flat, stage_one_ok}
 use Rattle.format.specs.Text.{bytes, begins}
 use Rattle.format.specs.Layout.{element}
 use Rattle.format.specs.Record.{RecordType, H, E1, E2, E3, E4, E5, E6, E7, E8, G, T, other, type_of, type_columns, count_index, Data, data_columns, view, view_as, header_view, element_view, grid_view, net_view, other_view}
@@ -19,14 +19,12 @@ use Rattle.format.specs.Normal.{normal_record, normal_body, normal_part, normal_
 use Rattle.format.specs.Answers.{written_answer, judged_answer}
 use Rattle.format.specs.declared.Written.TheVariants as Written
 use Rattle.format.specs.declared.Judged.{Judged}
-use Rattle.format.specs.declared.Judged.TheVariants as Judged
 use Rattle.format.proofs.Basics.{first_zero}
 use Rattle.format.proofs.Lists.{Wide, wide_chunks, wide_drop}
 use Rattle.format.proofs.JudgeWalks.{Passes}
 use Rattle.format.proofs.JudgeStages.{stage_one_lem, stage_given}
 use Rattle.format.proofs.AcceptedSheet.{whole-records, inside, accepted-list}
 use Rattle.records.specs.declared.Held.{Held}
-use Rattle.records.specs.declared.Held.TheVariants as Held
 use Rattle.records.specs.Entry.{to_data, entry_of}
 use Rattle.records.proofs.Laws.{entry_counted, entry_data_records, entry_held, fault-at}
 use Rattle.judge.specs.declared.Sheet.{Sheet as OpenedSheet}

@@ -1,4 +1,6 @@
 // The normal form of a sheet file and of an index file: the same file with every judged integer in written form, in a second buffer.
+#![tactic(auto)]
+
 ghost use Rattle.std.specs.Prelude.{◌≡◌, ◌++◌, ◌+◌, ◌*◌, ◌%◌, ◌≤◌, length, drop};
 ghost use Rattle.format.specs.Basics.{chunks, flat};
 ghost use Rattle.format.specs.Normal.{normal_record, normal_sheet, normal_index};

@@ -1,4 +1,6 @@
 // The sheet part and the index: records that come in a fixed order, judged from the front. Records are counted from 1 in answers.
+#![tactic(auto)]
+
 ghost use Rattle.std.specs.Prelude.{◌≡◌};
 ghost use Rattle.part_and_index.specs.Due.{is_over};
 ghost use Rattle.files.specs.Records.{records_of};

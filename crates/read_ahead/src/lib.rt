@@ -2,6 +2,8 @@
 // every line of the processor's cache; 256 lines read at once wait once.
 //
 // A call answers true, whatever it read, and what follows depends on that: so the compiler, which does not know it, keeps the reads.
+#![tactic(auto)]
+
 ghost use Rattle.std.specs.Prelude.{◌≡◌, true, ◌+◌, ◌≤◌, length};
 
 // Bytes of a cache line; lines of a block, and its bytes.

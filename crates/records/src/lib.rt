@@ -1,5 +1,7 @@
 // One record of a sheet's body: what a header or an item states, and the first fault of its own columns; the first fault of a data record; and
 // whether a header states the counts of a tally.
+#![tactic(auto)]
+
 ghost use Rattle.std.specs.Prelude.{◌≡◌, length};
 ghost use Rattle.format.specs.Record.{type_of};
 ghost use Rattle.records.specs.declared.Held.TheVariants.{Notes};

@@ -12,7 +12,6 @@ use Rattle.format.specs.Basics.{Outcome}
 use Rattle.format.specs.Answers.{judged_answer}
 use Rattle.format.specs.Column.{digits}
 use Rattle.format.specs.declared.Judged.{Judged}
-use Rattle.format.specs.declared.Judged.TheVariants as Judged
 use Rattle.format.specs.Program.{judge_input, line, printed}
 use Rattle.format.specs.Program.{line_to, report_to, unread, read_to}
 use Rattle.report.specs.Steps.{number_line, line_for}

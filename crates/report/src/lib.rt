@@ -1,4 +1,6 @@
 // The line that the program prints: what judging its input answers, in words.
+#![tactic(auto)]
+
 ghost use Rattle.std.specs.Prelude.{◌≡◌, ◌++◌, ◌+◌, ◌≤◌, length};
 ghost use Rattle.format.specs.Column.{digits};
 ghost use Rattle.format.specs.Text.{begins};

@@ -1,4 +1,6 @@
 // The way up from a record of a sheet to the header above it.
+#![tactic(auto)]
+
 ghost use Rattle.std.specs.Prelude.{◌≡◌};
 ghost use Rattle.format.specs.Above.{up};
 ghost use Rattle.format.specs.Answers.{way_up_answer};

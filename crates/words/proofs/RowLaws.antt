@@ -1,12 +1,12 @@
 -- A row of a table. Assumes nothing.
 use mathlib.Core.Path.{◌≡◌, refl, ap, sym, ◌∙◌}
 use mathlib.Core.Bool.{Bool, true, false, true≢false}
-use mathlib.Core.List.{List, [], ◌∷◌, ◌++◌, map, append-nil}
+use mathlib.Core.List.{List, [], ◌∷◌, map, append-nil}
 use Prim.Native.Nat.{ℕ, zero, suc, ◌+◌, ◌-◌, ◌*◌, ◌/◌, ◌≤◌, ◌<◌}
 use native.Mathlib.Omega.{arith}
 use lib.ListN.{length, take, drop, replicate, get_or, length-drop}
 use lib.Seq.{drop-drop, length-take-le}
-use lib.Dec.{eqb, leb}
+use lib.Dec.{leb}
 use lib.IntN.{ℤ}
 use borrow.Author.Tests.{eq-eqb, ne_eqb, leb-true}
 use Rattle.format.specs.Basics.{Answer, given, refused, Outcome}
@@ -20,7 +20,6 @@ use Rattle.format.specs.Column.{integer, column_of, strip, signed, positive, is_
 use Rattle.format.specs.Layout.{Col, column, layouts}
 use Rattle.format_words.specs.Words.{from_zero, entry, column_in, layout_column, described_of, name_to}
 use Rattle.format_words.specs.declared.Described.{Described}
-use Rattle.format_words.specs.declared.Described.TheVariants as Described
 use Rattle.words.specs.Rows.{cut, no_row, row_from, row_of, Told, told, told_of, described, name_length, name_in, name_bytes}
 
 -- ---- a row by its number

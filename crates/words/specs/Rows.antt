@@ -7,7 +7,6 @@ use Rattle.format.specs.Layout.{Col}
 use Rattle.columns.specs.InRecord.{column_at, number_in}
 use Rattle.format_words.specs.Words.{entry, described_of}
 use Rattle.format_words.specs.declared.Described.{Described}
-use Rattle.format_words.specs.declared.Described.TheVariants as Described
 
 -- the first n rows of a table
 abbrev pub cut : ℕ → List ℕ → List (List ℕ)

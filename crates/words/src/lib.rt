@@ -1,4 +1,6 @@
 // Words and tables for programs that show a file: what each refusal says, and each column of the nineteen layouts by its numbers.
+#![tactic(auto)]
+
 ghost use Rattle.std.specs.Prelude.{◌≡◌};
 ghost use Rattle.format.specs.Answers.{written_answer};
 ghost use Rattle.format_words.specs.Words.{refusal_to, layout_column, name_to, described_of};

@@ -1,6 +1,5 @@
 -- `columns::all_spaces` meets its contract. The loop's invariant: the bytes so far and those still to come are spaces. Assumes nothing.
 use mathlib.Core.Path.{refl}
-use Prim.Native.Nat.{◌-◌}
 use borrow.Author.Rules.{rules}
 use Rattle.columns.proofs.Spaces.{spaces_again, spaces_end}
 use Rattle.columns.proofs.all_spaces.Goals as goal

@@ -1,6 +1,5 @@
 -- `columns::power` meets its contract. Assumes nothing.
 use mathlib.Core.Path.{refl}
-use Prim.Native.Nat.{◌-◌}
 use borrow.Author.Rules.{rules}
 use Rattle.columns.proofs.Writing.{power_fits, next_power, last_power}
 use Rattle.columns.proofs.power.Goals as goal

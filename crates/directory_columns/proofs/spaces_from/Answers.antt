@@ -1,5 +1,4 @@
 -- `spaces_from` looks at column after column. The loop's invariant is `Clear`, its measure the columns left. Assumes nothing.
-use Prim.Native.Nat.{◌-◌}
 use Rattle.directory_columns.proofs.BlankColumns.{short_record, behind-all, none_looked, column-inside, column-used, next-column, five-last}
 use Rattle.directory_columns.proofs.spaces_from.Goals as goal
 

@@ -1,7 +1,6 @@
 -- `data_in_order` walks over the data records. The loop keeps that the walk from its index comes to the same as the whole; each turn leaves one
 -- record fewer. Assumes nothing.
 use mathlib.Core.Path.{refl}
-use Prim.Native.Nat.{◌-◌}
 use Rattle.edit_block.proofs.Data.{data_over, data_wrong, data_passes}
 use Rattle.edit_block.proofs.data_in_order.Goals as goal
 

@@ -1,5 +1,4 @@
 -- `put_at` puts the bytes where they have room. The loop keeps that they stand there up to its index; each turn leaves one byte fewer. Assumes nothing.
-use Prim.Native.Nat.{◌-◌}
 use borrow.Author.Rules.{rules}
 use Rattle.format.proofs.Lists.{none_stored, next_stored}
 use Rattle.files.proofs.Buffers.{all-put, starts_behind, ends_behind}

@@ -1,7 +1,6 @@
 -- `form_columns::ends_sure` meets its contract. The loop's invariant: `Counting`, at the front and at the back. The measure is the bytes still to come.
 -- Assumes nothing.
 use borrow.Author.Rules.{rules}
-use Prim.Native.Nat.{◌-◌}
 use native.Mathlib.Omega.{arith}
 use Rattle.form_bytes.specs.Letters.{behind, letters_in}
 use Rattle.form_bytes.proofs.Doubts.{at_most_one}

@@ -1,7 +1,6 @@
 -- `form_columns::few_sure` meets its contract. The loop's invariant: `Counting`, of the doubts that count. The measure is the bytes still to come.
 -- Assumes nothing.
 use borrow.Author.Rules.{rules}
-use Prim.Native.Nat.{◌-◌}
 use native.Mathlib.Omega.{arith}
 use Rattle.form_bytes.specs.Letters.{behind, letters_in}
 use Rattle.form_columns.proofs.Doubts.{letters_of, columns_of, behind_first, counted_small, few-first-doubt, few-next-doubt, few_no_doubt}

@@ -1,13 +1,9 @@
 -- `form_records::middle_doubts` meets its contract. The loop's invariant: the doubts so far and those of the bytes still to come are the doubts of
 -- all; and no more than one a byte, so that the sum stays a byte. The measure is the bytes still to come. Assumes nothing.
 use borrow.Author.Rules.{rules}
-use Prim.Native.Nat.{◌-◌}
 use native.Mathlib.Omega.{arith}
 use Rattle.form_bytes.proofs.Doubts.{at_most_one}
 use Rattle.form_records.proofs.Counting.{none_yet, one_at_most_more, next-doubt, all_counted}
-use Rattle.form_records.proofs.middle_doubts.Reads as reads
-use Rattle.form_records.proofs.middle_doubts.Lts as lts
-use Rattle.form_bytes.proofs.doubt_at.Reads as doubt-at-reads
 use Rattle.form_records.proofs.middle_doubts.Goals as goal
 
 -- src/lib.rt:39:5

@@ -3,9 +3,6 @@
 use mathlib.Core.Path.{◌≡◌}
 use Prim.Native.Nat.{◌+◌, ◌-◌, ◌≤◌}
 use Rattle.form_records.proofs.Counting.{all_doubts, doubts_from}
-use Rattle.form_records.proofs.middle_doubts.Reads as reads
-use Rattle.form_records.proofs.middle_doubts.Lts as lts
-use Rattle.form_bytes.proofs.doubt_at.Reads as doubt-at-reads
 use Rattle.form_records.proofs.middle_doubts.Given as goal
 
 abbrev pub invariant-loop-i : goal.invariant-loop-i

@@ -1,6 +1,5 @@
 -- `layout_faults::is_one` meets its contract. The loop's invariant: found so far, or among the numbers still to come. Assumes nothing.
 use mathlib.Core.Path.{refl}
-use Prim.Native.Nat.{◌-◌}
 use borrow.Author.Rules.{rules}
 use Rattle.layout_faults.proofs.Loops.{one_again, one_end}
 use Rattle.layout_faults.proofs.is_one.Goals as goal

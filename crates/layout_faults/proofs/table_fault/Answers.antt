@@ -1,7 +1,6 @@
 -- `layout_faults::table_fault` meets its contract. The loop's invariant: the columns so far are well formed, so that all are where those still
 -- to come are; and the numbers so far and those still to come are between their ends. Assumes nothing.
 use mathlib.Core.Path.{refl}
-use Prim.Native.Nat.{◌-◌}
 use borrow.Author.Rules.{rules}
 use Rattle.layout_faults.proofs.Loops.{no_record, formed_again, between_again, malformed, outside, no_fault}
 use Rattle.layout_faults.proofs.table_fault.Goals as goal

@@ -1,5 +1,4 @@
 -- `first_unended` looks at the end of each line. The loop's invariant: the first k lines end right. Assumes nothing.
-use Prim.Native.Nat.{◌-◌}
 use Rattle.line_ends.proofs.Records.{ends_start, lines-inside, ends_all, ends_wrong, ends_again}
 use borrow.Author.Rules.{rules}
 use Rattle.line_ends.proofs.first_unended.Goals as goal

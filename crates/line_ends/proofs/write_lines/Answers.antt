@@ -1,7 +1,6 @@
 -- `write_lines` writes records with their line ends. The loop's invariant: k of them are written, and behind them the target is as it was.
 -- Assumes nothing.
 use mathlib.Core.Path.{refl}
-use Prim.Native.Nat.{◌-◌}
 use Rattle.line_ends.proofs.Writing.{plain-inside, record_wide, lines_again, lines-done}
 use borrow.Author.Rules.{rules}
 use Rattle.line_ends.proofs.write_lines.Goals as goal

@@ -1,7 +1,6 @@
 -- `write_records` writes records without their line ends. The loop's invariant: k of them are written, and behind them the target is as it was.
 -- Assumes nothing.
 use mathlib.Core.Path.{refl}
-use Prim.Native.Nat.{◌-◌}
 use Rattle.line_ends.proofs.Records.{lines-inside}
 use Rattle.line_ends.proofs.Writing.{records_again, records-done}
 use borrow.Author.Rules.{rules}

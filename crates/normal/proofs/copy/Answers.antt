@@ -1,6 +1,5 @@
 -- `normal::copy` meets its contract. The loop's invariant: the bytes so far are the source's. Assumes nothing.
 use mathlib.Core.Path.{refl}
-use Prim.Native.Nat.{◌-◌}
 use Rattle.normal.proofs.Buffers.{copied_again, copied_all}
 use borrow.Author.Rules.{rules}
 use Rattle.normal.proofs.copy.Goals as goal

@@ -1,7 +1,6 @@
 -- `normal::write_records` meets its contract. The loop's invariant: what is written and what is left to write is the whole file, and the second
 -- buffer behind it is as it was. Assumes nothing.
 use mathlib.Core.Path.{refl}
-use Prim.Native.Nat.{◌-◌}
 use Rattle.normal.proofs.Buffers.{record_long, nothing_written, kept_again, written_again, written_all}
 use borrow.Author.Rules.{rules}
 use Rattle.normal.proofs.write_records.Goals as goal

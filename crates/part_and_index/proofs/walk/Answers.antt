@@ -1,7 +1,6 @@
 -- `walk` goes over the due records. The loop keeps that judging what is left comes to the same as judging from the start; each turn leaves one record
 -- fewer. Assumes nothing.
 use mathlib.Core.Path.{refl, ap, sym}
-use Prim.Native.Nat.{◌-◌}
 use borrow.Author.Rules.{rules}
 use Rattle.part_and_index.specs.declared.progress.Progress.{Progress}
 use Rattle.part_and_index.proofs.WalkLaws.{walk_starts, walk-missing, walk-wrong, walk-sound, walk-over}

@@ -1,5 +1,4 @@
 -- `records::counts_agree` meets its contract. The loop's invariant: the counts so far agree, and their sum. The measure is the kinds still to come. Assumes nothing.
-use Prim.Native.Nat.{◌-◌}
 use mathlib.Core.Path.{refl}
 use borrow.Author.Rules.{rules}
 use Rattle.records.proofs.Counts.{no_record, sum_fits, next_agrees, next-sum, all_agree}

@@ -2,7 +2,7 @@
 -- Assumes nothing.
 use native.Mathlib.Omega.{arith}
 use Rattle.report.proofs.Digits.{less_left, count_room, one_counted, counted}
-use Prim.Native.Nat.{◌-◌, ◌≤◌}
+use Prim.Native.Nat.{◌≤◌}
 use Rattle.format.specs.Column.{digits}
 use Rattle.report.proofs.count_digits.Goals as goal
 

@@ -1,6 +1,5 @@
 -- `columns::pass::leading_spaces` meets its contract. The loop's invariant: without leading spaces, the bytes still to come are all bytes. Assumes nothing.
 use mathlib.Core.Path.{refl}
-use Prim.Native.Nat.{◌-◌}
 use borrow.Author.Rules.{rules}
 use Rattle.columns.proofs.Reading.{one_space, no_space_lem, all-spaces}
 use Rattle.columns.proofs.pass.leading_spaces.Goals as goal

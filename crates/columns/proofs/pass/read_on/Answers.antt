@@ -1,7 +1,6 @@
 -- `columns::pass::read_on` meets its contract. The loop's invariant: the bytes that are left, passed from what is kept, end where the bytes from `from` on
 -- end; and the number that is kept is below 10 ^ i. Assumes nothing.
 use mathlib.Core.Path.{refl}
-use Prim.Native.Nat.{◌-◌}
 use borrow.Author.Rules.{rules}
 use Rattle.columns.proofs.Reading.{again, grown, small, read_out, read_all}
 use Rattle.columns.proofs.pass.read_on.Goals as goal

@@ -1,5 +1,4 @@
 -- `first_different` compares record after record. The loop's invariant is `Comparing`, its measure the rows left. Assumes nothing.
-use Prim.Native.Nat.{◌-◌}
 use borrow.Author.Rules.{rules}
 use Rattle.directories.proofs.Different.{comparing, row_starts, in_row_most, rows_few, row_unlisted, row-differs, row_agrees, rows_behind}
 use Rattle.directories.proofs.comparing.first_different.Goals as goal

@@ -1,5 +1,4 @@
 -- `next_layer` goes from one header or item to the next. The loop's invariant is `Passing`, its measure the records left. Assumes nothing.
-use Prim.Native.Nat.{◌-◌}
 use Rattle.directories.proofs.Written.{passing, few_data, at_small, item-fits, layer-there, hops, hop_on, no_layer_lem}
 use Rattle.directories.proofs.writing.next_layer.Goals as goal
 

@@ -1,5 +1,4 @@
 -- `row_from` writes layer after layer. The loop's invariant is `Filling`, its measure the layers that still fit. Assumes nothing.
-use Prim.Native.Nat.{◌-◌}
 use borrow.Author.Rules.{rules}
 use Rattle.directories.proofs.Written.{filling, kept_further, each_small, blank_row_long, layer_place, lent_long, layer-small, layer_added, still_long, last_row, full-row}
 use Rattle.directories.proofs.writing.row_from.Goals as goal

@@ -1,5 +1,4 @@
 -- `write_rows` puts record after record behind the sheet. The loop's invariant is `RowsSoFar`, its measure the records left. Assumes nothing.
-use Prim.Native.Nat.{◌-◌}
 use borrow.Author.Rules.{rules}
 use Rattle.directories.proofs.Appended.{no_rows, before-few, before-fits, rows-kept, long_kept, sheet-inside, sheet_taken, records-few, row_end, row_put, all-rows}
 use Rattle.directories.proofs.writing.write_rows.Goals as goal

@@ -1,7 +1,6 @@
 -- `fill` writes one byte over a part. The loop keeps that the part is filled up to its index; each turn leaves one byte fewer. Assumes nothing.
 use mathlib.Core.Path.{◌≡◌, refl, ◌∙◌}
 use mathlib.Core.List.{append_assoc}
-use Prim.Native.Nat.{◌-◌}
 use native.Mathlib.Omega.{arith}
 use borrow.Author.Rules.{rules}
 use lib.ListN.{take, length-set}

@@ -1,6 +1,6 @@
 -- `open_gap` moves bytes up. The loop runs from the back and keeps that what it has passed stands n places higher; each turn leaves one byte fewer. Assumes nothing.
 use mathlib.Core.Path.{◌≡◌, refl}
-use Prim.Native.Nat.{◌+◌, ◌-◌}
+use Prim.Native.Nat.{◌+◌}
 use native.Mathlib.Omega.{arith}
 use borrow.Author.Rules.{rules}
 use lib.ListN.{drop, length-set}

@@ -1,7 +1,6 @@
 -- `shift_down` moves bytes down. The loop keeps that what it has passed stands n places lower; each turn leaves one byte fewer. Assumes nothing.
 use mathlib.Core.Path.{◌≡◌, refl, ◌∙◌}
 use mathlib.Core.List.{append_assoc}
-use Prim.Native.Nat.{◌-◌}
 use native.Mathlib.Omega.{arith}
 use borrow.Author.Rules.{rules}
 use lib.ListN.{take, length-set}

@@ -1,7 +1,6 @@
 -- `walk_layers` walks layer after layer. The loop's invariant is `Layering`, and that the written form of the last number is known where there is a directory;
 -- its measure the records left. Assumes nothing.
 use mathlib.Core.Path.{refl}
-use Prim.Native.Nat.{◌-◌}
 use native.Mathlib.Omega.{arith}
 use borrow.Author.Rules.{rules}
 use Rattle.judge.proofs.LayersLaws.{layering, layer-header, layers-fault, layer_below, layers-fit, layer_stops, no_listing, items_left, layer_further, layer_goes, layers_end, layers-listed, begun_before, before-header}

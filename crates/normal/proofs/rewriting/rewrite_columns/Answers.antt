@@ -1,6 +1,5 @@
 -- `normal::rewriting::rewrite_columns` meets its contract. The loop's invariant: what is left to write ends in what all columns end in. Assumes nothing.
 use mathlib.Core.Path.{refl}
-use Prim.Native.Nat.{◌-◌}
 use borrow.Author.Rules.{rules}
 use Rattle.normal.proofs.Columns.{rewritten_again, rewritten_end}
 use Rattle.normal.proofs.rewriting.rewrite_columns.Goals as goal

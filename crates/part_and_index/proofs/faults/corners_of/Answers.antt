@@ -1,6 +1,5 @@
 -- `corners_of` makes the eight corners. The loop keeps that the corners so far are the first ones; each turn leaves one fewer. Assumes nothing.
 use mathlib.Core.Path.{refl}
-use Prim.Native.Nat.{◌-◌}
 use native.Mathlib.Omega.{arith}
 use borrow.Author.Rules.{rules}
 use Rattle.part_and_index.proofs.Corners.{corner-more, corners-all}

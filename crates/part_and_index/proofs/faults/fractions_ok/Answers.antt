@@ -1,6 +1,5 @@
 -- `fractions_ok` tests the eight pairs. The loop keeps that the test of the pairs left is the test of all; each turn leaves one pair fewer. Assumes nothing.
 use mathlib.Core.Path.{refl}
-use Prim.Native.Nat.{◌-◌}
 use native.Mathlib.Omega.{arith}
 use borrow.Author.Rules.{rules}
 use Rattle.part_and_index.proofs.Corners.{one_fails, one_passes, all_pass}

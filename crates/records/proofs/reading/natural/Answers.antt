@@ -1,7 +1,6 @@
 -- `records::reading::natural` meets its contract. The loop's invariant: the number so far and the bytes still to come make what all bytes make; and
 -- the number stays small. The measure is the bytes still to come. Assumes nothing.
 use borrow.Author.Rules.{rules}
-use Prim.Native.Nat.{◌-◌}
 use native.Mathlib.Omega.{arith}
 use Rattle.records.proofs.Naturals.{next_small, small-number, no_byte, next_byte, all-bytes}
 use Rattle.records.proofs.reading.natural.Goals as goal
