@@ -30,11 +30,12 @@ pub fn script() -> &'static Path {
         fn atexit(call: extern "C" fn()) -> i32;
     }
     TREE.get_or_init(|| {
+        let program = built();
         let name = format!("dm_tree_of_{}_{}", env!("CARGO_CRATE_NAME"), std::process::id());
         let tree = std::env::temp_dir().join(name);
         let _ = fs::remove_dir_all(&tree);
         laid_out(&tree);
-        fs::copy(built(), tree.join("crates/dm/out/dm")).expect("the program");
+        fs::copy(program, tree.join("crates/dm/out/dm")).expect("the program");
         // SAFETY: the call is the C library's own, and what it is given ends without a panic.
         unsafe { atexit(remove) };
         tree.join("dm")
