@@ -22,7 +22,7 @@ due_at (Index.due_b bs cs) = IndexB bs cs
 due_at (Index.due_c cs) = IndexC cs
 due_at Index.over = Over
 
--- behind a whole record: what is due there does not ask for the level, the unit and the wholes, which are 0 and none here (proofs/DueLaws: due-phase)
+-- behind a whole record: what is due there does not ask for the level, the unit and the wholes, which are 0 and none here (proofs/DueLaws: due_phase)
 abbrev pub next_of_whole : Due → List ℕ → Due
 next_of_whole SheetA r = due_in (Sheet.after Sheet.due_a r)
 next_of_whole (SheetB sets) r = due_in (Sheet.after (Sheet.due_b 0 sets) r)
