@@ -180,15 +180,15 @@ layer_entry_tells answers (refuses {n}) e = let z : 0 ≡ suc n = ap (λ (r : Zv
 layer_entry_tells (refuses {n}) answers e = let z : suc n ≡ 0 = ap (λ (r : ZvLayerEntry). r.refusal) e in absurd (omega arith)
 layer_entry_tells refuses refuses e = ap₂ refused (ap (λ (r : ZvLayerEntry). r.refusal) e) (ap (λ (r : ZvLayerEntry). r.at) e)
 
-same-column : {s w l s' w' l' : ℕ} {v g v' g' : ℤ} → s ≡ s' → w ≡ w' → l ≡ l' → v ≡ v' → g ≡ g' → Described.Column s w l v g ≡ Described.Column s' w' l' v' g'
+same-column : {s w l s' w' l' : ℕ} {v g v' g' : ℤ} → s ≡ s' → w ≡ w' → l ≡ l' → v ≡ v' → g ≡ g' → ◌≡◌ {A = Described} (record { start = s; width = w; letter = l; least = v; greatest = g }) (record { start = s'; width = w'; letter = l'; least = v'; greatest = g' })
 same-column e f h i j = rw (e, f, h, i, j)
 
 -- a column's struct, of all that the call tells of it
 pub column_tells : {a b : Answer Col} → Numbered a → Numbered b → column_of (described_of a) ≡ column_of (described_of b) → described_of a ≡ described_of b
 unfolding described_of
 column_tells answers answers e =
-    same-column (ap (λ (r : ZvColumn). r.start) e) (ap (λ (r : ZvColumn). r.width) e) (ap (λ (r : ZvColumn). r.content) e)
-    (ap (λ (r : ZvColumn). r.least) e) (ap (λ (r : ZvColumn). r.greatest) e)
+    ap given (same-column (ap (λ (r : ZvColumn). r.start) e) (ap (λ (r : ZvColumn). r.width) e) (ap (λ (r : ZvColumn). r.content) e)
+    (ap (λ (r : ZvColumn). r.least) e) (ap (λ (r : ZvColumn). r.greatest) e))
 column_tells answers (refuses {n}) e = let z : 0 ≡ suc n = ap (λ (r : ZvColumn). r.refusal) e in absurd (omega arith)
 column_tells (refuses {n}) answers e = let z : suc n ≡ 0 = ap (λ (r : ZvColumn). r.refusal) e in absurd (omega arith)
-column_tells refuses refuses e = ap₂ Described.Refused (ap (λ (r : ZvColumn). r.refusal) e) (ap (λ (r : ZvColumn). r.at) e)
+column_tells refuses refuses e = ap₂ refused (ap (λ (r : ZvColumn). r.refusal) e) (ap (λ (r : ZvColumn). r.at) e)

@@ -50,10 +50,10 @@ abbrev pub layer_entry_of : Answer LayerEntry → ZvLayerEntry
 layer_entry_of (given l) = record { refusal = 0; at = 0; header = l.header; total = l.total; last = l.last }
 layer_entry_of (refused number at) = record { refusal = number; at = at; header = 0; total = 0; last = 0 }
 
-abbrev pub column_of : Described → ZvColumn
-column_of (Described.Column start width letter least greatest) =
-    record { refusal = 0; at = 0; start = start; width = width; content = letter; least = least; greatest = greatest }
-column_of (Described.Refused number at) =
+abbrev pub column_of : Answer Described → ZvColumn
+column_of (given d) =
+    record { refusal = 0; at = 0; start = d.start; width = d.width; content = d.letter; least = d.least; greatest = d.greatest }
+column_of (refused number at) =
     record { refusal = number; at = at; start = 0; width = 0; content = 0; least = pos 0; greatest = pos 0 }
 
 -- a call that writes: its answer, and all bytes of the lent buffer afterwards

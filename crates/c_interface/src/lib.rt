@@ -2,6 +2,7 @@
 //
 // In each answer `refusal` is 0, or the number of the refusal, `at` the record that the refusal names, 0 where it names none; the other
 // fields hold the values of an accepted call, and 0 for a refused one.
+// Kept: a number for the refusal beside the values, and the used length beside the buffer: the C interface needs both, since C has no Result and no slice.
 #![tactic(auto)]
 
 ghost use Rattle.std.specs.Prelude.{◌≡◌};
@@ -12,24 +13,24 @@ ghost use Rattle.format.specs.Above.{up};
 ghost use Rattle.format.specs.Calls.{insert, remove};
 ghost use Rattle.format.specs.Run.{call};
 ghost use Rattle.format.specs.Normal.{normal_sheet, normal_index};
-ghost use Rattle.format.specs.Answers.{number_answer, written_answer, parts_answer, judged_answer, way_up_answer, edited_answer};
+ghost use Rattle.format.specs.Answers.{number_answer, written_answer, parts_answer, judged_answer, way_up_answer};
 ghost use Rattle.format.specs.Program.{report_to};
 ghost use Rattle.format_lines.specs.LineEnds.{judge_sheet_lines, judge_index_lines, to_lines, from_lines};
 ghost use Rattle.format_directory.specs.declared.Edition.TheVariants.{One, Two};
 ghost use Rattle.format_directory.specs.Directory.{judge_directory, append_directory, jump, judge_either_edition, jump_either_edition};
 ghost use Rattle.format_directory.specs.Answers.{jumped_answer, jumped_either_answer};
-ghost use Rattle.format_words.specs.Words.{refusal_to, layout_column, described_of, name_to};
+ghost use Rattle.format_words.specs.Words.{refusal_to, layout_column, described_of, described_answer, name_to};
 ghost use Rattle.c_interface.specs.Interface.{version, number_of, corner_of, counts_of, length_of, way_of, layer_of, layer_entry_of, column_of, wrote_of, edited_of};
 
-use format::{Edited, Judged, Number, Parts, WayUp, Written};
-use format_directory::{Jumped, JumpedEither};
+use format::{Corner, Counts, HeaderAbove, Refusal};
+use format_directory::LayerEntry;
 use format_words::Described;
 
 // The version: 10,000 times the major number, 100 times the minor one, and the patch.
 const VERSION: u64 = 500;
 
 #[repr(C)]
-#[derive(Clone, Copy)]
+#[derive(Clone, Copy, PartialEq, Eq, Debug)]
 pub struct ZvNumber {
     pub refusal: u64,
     pub at: usize,
@@ -37,7 +38,7 @@ pub struct ZvNumber {
 }
 
 #[repr(C)]
-#[derive(Clone, Copy)]
+#[derive(Clone, Copy, PartialEq, Eq, Debug)]
 pub struct ZvCorner {
     pub refusal: u64,
     pub at: usize,
@@ -46,7 +47,7 @@ pub struct ZvCorner {
 }
 
 #[repr(C)]
-#[derive(Clone, Copy)]
+#[derive(Clone, Copy, PartialEq, Eq, Debug)]
 pub struct ZvCounts {
     pub refusal: u64,
     pub at: usize,
@@ -55,7 +56,7 @@ pub struct ZvCounts {
 }
 
 #[repr(C)]
-#[derive(Clone, Copy)]
+#[derive(Clone, Copy, PartialEq, Eq, Debug)]
 pub struct ZvLength {
     pub refusal: u64,
     pub at: usize,
@@ -64,7 +65,7 @@ pub struct ZvLength {
 
 // `header` is 0 where no header stands above.
 #[repr(C)]
-#[derive(Clone, Copy)]
+#[derive(Clone, Copy, PartialEq, Eq, Debug)]
 pub struct ZvWay {
     pub refusal: u64,
     pub at: usize,
@@ -73,7 +74,7 @@ pub struct ZvWay {
 }
 
 #[repr(C)]
-#[derive(Clone, Copy)]
+#[derive(Clone, Copy, PartialEq, Eq, Debug)]
 pub struct ZvLayer {
     pub refusal: u64,
     pub at: usize,
@@ -82,7 +83,7 @@ pub struct ZvLayer {
 
 // `total` and `last` are 0 for a directory of the first edition, which does not state them.
 #[repr(C)]
-#[derive(Clone, Copy)]
+#[derive(Clone, Copy, PartialEq, Eq, Debug)]
 pub struct ZvLayerEntry {
     pub refusal: u64,
     pub at: usize,
@@ -93,7 +94,7 @@ pub struct ZvLayerEntry {
 
 // `content` is the letter for what may stand in the column.
 #[repr(C)]
-#[derive(Clone, Copy)]
+#[derive(Clone, Copy, PartialEq, Eq, Debug)]
 pub struct ZvColumn {
     pub refusal: u64,
     pub at: usize,
@@ -104,7 +105,196 @@ pub struct ZvColumn {
     pub greatest: i64,
 }
 
+// ---- the answers as structs
+
+#[tactic(auto, unfolding(format::specs::Answers::number_answer))]
+impl From<Result<i64, Refusal>> for ZvNumber {
+    ghost from_gives = { λ answer told. told ≡ number_of (number_answer answer) };
+
+    fn from(answer: Result<i64, Refusal>) -> Self {
+        match answer {
+            Ok(value) => ZvNumber {
+                refusal: 0,
+                at: 0,
+                value,
+            },
+            Err(Refusal { reason, at }) => ZvNumber {
+                refusal: u64::from(reason.number()),
+                at,
+                value: 0,
+            },
+        }
+    }
+}
+
+#[tactic(auto, unfolding(format::specs::Answers::parts_answer))]
+impl From<Result<Corner, Refusal>> for ZvCorner {
+    ghost from_gives = { λ answer told. told ≡ corner_of (parts_answer answer) };
+
+    fn from(answer: Result<Corner, Refusal>) -> Self {
+        match answer {
+            Ok(corner) => ZvCorner {
+                refusal: 0,
+                at: 0,
+                whole: corner.whole,
+                fraction: corner.fraction,
+            },
+            Err(Refusal { reason, at }) => ZvCorner {
+                refusal: u64::from(reason.number()),
+                at,
+                whole: 0,
+                fraction: 0,
+            },
+        }
+    }
+}
+
+#[tactic(auto, unfolding(format::specs::Answers::written_answer))]
+impl From<Result<usize, Refusal>> for ZvLength {
+    ghost from_gives = { λ answer told. told ≡ length_of (written_answer answer) };
+
+    fn from(answer: Result<usize, Refusal>) -> Self {
+        match answer {
+            Ok(length) => ZvLength {
+                refusal: 0,
+                at: 0,
+                length,
+            },
+            Err(Refusal { reason, at }) => ZvLength {
+                refusal: u64::from(reason.number()),
+                at,
+                length: 0,
+            },
+        }
+    }
+}
+
+#[tactic(auto, unfolding(format::specs::Answers::judged_answer))]
+impl From<Result<Counts, Refusal>> for ZvCounts {
+    ghost from_gives = { λ answer told. told ≡ counts_of (judged_answer answer) };
+
+    fn from(answer: Result<Counts, Refusal>) -> Self {
+        match answer {
+            Ok(counts) => ZvCounts {
+                refusal: 0,
+                at: 0,
+                records: counts.records,
+                items: counts.items,
+            },
+            Err(Refusal { reason, at }) => ZvCounts {
+                refusal: u64::from(reason.number()),
+                at,
+                records: 0,
+                items: 0,
+            },
+        }
+    }
+}
+
+#[tactic(auto, unfolding(format::specs::Answers::way_up_answer))]
+impl From<Result<Option<HeaderAbove>, Refusal>> for ZvWay {
+    ghost from_gives = { λ answer told. told ≡ way_of (way_up_answer answer) };
+
+    fn from(answer: Result<Option<HeaderAbove>, Refusal>) -> Self {
+        match answer {
+            Ok(Some(above)) => ZvWay {
+                refusal: 0,
+                at: 0,
+                header: above.header,
+                passed: usize::from(above.passed),
+            },
+            Ok(None) => ZvWay {
+                refusal: 0,
+                at: 0,
+                header: 0,
+                passed: 0,
+            },
+            Err(Refusal { reason, at }) => ZvWay {
+                refusal: u64::from(reason.number()),
+                at,
+                header: 0,
+                passed: 0,
+            },
+        }
+    }
+}
+
+#[tactic(auto, unfolding(format_directory::specs::Answers::jumped_answer))]
+impl From<Result<usize, Refusal>> for ZvLayer {
+    ghost from_gives = { λ answer told. told ≡ layer_of (jumped_answer answer) };
+
+    fn from(answer: Result<usize, Refusal>) -> Self {
+        match answer {
+            Ok(found) => ZvLayer {
+                refusal: 0,
+                at: 0,
+                header: found,
+            },
+            Err(Refusal { reason, at }) => ZvLayer {
+                refusal: u64::from(reason.number()),
+                at,
+                header: 0,
+            },
+        }
+    }
+}
+
+#[tactic(auto, unfolding(format_directory::specs::Answers::jumped_either_answer))]
+impl From<Result<LayerEntry, Refusal>> for ZvLayerEntry {
+    ghost from_gives = { λ answer told. told ≡ layer_entry_of (jumped_either_answer answer) };
+
+    fn from(answer: Result<LayerEntry, Refusal>) -> Self {
+        match answer {
+            Ok(layer) => ZvLayerEntry {
+                refusal: 0,
+                at: 0,
+                header: layer.header,
+                total: layer.total,
+                last: layer.last,
+            },
+            Err(Refusal { reason, at }) => ZvLayerEntry {
+                refusal: u64::from(reason.number()),
+                at,
+                header: 0,
+                total: 0,
+                last: 0,
+            },
+        }
+    }
+}
+
+#[tactic(auto, unfolding(format_words::specs::Words::described_answer))]
+impl From<Result<Described, Refusal>> for ZvColumn {
+    ghost from_gives = { λ answer told. told ≡ column_of (described_answer answer) };
+
+    fn from(answer: Result<Described, Refusal>) -> Self {
+        match answer {
+            Ok(column) => ZvColumn {
+                refusal: 0,
+                at: 0,
+                start: column.start,
+                width: column.width,
+                content: u64::from(column.letter),
+                least: column.least,
+                greatest: column.greatest,
+            },
+            Err(Refusal { reason, at }) => ZvColumn {
+                refusal: u64::from(reason.number()),
+                at,
+                start: 0,
+                width: 0,
+                content: 0,
+                least: 0,
+                greatest: 0,
+            },
+        }
+    }
+}
+
+// ---- the calls
+
 // The version of the library that answers.
+#[tactic(auto, unfolding(crate::specs::Interface::version))]
 #[unsafe(no_mangle)]
 pub extern "C" fn zv_version() -> u64
     ensures { result ≡ version }
@@ -112,65 +302,12 @@ pub extern "C" fn zv_version() -> u64
     VERSION
 }
 
-fn number(answer: Number) -> ZvNumber
-    ensures { result ≡ number_of (number_answer answer) }
-{
-    match answer {
-        Number::Is(value) => ZvNumber {
-            refusal: 0,
-            at: 0,
-            value,
-        },
-        Number::Refused(refusal, at) => ZvNumber {
-            refusal: refusal as u64,
-            at,
-            value: 0,
-        },
-    }
-}
-
-fn corner(answer: Parts) -> ZvCorner
-    ensures { result ≡ corner_of (parts_answer answer) }
-{
-    match answer {
-        Parts::Corner(whole, fraction) => ZvCorner {
-            refusal: 0,
-            at: 0,
-            whole,
-            fraction,
-        },
-        Parts::Refused(refusal, at) => ZvCorner {
-            refusal: refusal as u64,
-            at,
-            whole: 0,
-            fraction: 0,
-        },
-    }
-}
-
-fn length(answer: Written) -> ZvLength
-    ensures { result ≡ length_of (written_answer answer) }
-{
-    match answer {
-        Written::Bytes(length) => ZvLength {
-            refusal: 0,
-            at: 0,
-            length,
-        },
-        Written::Refused(refusal, at) => ZvLength {
-            refusal: refusal as u64,
-            at,
-            length: 0,
-        },
-    }
-}
-
 // A column read alone.
 #[unsafe(no_mangle)]
 pub extern "C" fn zv_read_column(column: &[u8]) -> ZvNumber
     ensures { result ≡ number_of (read_alone column.now) }
 {
-    number(columns::read(column))
+    ZvNumber::from(columns::read(column))
 }
 
 // A column written alone: the answer's length is the column's.
@@ -178,7 +315,7 @@ pub extern "C" fn zv_read_column(column: &[u8]) -> ZvNumber
 pub extern "C" fn zv_write_column(column: &mut [u8], value: i64) -> ZvLength
     ensures { record { result = result; bytes = column.new } ≡ wrote_of (write_alone column.old value) }
 {
-    length(columns::write(column, value))
+    ZvLength::from(columns::write(column, value))
 }
 
 // A corner joined to millimetres.
@@ -186,7 +323,7 @@ pub extern "C" fn zv_write_column(column: &mut [u8], value: i64) -> ZvLength
 pub extern "C" fn zv_join_corner(unit: u64, whole: i64, fraction: i64) -> ZvNumber
     ensures { result ≡ number_of (join unit whole fraction) }
 {
-    number(corners::join(unit, whole, fraction))
+    ZvNumber::from(corners::join(unit, whole, fraction))
 }
 
 // Millimetres split into a corner.
@@ -194,27 +331,7 @@ pub extern "C" fn zv_join_corner(unit: u64, whole: i64, fraction: i64) -> ZvNumb
 pub extern "C" fn zv_split_corner(unit: u64, millimetres: i64) -> ZvCorner
     ensures { result ≡ corner_of (split unit millimetres) }
 {
-    corner(corners::split(unit, millimetres))
-}
-
-// A judgement as numbers.
-fn counts(judged: Judged) -> ZvCounts
-    ensures { result ≡ counts_of (judged_answer judged) }
-{
-    match judged {
-        Judged::Accepted(records, items) => ZvCounts {
-            refusal: 0,
-            at: 0,
-            records,
-            items,
-        },
-        Judged::Refused(number, at) => ZvCounts {
-            refusal: number as u64,
-            at,
-            records: 0,
-            items: 0,
-        },
-    }
+    ZvCorner::from(corners::split(unit, millimetres))
 }
 
 // A sheet judged, and an index.
@@ -222,14 +339,14 @@ fn counts(judged: Judged) -> ZvCounts
 pub extern "C" fn zv_judge_sheet(buffer: &[u8], used: usize) -> ZvCounts
     ensures { result ≡ counts_of (judge_sheet used buffer.now) }
 {
-    counts(judge::judge_sheet(buffer, used))
+    ZvCounts::from(judge::judge_sheet(buffer, used))
 }
 
 #[unsafe(no_mangle)]
 pub extern "C" fn zv_judge_index(buffer: &[u8], used: usize) -> ZvCounts
     ensures { result ≡ counts_of (judge_index used buffer.now) }
 {
-    counts(judge::judge_index(buffer, used))
+    ZvCounts::from(judge::judge_index(buffer, used))
 }
 
 // A sheet with line ends judged, and an index.
@@ -237,14 +354,14 @@ pub extern "C" fn zv_judge_index(buffer: &[u8], used: usize) -> ZvCounts
 pub extern "C" fn zv_judge_sheet_lines(buffer: &[u8], used: usize) -> ZvCounts
     ensures { result ≡ counts_of (judge_sheet_lines used buffer.now) }
 {
-    counts(line_ends::judge_sheet_lines(buffer, used))
+    ZvCounts::from(line_ends::judge_sheet_lines(buffer, used))
 }
 
 #[unsafe(no_mangle)]
 pub extern "C" fn zv_judge_index_lines(buffer: &[u8], used: usize) -> ZvCounts
     ensures { result ≡ counts_of (judge_index_lines used buffer.now) }
 {
-    counts(line_ends::judge_index_lines(buffer, used))
+    ZvCounts::from(line_ends::judge_index_lines(buffer, used))
 }
 
 // A file written to a target with line ends, and one with line ends without them: the answer's length is the written file's.
@@ -252,39 +369,14 @@ pub extern "C" fn zv_judge_index_lines(buffer: &[u8], used: usize) -> ZvCounts
 pub extern "C" fn zv_to_lines(buffer: &[u8], used: usize, target: &mut [u8]) -> ZvLength
     ensures { record { result = result; bytes = target.new } ≡ wrote_of (to_lines used buffer.now target.old) }
 {
-    length(line_ends::to_lines(buffer, used, target))
+    ZvLength::from(line_ends::to_lines(buffer, used, target))
 }
 
 #[unsafe(no_mangle)]
 pub extern "C" fn zv_from_lines(buffer: &[u8], used: usize, target: &mut [u8]) -> ZvLength
     ensures { record { result = result; bytes = target.new } ≡ wrote_of (from_lines used buffer.now target.old) }
 {
-    length(line_ends::from_lines(buffer, used, target))
-}
-
-fn way(answer: WayUp) -> ZvWay
-    ensures { result ≡ way_of (way_up_answer answer) }
-{
-    match answer {
-        WayUp::Header(header, passed) => ZvWay {
-            refusal: 0,
-            at: 0,
-            header,
-            passed: passed as usize,
-        },
-        WayUp::LayerHeader => ZvWay {
-            refusal: 0,
-            at: 0,
-            header: 0,
-            passed: 0,
-        },
-        WayUp::Refused(refusal, at) => ZvWay {
-            refusal: refusal as u64,
-            at,
-            header: 0,
-            passed: 0,
-        },
-    }
+    ZvLength::from(line_ends::from_lines(buffer, used, target))
 }
 
 // The header above a record of a sheet, and the headers passed up to its layer.
@@ -292,7 +384,7 @@ fn way(answer: WayUp) -> ZvWay
 pub extern "C" fn zv_way_up(buffer: &[u8], used: usize, number: usize) -> ZvWay
     ensures { result ≡ way_of (up used buffer.now number) }
 {
-    way(way_up::way_up(buffer, used, number))
+    ZvWay::from(way_up::way_up(buffer, used, number))
 }
 
 // The normal form of a sheet, and of an index, written to a second buffer: the answer's length is the file's.
@@ -300,48 +392,33 @@ pub extern "C" fn zv_way_up(buffer: &[u8], used: usize, number: usize) -> ZvWay
 pub extern "C" fn zv_normal_sheet(buffer: &[u8], used: usize, second: &mut [u8]) -> ZvLength
     ensures { record { result = result; bytes = second.new } ≡ wrote_of (normal_sheet used buffer.now second.old) }
 {
-    length(normal::normal_sheet(buffer, used, second))
+    ZvLength::from(normal::normal_sheet(buffer, used, second))
 }
 
 #[unsafe(no_mangle)]
 pub extern "C" fn zv_normal_index(buffer: &[u8], used: usize, second: &mut [u8]) -> ZvLength
     ensures { record { result = result; bytes = second.new } ≡ wrote_of (normal_index used buffer.now second.old) }
 {
-    length(normal::normal_index(buffer, used, second))
-}
-
-fn edited(answer: Edited) -> ZvLength
-    ensures { result ≡ length_of (edited_answer answer) }
-{
-    match answer {
-        Edited::Used(length) => ZvLength {
-            refusal: 0,
-            at: 0,
-            length,
-        },
-        Edited::Refused(refusal, at) => ZvLength {
-            refusal: refusal as u64,
-            at,
-            length: 0,
-        },
-    }
+    ZvLength::from(normal::normal_index(buffer, used, second))
 }
 
 // A block inserted into a sheet before a record, or at its end; and the item at a record removed. The answer's length is the new used length.
+#[tactic(auto, using(crate::proofs::Laws::edits))]
 #[unsafe(no_mangle)]
 pub extern "C" fn zv_insert(buffer: &mut [u8], used: usize, place: usize, block: &[u8]) -> ZvLength
     ensures { record { result = result; bytes = buffer.new }
         ≡ edited_of (call (insert place block.now) (record { bytes = buffer.old; used = used })) }
 {
-    edited(edit::insert(buffer, used, place, block))
+    ZvLength::from(edit::insert(buffer, used, place, block))
 }
 
+#[tactic(auto, using(crate::proofs::Laws::edits))]
 #[unsafe(no_mangle)]
 pub extern "C" fn zv_remove(buffer: &mut [u8], used: usize, place: usize) -> ZvLength
     ensures { record { result = result; bytes = buffer.new }
         ≡ edited_of (call (remove place) (record { bytes = buffer.old; used = used })) }
 {
-    edited(edit::remove(buffer, used, place))
+    ZvLength::from(edit::remove(buffer, used, place))
 }
 
 // A sheet with a directory of its layers judged; and one appended to a sheet: the answer's length is the new used length.
@@ -349,31 +426,14 @@ pub extern "C" fn zv_remove(buffer: &mut [u8], used: usize, place: usize) -> ZvL
 pub extern "C" fn zv_judge_directory(buffer: &[u8], used: usize) -> ZvCounts
     ensures { result ≡ counts_of (judge_directory used buffer.now) }
 {
-    counts(directories::judge_directory(buffer, used))
+    ZvCounts::from(directories::judge_directory(buffer, used))
 }
 
 #[unsafe(no_mangle)]
 pub extern "C" fn zv_append_directory(buffer: &mut [u8], used: usize) -> ZvLength
     ensures { record { result = result; bytes = buffer.new } ≡ wrote_of (append_directory One used buffer.old) }
 {
-    edited(directories::append_directory(buffer, used))
-}
-
-fn layer_struct(answer: Jumped) -> ZvLayer
-    ensures { result ≡ layer_of (jumped_answer answer) }
-{
-    match answer {
-        Jumped::Header(found) => ZvLayer {
-            refusal: 0,
-            at: 0,
-            header: found,
-        },
-        Jumped::Refused(refusal, at) => ZvLayer {
-            refusal: refusal as u64,
-            at,
-            header: 0,
-        },
-    }
+    ZvLength::from(directories::append_directory(buffer, used))
 }
 
 // The header of a layer, counted from 1, by the directory of the sheet.
@@ -381,7 +441,7 @@ fn layer_struct(answer: Jumped) -> ZvLayer
 pub extern "C" fn zv_jump(buffer: &[u8], used: usize, layer: usize) -> ZvLayer
     ensures { result ≡ layer_of (jump used buffer.now layer) }
 {
-    layer_struct(directories::jump(buffer, used, layer))
+    ZvLayer::from(directories::jump(buffer, used, layer))
 }
 
 // A sheet with a directory of either edition judged; and one of the second edition appended to a sheet: the answer's length is the new used length.
@@ -389,35 +449,14 @@ pub extern "C" fn zv_jump(buffer: &[u8], used: usize, layer: usize) -> ZvLayer
 pub extern "C" fn zv_judge_either_edition(buffer: &[u8], used: usize) -> ZvCounts
     ensures { result ≡ counts_of (judge_either_edition used buffer.now) }
 {
-    counts(directories::judge_either_edition(buffer, used))
+    ZvCounts::from(directories::judge_either_edition(buffer, used))
 }
 
 #[unsafe(no_mangle)]
 pub extern "C" fn zv_append_second_edition(buffer: &mut [u8], used: usize) -> ZvLength
     ensures { record { result = result; bytes = buffer.new } ≡ wrote_of (append_directory Two used buffer.old) }
 {
-    edited(directories::append_second_edition(buffer, used))
-}
-
-fn layer_entry(answer: JumpedEither) -> ZvLayerEntry
-    ensures { result ≡ layer_entry_of (jumped_either_answer answer) }
-{
-    match answer {
-        JumpedEither::Layer(begin, items, end) => ZvLayerEntry {
-            refusal: 0,
-            at: 0,
-            header: begin,
-            total: items,
-            last: end,
-        },
-        JumpedEither::Refused(refusal, at) => ZvLayerEntry {
-            refusal: refusal as u64,
-            at,
-            header: 0,
-            total: 0,
-            last: 0,
-        },
-    }
+    ZvLength::from(directories::append_second_edition(buffer, used))
 }
 
 // The header of a layer, counted from 1, with its total of items and its last record, by the directory of either edition.
@@ -425,7 +464,7 @@ fn layer_entry(answer: JumpedEither) -> ZvLayerEntry
 pub extern "C" fn zv_jump_either_edition(buffer: &[u8], used: usize, layer: usize) -> ZvLayerEntry
     ensures { result ≡ layer_entry_of (jump_either_edition used buffer.now layer) }
 {
-    layer_entry(directories::jump_either_edition(buffer, used, layer))
+    ZvLayerEntry::from(directories::jump_either_edition(buffer, used, layer))
 }
 
 // The line that the program prints on an input, put at the start of a buffer: the answer's length is the line's, its end included. 65 bytes always hold it.
@@ -433,7 +472,7 @@ pub extern "C" fn zv_jump_either_edition(buffer: &[u8], used: usize, layer: usiz
 pub extern "C" fn zv_report(input: &[u8], out: &mut [u8]) -> ZvLength
     ensures { record { result = result; bytes = out.new } ≡ wrote_of (report_to input.now out.old) }
 {
-    length(report::report(input, out))
+    ZvLength::from(report::report(input, out))
 }
 
 // The words of a refusal, put at the start of a buffer: the answer's length is theirs.
@@ -441,32 +480,7 @@ pub extern "C" fn zv_report(input: &[u8], out: &mut [u8]) -> ZvLength
 pub extern "C" fn zv_refusal_text(number: u64, out: &mut [u8]) -> ZvLength
     ensures { record { result = result; bytes = out.new } ≡ wrote_of (refusal_to number out.old) }
 {
-    length(words::refusal_text(number, out))
-}
-
-fn column_struct(described: Described) -> ZvColumn
-    ensures { result ≡ column_of described }
-{
-    match described {
-        Described::Column(start, width, letter, least, greatest) => ZvColumn {
-            refusal: 0,
-            at: 0,
-            start,
-            width,
-            content: letter as u64,
-            least,
-            greatest,
-        },
-        Described::Refused(refusal, at) => ZvColumn {
-            refusal: refusal as u64,
-            at,
-            start: 0,
-            width: 0,
-            content: 0,
-            least: 0,
-            greatest: 0,
-        },
-    }
+    ZvLength::from(words::refusal_text(number, out))
 }
 
 // A column of a layout, both numbered from 1; and its name, put at the start of a buffer: the answer's length is the name's.
@@ -474,12 +488,12 @@ fn column_struct(described: Described) -> ZvColumn
 pub extern "C" fn zv_layout_column(layout: usize, column: usize) -> ZvColumn
     ensures { result ≡ column_of (described_of (layout_column layout column)) }
 {
-    column_struct(words::layout_column(layout, column))
+    ZvColumn::from(words::layout_column(layout, column))
 }
 
 #[unsafe(no_mangle)]
 pub extern "C" fn zv_column_name(layout: usize, column: usize, out: &mut [u8]) -> ZvLength
     ensures { record { result = result; bytes = out.new } ≡ wrote_of (name_to (layout_column layout column) out.old) }
 {
-    length(words::column_name(layout, column, out))
+    ZvLength::from(words::column_name(layout, column, out))
 }

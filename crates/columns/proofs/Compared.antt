@@ -1,22 +1,21 @@
 -- `is_filled` and `is_written_at` in the code's own words, and what callers cite of them. Assumes nothing.
 use mathlib.Core.Path.{◌≡◌, refl, ap, ap₂, sym, ◌∙◌}
 use mathlib.Core.Bool.{Bool, true, false, ◌&&◌, and_assoc, and-true, and-false}
+use Rattle.std.specs.Prelude.{Option, Some, None}
 use mathlib.Core.List.{List, [], ◌∷◌, ◌++◌}
 use Prim.Native.Nat.{ℕ, zero, suc, ◌+◌, ◌-◌, ◌≤◌, ◌<◌}
 use native.Mathlib.Nat.{add-sub_cancel_left, not-suc-le-zero}
 use native.Mathlib.Omega.{arith}
-use borrow.Author.Tests.{le-leb, lt-leb}
-use lib.Dec.{eqb}
+use borrow.Author.Tests.{leb-true}
+use lib.Dec.{eqb, leb}
 use lib.IntN.{ℤ}
 use lib.ListN.{length, length-append, take, drop, get_or, length-drop}
-use lib.Seq.{length-take-le, take-length, take-suc}
+use lib.Seq.{length-take-le, take-suc}
 use mir.Syntax.{w64}
 use mir.Val.{SFits, to_z, of_z}
 use Rattle.format.specs.Text.{same}
 use Rattle.format.specs.Layout.{column}
 use Rattle.columns.specs.declared.Rest.{Rest}
-use Rattle.columns.specs.declared.Choice.{Choice}
-use Rattle.columns.specs.declared.Choice.TheVariants.{Write, Refuse}
 use Rattle.columns.specs.WriteSteps.{byte_of, before_of, filled, choice_of}
 use Rattle.columns.specs.InRecord.{is_written_at}
 use Rattle.columns.proofs.Choosing.{refusal, allowance, told}
@@ -34,9 +33,6 @@ length-filled zero s = refl
 length-filled (suc w) s = length-append (filled w (before_of s)) (byte_of s ∷ []) ∙ (omega (arith, length-filled w (before_of s)))
 
 module _ (l : List ℕ) (s : Rest) where
-  pub none_compared : same (take (length l) l) (filled (length l) s) ≡ same l (filled (length l) s)
-  none_compared = ap (λ (x : List ℕ). same x (filled (length l) s)) (take-length l)
-
   one_less : (j : ℕ) → suc j ≤ length l → same (take (suc j) l) (filled (suc j) s) ≡ same (take j l) (filled j (before_of s)) && eqb (get_or l j 0) (byte_of s)
   unfolding filled
   one_less j h = ap (λ (x : List ℕ). same x (filled j (before_of s) ++ (byte_of s ∷ []))) (take-suc l j 0 h) ∙ same-last (take j l) (filled j (before_of s)) (get_or l j 0) (byte_of s) (length-take-le j l (omega arith) ∙ sym (length-filled j (before_of s)))
@@ -60,27 +56,22 @@ module _ (l : List ℕ) (s : Rest) where
   all_compared (suc i) equal whole h e = absurd (not-suc-le-zero h)
 
 -- ---- `is_written_at`
-module _ (l : List ℕ) (start width : ℕ) (z : ℤ) where
-  outside : length l < start + width → false ≡ is_written_at l start width z
+module _ (l : List ℕ) (start width : ℕ) (z : ℤ) (b : Bool) (eb : b ≡ leb (start + width) (length l)) where
+  pub not_inside : b ≡ false → false ≡ is_written_at l start width z
   unfolding is_written_at
-  outside h = simp (lt-leb (start + width) (length l) h, and-false)
+  not_inside h = rw (sym eb ∙ h, and-false)
 
-  pub starts_past_it : length l < start → false ≡ is_written_at l start width z
-  starts_past_it h = outside (omega arith)
+  part_length : start + width ≤ length l → length (take (start + width - start) (drop start l)) ≡ width
+  part_length h = rw (add-sub_cancel_left start width) (length-take-le width (drop start l) (rw (length-drop start l) (omega arith)))
 
-  pub ends_past_it : start ≤ length l → length l - start < width → false ≡ is_written_at l start width z
-  ends_past_it h k = outside (omega arith)
-
-  part_length : start ≤ length l → width ≤ length l - start → length (take (start + width - start) (drop start l)) ≡ width
-  part_length h k = rw (add-sub_cancel_left start width) (length-take-le width (drop start l) (rw (length-drop start l) k))
-
-  module _ (c : Choice) (f : SFits w64 z) (e : c ≡ choice_of width (to_z w64 (of_z w64 z))) where
-    pub not_allowed : c ≡ Refuse → false ≡ is_written_at l start width z
+  module _ (c : Option Rest) (f : SFits w64 z) (e : c ≡ choice_of width (to_z w64 (of_z w64 z))) where
+    pub not_allowed : c ≡ None → false ≡ is_written_at l start width z
     unfolding is_written_at
-    not_allowed g = simp (refusal width z (told width z c Refuse f e g))
+    not_allowed g = simp (refusal width z (told width z c None f e g))
 
-    pub is_compared : (s : Rest) (t : Bool) → c ≡ Write s → t ≡ same (take (start + width - start) (drop start l)) (filled (length (take (start + width - start) (drop start l))) s) → start ≤ length l → width ≤ length l - start → t ≡ is_written_at l start width z
+    pub is_compared : (s : Rest) (t : Bool) → c ≡ Some s → t ≡ same (take (start + width - start) (drop start l)) (filled (length (take (start + width - start) (drop start l))) s) → b ≡ true → t ≡ is_written_at l start width z
     unfolding is_written_at column
-    is_compared s t g h j k =
-        let a = allowance width z s (told width z c (Write s) f e g) in
-        h ∙ ap₂ same (ap (λ (n : ℕ). take n (drop start l)) (add-sub_cancel_left start width)) (ap (λ (n : ℕ). filled n s) (part_length j k) ∙ a.form) ∙ simp (a.width_ok_lem, a.number_fits, le-leb (start + width) (length l) (omega arith))
+    is_compared s t g h j =
+        let room : start + width ≤ length l = leb-true (start + width) (length l) (sym eb ∙ j) in
+        let a = allowance width z s (told width z c (Some s) f e g) in
+        h ∙ ap₂ same (ap (λ (n : ℕ). take n (drop start l)) (add-sub_cancel_left start width)) (ap (λ (n : ℕ). filled n s) (part_length room) ∙ a.form) ∙ simp (a.width_ok_lem, a.number_fits, sym eb ∙ j)

@@ -1,5 +1,3 @@
-pub mod Numbers
-pub mod Steps
 pub mod Reading
 pub mod Writing
 pub mod Choosing

@@ -1,64 +1,37 @@
 -- The number of a column inside a record, in the code's own words, and that it is below its width's power of ten. Assumes nothing.
-use mathlib.Core.Path.{◌≡◌, refl, sym, ◌∙◌}
-use mathlib.Core.Bool.{Bool, true, false, cond, ◌&&◌, true≢false, false≢true}
+use mathlib.Core.Path.{◌≡◌, refl, ap, ◌∙◌}
+use mathlib.Core.Bool.{Bool, true, false, cond, ◌&&◌}
 use mathlib.Core.List.{List}
-use Prim.Native.Nat.{ℕ, ◌+◌, ◌^◌, ◌<◌}
+use Prim.Native.Nat.{ℕ, zero, suc, ◌+◌, ◌^◌, ◌<◌}
 use native.Mathlib.Nat.{pow-le-pow_right}
 use native.Mathlib.Omega.{arith}
-use borrow.Author.Tests.{leb-true}
-use lib.Dec.{leb, leb-suc-zero}
+use borrow.Author.Tests.{lt-ltb, leb-true}
+use lib.Dec.{leb}
 use lib.IntN.{ℤ, pos, negsuc, nat_abs}
 use lib.ListN.{length}
-use lib.Signed.{lt_z}
 use mir.Syntax.{w64}
-use mir.Val.{SFits, to_z, of_z}
-use Rattle.format.specs.declared.Column.{Column}
-use Rattle.format.specs.declared.Column.TheVariants.{Value, MinusZero, Malformed}
+use mir.Val.{SFits}
+use Rattle.std.specs.Int.{int_max}
+use Rattle.format.specs.declared.Column.TheVariants.{Malformed}
 use Rattle.format.specs.Column.{column_of, integer, size, number_of}
 use Rattle.format.specs.Layout.{column}
 use Rattle.format.proofs.Basics.{and-true}
 use Rattle.format.proofs.Columns.{number-below, length-column}
 use Rattle.columns.specs.InRecord.{column_at, number_in}
-use Rattle.format.proofs.Signed.{back, tested}
-
--- ---- `integer_at`
-
-other_tag : (r : Column) → ((z : ℤ) → r ≡ Value z → ⊥) → pos 0 ≡ integer r
-other_tag (Value z) h = absurd (h z refl)
-other_tag MinusZero h = refl
-other_tag Malformed h = refl
-
-integer_of : (r r' : Column) → r ≡ r' → integer r ≡ integer r'
-integer_of r r' e = rw e
-
-module _ (l : List ℕ) (start width : ℕ) where
-  pub no_integer : (r : Column) → r ≡ column_at l start width → ((z : ℤ) → r ≡ Value z → ⊥) → pos 0 ≡ integer (column_at l start width)
-  no_integer r e h = other_tag r h ∙ integer_of r (column_at l start width) e
-
-  pub an_integer : (r : Column) (z : ℤ) → r ≡ column_at l start width → r ≡ Value z → z ≡ integer (column_at l start width)
-  an_integer r z e v = integer_of (Value z) (column_at l start width) (sym v ∙ e)
+use Rattle.format.proofs.Signed.{stored, back}
 
 -- ---- `number_at`
 
-no_size : (z : ℤ) → lt_z z (pos 0) ≡ true → 0 ≡ size z
-no_size (pos n) t = absurd (false≢true (sym (leb-suc-zero n) ∙ t))
-no_size (negsuc n) t = refl
+size_is : (z : ℤ) → nat_abs (int_max z (pos 0)) ≡ size z
+size_is (pos zero) = refl
+size_is (pos (suc n)) = simp (lt-ltb 0 (suc n) (omega arith))
+size_is (negsuc n) = refl
 
-own-size : (z : ℤ) → lt_z z (pos 0) ≡ false → nat_abs z ≡ size z
-own-size (pos n) t = refl
-own-size (negsuc n) t = absurd (true≢false t)
-
-size_of : (y z : ℤ) → y ≡ z → size y ≡ size z
-size_of y z e = rw e
-
-module _ (l : List ℕ) (start width : ℕ) (z : ℤ) (e : z ≡ integer (column_at l start width)) (f : SFits w64 z) where
-  pub negative-number : lt_z (to_z w64 (of_z w64 z)) (pos 0) ≡ true → 0 ≡ number_in l start width
+-- m is the larger of a column's integer and 0
+module _ (l : List ℕ) (start width : ℕ) (z m : ℤ) (e : z ≡ integer (column_at l start width)) (f : SFits w64 z) (g : SFits w64 m) where
+  pub number_is : m ≡ int_max (stored z) (pos 0) → nat_abs (stored m) ≡ number_in l start width
   unfolding number_in
-  negative-number t = no_size z (tested z f true t) ∙ size_of z (integer (column_at l start width)) e
-
-  pub plain-number : lt_z (to_z w64 (of_z w64 z)) (pos 0) ≡ false → nat_abs (to_z w64 (of_z w64 z)) ≡ number_in l start width
-  unfolding number_in
-  plain-number t = rw (back z f) (own-size z (tested z f false t) ∙ size_of z (integer (column_at l start width)) e)
+  number_is h = rw (back m g, h, back z f) (size_is z ∙ ap size e)
 
 -- ---- its bound
 module _ (l : List ℕ) (start width : ℕ) where

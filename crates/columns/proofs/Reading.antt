@@ -7,10 +7,10 @@ use Prim.Native.Nat.{ℕ, suc, ◌+◌, ◌-◌, ◌*◌, ◌^◌, ◌<◌, ◌�
 use native.Mathlib.Nat.{add-zero, add-mul, mul_assoc, pow-succ', pow-suc, one-le-pow, pow-le-pow_right}
 use native.Mathlib.Numerals.{add-one}
 use native.Mathlib.Omega.{arith}
-use borrow.Author.Tests.{leb-true}
+use borrow.Author.Tests.{leb-true, ne_eqb}
 use lib.Dec.{eqb, leb, lit<}
 use lib.ListN.{length, drop, get_or, drop_of_length-le}
-use lib.Seq.{drop-cons}
+use lib.Seq.{drop-cons, drop-length}
 use Rattle.format.specs.declared.Column.{Column}
 use Rattle.format.specs.declared.Column.TheVariants.{Malformed}
 use Rattle.format.specs.Column.{strip, is_digit, all_digits, value_of, is_number, negative, positive, signed, column_of}
@@ -141,17 +141,18 @@ module _ (l : List ℕ) (i : ℕ) where
   here : i < length l → drop i l ≡ get_or l i 0 ∷ drop (i + 1) l
   here h = rw add-one (drop-cons l i 0 h)
 
-  pub one_space : i < length l → eqb (get_or l i 0) 32 ≡ true → strip (drop i l) ≡ strip l → strip (drop (i + 1) l) ≡ strip l
+  -- the first byte that is no space, or the end
+  pub one_space : i < length l → get_or l i 0 ≡ 32 → strip (drop i l) ≡ strip l → strip (drop (i + 1) l) ≡ strip l
   unfolding strip
   one_space h e k = simp (here h, e) at k
 
-  pub no_space_lem : i < length l → eqb (get_or l i 0) 32 ≡ false → strip (drop i l) ≡ strip l → drop i l ≡ strip l
+  pub no_space_lem : i < length l → (get_or l i 0 ≡ 32 → ⊥) → strip (drop i l) ≡ strip l → drop i l ≡ strip l
   unfolding strip
-  no_space_lem h e k = here h ∙ simp (here h, e) at k
+  no_space_lem h e k = here h ∙ simp (here h, ne_eqb _ _ e) at k
 
-  pub all-spaces : length l ≤ i → strip (drop i l) ≡ strip l → drop i l ≡ strip l
+  pub all-spaces : length l ≤ i → strip (drop i l) ≡ strip l → drop (length l) l ≡ strip l
   unfolding strip
-  all-spaces h k = drop_of_length-le l h ∙ rw (drop_of_length-le l h) at k
+  all-spaces h k = drop-length l ∙ rw (drop_of_length-le l h) at k
 
 -- ---- leading spaces leave what is kept before the first byte
 

@@ -1,28 +1,14 @@
--- `all_spaces` and `spaces_at` in the code's own words, and what callers cite of them. Assumes nothing.
+-- `spaces_at` in the code's own words, and what callers cite of them. Assumes nothing.
 use mathlib.Core.Path.{◌≡◌, ap, sym, ◌∙◌}
-use mathlib.Core.Bool.{Bool, false, ◌&&◌, and_assoc, and-true}
+use mathlib.Core.Bool.{Bool, true, false}
 use mathlib.Core.List.{List}
-use Prim.Native.Nat.{ℕ, ◌+◌, ◌-◌, ◌≤◌, ◌<◌}
+use Prim.Native.Nat.{ℕ, ◌+◌, ◌-◌, ◌≤◌}
 use native.Mathlib.Nat.{add-sub_cancel_left}
-use native.Mathlib.Numerals.{add-one}
-use native.Mathlib.Omega.{arith}
-use borrow.Author.Tests.{le-leb, lt-leb}
-use lib.Dec.{eqb}
-use lib.ListN.{length, take, drop, get_or, drop_of_length-le}
-use lib.Seq.{drop-cons}
+use borrow.Author.Tests.{le-leb, leb-true}
+use lib.Dec.{leb}
+use lib.ListN.{length, take, drop}
 use Rattle.format.specs.Layout.{column, spaces}
 use Rattle.columns.specs.InRecord.{spaces_at}
-
--- ---- `all_spaces`
-
-module _ (l : List ℕ) (i : ℕ) (blank : Bool) where
-  pub spaces_again : i < length l → blank && spaces (drop i l) ≡ spaces l → (blank && eqb (get_or l i 0) 32) && spaces (drop (i + 1) l) ≡ spaces l
-  spaces_again h k = rw (and_assoc, add-one) (rw (drop-cons l i 0 h) at k)
-
-  pub spaces_end : length l ≤ i → blank && spaces (drop i l) ≡ spaces l → blank ≡ spaces l
-  spaces_end h k = sym (and-true blank) ∙ rw (drop_of_length-le l h) at k
-
--- ---- `spaces_at`
 
 module _ (l : List ℕ) (start width : ℕ) where
   -- in a record that has room for it
@@ -30,16 +16,12 @@ module _ (l : List ℕ) (start width : ℕ) where
   unfolding spaces_at
   spaces-at-inside h = simp (le-leb (start + width) (length l) h)
 
-  not-inside : length l < start + width → false ≡ spaces_at l start width
-  unfolding spaces_at
-  not-inside h = simp (lt-leb (start + width) (length l) h)
+  -- b is the test that they are whole inside the record
+  module _ (b : Bool) (e : b ≡ leb (start + width) (length l)) where
+    pub not-inside : b ≡ false → b ≡ spaces_at l start width
+    unfolding spaces_at
+    not-inside h = h ∙ rw (sym e ∙ h)
 
-  pub starts_past : length l < start → false ≡ spaces_at l start width
-  starts_past h = not-inside (omega arith)
-
-  pub ends_past : start ≤ length l → length l - start < width → false ≡ spaces_at l start width
-  ends_past h k = not-inside (omega arith)
-
-  pub part-spaces : (t : Bool) → t ≡ spaces (take (start + width - start) (drop start l)) → start ≤ length l → width ≤ length l - start → t ≡ spaces_at l start width
-  unfolding column
-  part-spaces t e h k = e ∙ ap (λ (n : ℕ). spaces (take n (drop start l))) (add-sub_cancel_left start width) ∙ sym (spaces-at-inside (omega arith))
+    pub part-spaces : (t : Bool) → t ≡ spaces (take (start + width - start) (drop start l)) → b ≡ true → t ≡ spaces_at l start width
+    unfolding column
+    part-spaces t f h = f ∙ ap (λ (n : ℕ). spaces (take n (drop start l))) (add-sub_cancel_left start width) ∙ sym (spaces-at-inside (leb-true (start + width) (length l) (sym e ∙ h)))

@@ -10,10 +10,8 @@ use borrow.Author.Tests.{lt-ltb, le-ltb, ltb-true, leb-true}
 use lib.Dec.{ltb, lit<, leb-suc-zero}
 use lib.IntN.{ℤ, pos, negsuc, nat_abs}
 use lib.Signed.{lt_z}
-use lib.ListN.{length, drop, set, replicate, length-set, length-append, length-replicate, replicate-append-replicate}
-use lib.Seq.{take_all, drop-length}
-use mir.Syntax.{w64}
-use mir.Val.{Fits}
+use lib.ListN.{length, drop, set, replicate, length-append, length-replicate, replicate-append-replicate}
+use lib.Seq.{take_all}
 use Rattle.format.specs.Column.{digits_in, digits, text_of, fits, written}
 use Rattle.format.proofs.Lists.{drop-set}
 use Rattle.format.proofs.ColumnFits.{fits_plus, fits-minus}
@@ -24,9 +22,6 @@ use Rattle.columns.specs.WriteSteps.{byte_of, before_of, filled}
 
 -- ---- the loop of stores, in the code's own words: what is left to write, and behind it what was written
 
-pub nothing_stored : (l : List ℕ) (s : Rest) → filled (length l) s ++ drop (length l) l ≡ filled (length l) s
-nothing_stored l s = rw drop-length (append-nil (filled (length l) s))
-
 one_stored : (l : List ℕ) (j : ℕ) (s : Rest) → j < length l → filled j (before_of s) ++ drop j (set l j (byte_of s)) ≡ filled (suc j) s ++ drop (suc j) l
 unfolding filled
 one_stored l j s h = rw (drop-set l j (byte_of s) h) (sym (append_assoc (filled j (before_of s)) (byte_of s ∷ []) (drop (suc j) l)))
@@ -34,9 +29,6 @@ one_stored l j s h = rw (drop-set l j (byte_of s) h) (sym (append_assoc (filled 
 pub stored : (l l₀ r : List ℕ) (i b : ℕ) (s s' : Rest) → b ≡ byte_of s → s' ≡ before_of s → 0 < i → i ≤ length l₀ → length l ≡ length l₀ → filled i s ++ drop i l ≡ r → filled (i - 1) s' ++ drop (i - 1) (set l (i - 1) b) ≡ r
 stored l l₀ r zero b s s' e f h k n g = absurd (not-suc-le-zero h)
 stored l l₀ r (suc j) b s s' e f h k n g = let i : suc j - 1 ≡ j = omega arith in rw (e, f, i) (one_stored l j s (omega arith) ∙ g)
-
-pub length-kept : (l l₀ : List ℕ) (j b : ℕ) → length l ≡ length l₀ → length (set l j b) ≡ length l₀
-length-kept l l₀ j b e = length-set l j b ∙ e
 
 pub all_stored : (l r : List ℕ) (i : ℕ) (s : Rest) → i ≤ 0 → filled i s ++ drop i l ≡ r → l ≡ r
 unfolding filled
@@ -141,13 +133,3 @@ filled-written width z h k e =
     let b : nat_abs z < 10 ^ room_for m width = ltb-true (nat_abs z) (10 ^ room_for m width) (sym (fits-room width z m refl h k) ∙ e) in
     let b' : nat_abs z < 10 ^ 20 = omega (arith, pow-le-pow_right {n = 10} (lit< tt) {i = room_for m width} {j = 18} (room_most width m k)) in
     filled-digits m 19 width (nat_abs z) b' (rw (text_is z) at n) ∙ ap (padded width) (sym (text_is z)) ∙ sym (take_all width (padded width (text_of z)) (simp (length-append, length-replicate) (omega arith)))
-
--- ---- the loop of `power`, in the code's own words
-pub power_fits : (p i k : ℕ) → p ≡ 10 ^ i → i < k → k ≤ 18 → Fits w64 (p * 10)
-power_fits p i k e h m = rw e (record { fits = omega (arith, pow-le-pow_right {n = 10} (lit< tt) {i = i} {j = 17} (omega arith)) })
-
-pub next_power : (p i : ℕ) → p ≡ 10 ^ i → p * 10 ≡ 10 ^ (i + 1)
-next_power p i e = rw (e, add-one, pow-suc)
-
-pub last_power : (p i k : ℕ) → p ≡ 10 ^ i → i ≤ k → k ≤ i → p ≡ 10 ^ k
-last_power p i k e h m = let n : i ≡ k = omega arith in e ∙ ap (λ (x : ℕ). 10 ^ x) n

@@ -1,12 +1,11 @@
 -- The writing of a column from its last byte to its first, as the code does it. Private functions cite it; that it ends in the
 -- written form is `filled-written` of proofs/Writing. Assumes nothing.
-use Rattle.std.specs.Prelude.{ℕ, zero, suc, ◌+◌, ◌/◌, ◌%◌, cond, ◌&&◌, List, [], ◌∷◌, ◌++◌, ltb, ℤ, pos, nat_abs}
+use Rattle.std.specs.Prelude.{ℕ, zero, suc, ◌+◌, ◌/◌, ◌%◌, cond, ◌&&◌, Option, List, [], ◌∷◌, ◌++◌, ltb, ℤ, pos, nat_abs}
+use Rattle.std.specs.Bool.{then_some}
 use Rattle.std.specs.Int.Signed.{lt_z}
 use Rattle.format.specs.Column.{fits, width_ok}
 use Rattle.columns.specs.declared.Rest.{Rest}
 use Rattle.columns.specs.declared.Rest.TheVariants.{Digits, Minus, Spaces}
-use Rattle.columns.specs.declared.Choice.{Choice}
-use Rattle.columns.specs.declared.Choice.TheVariants.{Write, Refuse}
 
 -- the last byte of what is left, and what is left before it
 unfoldable pub byte_of : Rest → ℕ
@@ -25,5 +24,5 @@ filled zero s = []
 filled (suc w) s = filled w (before_of s) ++ (byte_of s ∷ [])
 
 -- what is written to a column of this width, where width and number allow it
-unfoldable pub choice_of : ℕ → ℤ → Choice
-choice_of width z = cond (width_ok width && fits width z) (Write (Digits (lt_z z (pos 0)) (nat_abs z))) Refuse
+unfoldable pub choice_of : ℕ → ℤ → Option Rest
+choice_of width z = then_some (width_ok width && fits width z) (Digits (lt_z z (pos 0)) (nat_abs z))

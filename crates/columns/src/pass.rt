@@ -6,7 +6,7 @@ ghost use Rattle.columns.specs.Pass.{digit_mark, other_mark, step_of, pass_from,
 use format::Column;
 
 // What the bytes so far are: spaces alone; a minus behind them; digits behind them; digits behind a minus; what no column has.
-#[derive(Clone, Copy)]
+#[derive(Clone, Copy, PartialEq, Eq, Debug)]
 pub(crate) enum Mark {
     Spaces,
     Minus,
@@ -16,7 +16,7 @@ pub(crate) enum Mark {
 }
 
 // All that is kept of the bytes so far. The number is that of the digits.
-#[derive(Clone, Copy)]
+#[derive(Clone, Copy, PartialEq, Eq, Debug)]
 pub(crate) struct Kept {
     number: u64,
     mark: Mark,
@@ -26,29 +26,21 @@ pub(crate) struct Kept {
 fn behind_digit(mark: Mark) -> Mark
     ensures { result ≡ digit_mark mark }
 {
-    if let Mark::Spaces = mark {
-        return Mark::Digits;
+    match mark {
+        Mark::Spaces => Mark::Digits,
+        Mark::Minus => Mark::MinusDigits,
+        Mark::Digits | Mark::MinusDigits | Mark::Other => mark,
     }
-    if let Mark::Minus = mark {
-        return Mark::MinusDigits;
-    }
-    mark
 }
 
 // The mark behind a byte that is no digit.
 fn behind_other(mark: Mark, byte: u8) -> Mark
     ensures { result ≡ other_mark mark byte }
 {
-    let Mark::Spaces = mark else {
-        return Mark::Other;
-    };
-    if byte == b' ' {
-        return Mark::Spaces;
-    }
-    if byte == b'-' {
-        Mark::Minus
-    } else {
-        Mark::Other
+    match (mark, byte) {
+        (Mark::Spaces, b' ') => Mark::Spaces,
+        (Mark::Spaces, b'-') => Mark::Minus,
+        _ => Mark::Other,
     }
 }
 
@@ -57,17 +49,16 @@ fn step(kept: Kept, byte: u8) -> Kept
     requires { kept.number < 10 ^ 18 }
     ensures { result ≡ step_of kept byte }
 {
-    let mark = kept.mark;
-    if (b'0' <= byte) & (byte <= b'9') {
-        let digit = byte - b'0';
-        return Kept {
-            number: kept.number * 10 + (digit as u64),
-            mark: behind_digit(mark),
-        };
-    }
-    Kept {
-        number: kept.number,
-        mark: behind_other(mark, byte),
+    if byte.is_ascii_digit() {
+        Kept {
+            number: kept.number * 10 + u64::from(byte - b'0'),
+            mark: behind_digit(kept.mark),
+        }
+    } else {
+        Kept {
+            mark: behind_other(kept.mark, byte),
+            ..kept
+        }
     }
 }
 
@@ -76,19 +67,12 @@ fn finish(kept: Kept) -> Column
     requires { kept.number < 10 ^ 18 }
     ensures { result ≡ says_of kept }
 {
-    let number = kept.number;
-    let value = number as i64;
-    let mark = kept.mark;
-    if let Mark::Digits = mark {
-        return Column::Value(value);
-    }
-    let Mark::MinusDigits = mark else {
-        return Column::Malformed;
-    };
-    if number == 0 {
-        Column::MinusZero
-    } else {
-        Column::Value(-value)
+    let value = kept.number as i64;
+    match kept.mark {
+        Mark::Digits => Column::Value(value),
+        Mark::MinusDigits if value == 0 => Column::MinusZero,
+        Mark::MinusDigits => Column::Value(-value),
+        Mark::Spaces | Mark::Minus | Mark::Other => Column::Malformed,
     }
 }
 
@@ -96,11 +80,13 @@ fn finish(kept: Kept) -> Column
 fn leading_spaces(column: &[u8]) -> usize
     ensures { (result ≤ length column.now) × (drop result column.now ≡ strip column.now) }
 {
-    let mut i = 0;
-    while (i < column.len()) && (column[i] == b' ') {
-        i += 1;
+    // Kept: the loop; tried `position(|byte| *byte != b' ')`, and the proof did not close.
+    for (i, byte) in column.iter().enumerate() {
+        if *byte != b' ' {
+            return i;
+        }
     }
-    i
+    column.len()
 }
 
 // What a column says of whose bytes before `from` this is kept: the pass to its last byte, or to the first that no column has there. Eighteen digits are
@@ -109,15 +95,13 @@ fn read_on(column: &[u8], from: usize, first: Kept) -> Column
     requires { (from ≤ length column.now) × (length column.now ≤ 18) × (first.number < 10 ^ from) }
     ensures { result ≡ says_of (pass_from first (drop from column.now)) }
 {
+    // Kept: the index; tried `for byte in &column[from..]`, and the proof did not close.
     let mut kept = first;
-    let mut i = from;
-    while i < column.len() {
+    for i in from..column.len() {
         kept = step(kept, column[i]);
-        let mark = kept.mark;
-        if let Mark::Other = mark {
+        if kept.mark == Mark::Other {
             return Column::Malformed;
         }
-        i += 1;
     }
     finish(kept)
 }
@@ -136,8 +120,7 @@ pub(crate) fn scan(column: &[u8]) -> Column
         mark: Mark::Spaces,
     };
     let first = step(start, column[begin]);
-    let mark = first.mark;
-    if let Mark::Digits = mark {
+    if first.mark == Mark::Digits {
         return read_on(column, begin + 1, first);
     }
     read_on(column, begin + 1, first)

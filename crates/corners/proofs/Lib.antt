@@ -1,4 +1,3 @@
-pub mod Listed
 pub mod Signed
 pub mod Joining
 pub mod Splitting

@@ -1,17 +1,16 @@
 -- Signed 64-bit numbers: their sizes, and that what is small enough fits. Assumes nothing.
 use mathlib.Core.Path.{◌≡◌, refl}
-use mathlib.Core.Bool.{Bool, true, false, cond, ◌&&◌}
+use mathlib.Core.Bool.{Bool, true, false, cond}
 use Prim.Native.Nat.{ℕ, zero, suc, ◌+◌, ◌-◌, ◌*◌, ◌/◌, ◌^◌, ◌≤◌, ◌<◌}
 use native.Mathlib.Nat.{div-le_self}
 use native.Mathlib.Omega.{arith}
 use lib.Dec.{ltb}
 use lib.IntN.{ℤ, pos, negsuc, neg_ℤ, nat_abs, ◌+ℤ◌, ◌*ℤ◌}
-use lib.Signed.{mag, le_z, quot_z, rem_z, mag_rem}
+use lib.Signed.{mag, quot_z, rem_z, mag_rem}
 use mir.Syntax.{w64}
 use mir.Val.{SFits}
 use mir.ValLaws.{sfits_le}
 use Rattle.format.proofs.Basics.{abs_neg}
-use Rattle.format.proofs.Signed.{stored, back}
 
 -- ---- sizes
 mag_le : (z : ℤ) → mag z ≤ nat_abs z
@@ -51,11 +50,3 @@ quot_fits z d f = sfits_le (mag_quot z d) f
 
 pub rem_fits : (z : ℤ) (d : ℕ) → SFits w64 z → SFits w64 (rem_z z (pos d))
 rem_fits z d f = sfits_le (mag_rem z (pos d)) f
-
--- ---- a range as code tests it: at the left end, then at the right one
-module _ (least z most : ℤ) (fl : SFits w64 least) (fz : SFits w64 z) (fm : SFits w64 most) where
-  pub left_fails : le_z (stored least) (stored z) ≡ false → le_z (stored least) (stored z) ≡ le_z least z && le_z z most
-  left_fails t = let e : le_z least z ≡ false = rw (back least fl, back z fz) at t in rw (back least fl, back z fz, e)
-
-  pub left_holds : le_z (stored least) (stored z) ≡ true → le_z (stored z) (stored most) ≡ le_z least z && le_z z most
-  left_holds t = let e : le_z least z ≡ true = rw (back least fl, back z fz) at t in rw (back z fz, back most fm, e)

@@ -1,25 +1,28 @@
 -- Splitting: the division of every `i64` fits, and the pair that the code tries is the definition's. Assumes nothing.
+use Rattle.std.specs.Prelude.{Result, Ok, Err}
+use Rattle.std.specs.Result.{result_eq}
+use Rattle.std.specs.Ordering.{int_eq}
+use Rattle.std.proofs.lemmas.Bool.Decides.{Decides-int_eq}
+use mathlib.Core.Bool.{Bool, true, false, false≢true}
 use mathlib.Core.Path.{◌≡◌, ap, ap₂, sym, ◌∙◌}
-use Prim.Native.Nat.{ℕ, ◌<◌}
+use Prim.Native.Nat.{ℕ}
 use native.Mathlib.Omega.{arith}
 use lib.IntN.{ℤ, pos}
 use lib.Signed.{quot_z, rem_z}
 use mir.Syntax.{w64}
-use mir.Val.{SFits, of_z}
+use mir.Val.{SFits}
 use Rattle.format.specs.Basics.{given}
 use Rattle.format.specs.Corner.{millimetres_each, join, split}
 use Rattle.format.specs.Answers.{number_answer, parts_answer}
-use Rattle.format.specs.declared.Number.{Number}
-use Rattle.format.specs.declared.Parts.{Parts}
+use Rattle.format.specs.declared.Reason.TheVariants.{Number}
+use Rattle.format.specs.declared.Refusal.{Refusal}
+use Rattle.format.specs.Reasons.{refusal_for}
 use Rattle.format.proofs.Corners.{whole_of, fraction_of, split_only, split-refuses}
-use Rattle.format.proofs.Signed.{stored, back, same_bits}
+use Rattle.format.proofs.Signed.{stored, back}
 use Rattle.corners.proofs.Signed.{quot_fits, rem_fits}
-use Rattle.corners.proofs.Joining.{stored_each, each_some}
+use Rattle.corners.proofs.Joining.{stored_each}
 
 module _ (z : ℤ) (fz : SFits w64 z) where
-  pub whole_divides : (0 < 1000) × SFits w64 (quot_z (stored z) (pos 1000))
-  whole_divides = (omega arith, rw (back z fz) (quot_fits z 1000 fz))
-
   whole_is : stored (quot_z (stored z) (pos 1000)) ≡ whole_of z
   whole_is = rw (back z fz) (back (whole_of z) (quot_fits z 1000 fz))
 
@@ -30,24 +33,27 @@ module _ (z : ℤ) (fz : SFits w64 z) where
     fraction-fits : SFits w64 (fraction_of unit z)
     fraction-fits = quot_fits (rem_z z (pos 1000)) (millimetres_each unit) (rem_fits z 1000 fz)
 
-    pub fraction_divides : (0 < of_z w64 k) × SFits w64 (quot_z (stored (rem_z (stored z) (pos 1000))) (stored k))
-    fraction_divides = (rw ek (each_some unit), rw (rest_is, stored_each unit k ek) fraction-fits)
-
     fraction_is : stored (quot_z (stored (rem_z (stored z) (pos 1000))) (stored k)) ≡ fraction_of unit z
     fraction_is = rw (rest_is, stored_each unit k ek) (back (fraction_of unit z) fraction-fits)
 
-    module _ (n : Number) (en : number_answer n ≡ join unit (stored (quot_z (stored z) (pos 1000))) (stored (quot_z (stored (rem_z (stored z) (pos 1000))) (stored k)))) where
+    -- n is what joining the pair answered, and t whether it is the number; q compares refusals, of which none is met
+    module _ (n : Result ℤ Refusal) (en : number_answer n ≡ join unit (stored (quot_z (stored z) (pos 1000))) (stored (quot_z (stored (rem_z (stored z) (pos 1000))) (stored k)))) (q : Refusal → Refusal → Bool) (t : Bool) (et : t ≡ result_eq int_eq q n (Ok (stored z))) where
       tried : join unit (whole_of z) (fraction_of unit z) ≡ number_answer n
       tried = sym (ap₂ (join unit) whole_is fraction_is) ∙ sym en
 
-      pub none-joins : (a r : ℕ) → n ≡ Number.Refused a r → parts_answer (Parts.Refused 16 0) ≡ split unit z
-      unfolding number_answer parts_answer
-      none-joins a r e = sym (split-refuses unit z (λ j. let g = tried ∙ ap number_answer e in let x : ◌≡◌ {A = ℕ} 0 1 = cc in omega arith))
+      joined : (n' : Result ℤ Refusal) → result_eq int_eq q n' (Ok (stored z)) ≡ true → n' ≡ Ok z
+      joined (Ok y) e = ap Ok ((Decides-int_eq y (stored z)).0 e ∙ back z fz)
+      joined (Err r) e = absurd (false≢true e)
 
-      pub other-joins : (y : ℤ) → n ≡ Number.Is y → (of_z w64 y ≡ of_z w64 z → ⊥) → parts_answer (Parts.Refused 16 0) ≡ split unit z
+      pub pair_joins : t ≡ true → parts_answer (Ok (record { whole = stored (quot_z (stored z) (pos 1000)); fraction = stored (quot_z (stored (rem_z (stored z) (pos 1000))) (stored k)) })) ≡ split unit z
       unfolding number_answer parts_answer
-      other-joins y e differs = sym (split-refuses unit z (λ j. let g = tried ∙ ap number_answer e in let s : y ≡ z = cc in differs (ap (of_z w64) s)))
+      pair_joins h = rw (whole_is, fraction_is) (sym (split_only unit (whole_of z) (fraction_of unit z) z (tried ∙ ap number_answer (joined n (sym et ∙ h)))))
 
-      pub pair_joins : (y : ℤ) → SFits w64 y → n ≡ Number.Is y → of_z w64 y ≡ of_z w64 z → parts_answer (Parts.Corner (stored (quot_z (stored z) (pos 1000))) (stored (quot_z (stored (rem_z (stored z) (pos 1000))) (stored k)))) ≡ split unit z
-      unfolding number_answer parts_answer
-      pair_joins y fy e same = rw (whole_is, fraction_is) (sym (split_only unit (whole_of z) (fraction_of unit z) z (tried ∙ ap number_answer e ∙ ap given (same_bits y z fy fz same))))
+      not-joined : (n' : Result ℤ Refusal) → result_eq int_eq q n' (Ok (stored z)) ≡ false → number_answer n' ≡ given z → ⊥
+      unfolding number_answer
+      not-joined (Ok y) e g = let s : y ≡ stored z = cc (back z fz) in false≢true (sym e ∙ (Decides-int_eq y (stored z)).1 s)
+      not-joined (Err r) e g = let x : ◌≡◌ {A = ℕ} 0 1 = cc in omega arith
+
+      pub none-joins : (r : Refusal) → t ≡ false → r ≡ refusal_for Number 0 → parts_answer (Err r) ≡ split unit z
+      unfolding parts_answer
+      none-joins r h e = rw e (sym (split-refuses unit z (λ j. not-joined n (sym et ∙ h) (sym tried ∙ j))))

@@ -2,16 +2,19 @@
 use mathlib.Core.Path.{◌≡◌, refl, ap, ap₂, sym, ◌∙◌}
 use mathlib.Core.Bool.{Bool, cond}
 use mathlib.Core.List.{List, [], ◌∷◌, ◌++◌, append_assoc, append-nil, map, map-append}
-use Prim.Native.Nat.{ℕ, zero, suc, ◌+◌, ◌-◌, ◌*◌, ◌/◌, ◌≤◌, ◌<◌}
+use Prim.Native.Nat.{ℕ, zero, suc, ◌+◌, ◌*◌, ◌/◌, ◌≤◌, ◌<◌}
 use native.Mathlib.Numerals.{add-one}
 use native.Mathlib.Omega.{arith}
 use mir.Syntax.{w64}
 use mir.Val.{Fits}
 use borrow.Author.Tests.{le-leb, lt-leb}
 use lib.ListN.{length, length-append, length-drop, length-map, take, drop, take-append-drop}
-use lib.Seq.{drop-drop, take_at, take_all, length-take-le}
+use lib.Seq.{drop-drop, take_at, length-take-le}
 use Rattle.format.specs.Basics.{Answer, given, refused, flat, chunks, round_up}
-use Rattle.format.specs.declared.Edited.{Edited}
+use Rattle.std.specs.Prelude.{Ok, Err}
+use Rattle.format.specs.declared.Reason.{Reason}
+use Rattle.format.specs.declared.Refusal.{Refusal}
+use Rattle.format.specs.Reasons.{refusal_number, refusal_for}
 use Rattle.format.specs.Answers.{edited_answer}
 use Rattle.format.specs.Record.{view}
 use Rattle.format.specs.Judge.{Counts, judge_sheet}
@@ -29,22 +32,16 @@ use Rattle.format_directory.specs.Directory.{Layer, layers_from, layers_of, per_
 use Rattle.format_directory.proofs.DirectoryRecords.{most, length-row, length-closing, length-shared, length_directory, wide_rows}
 use Rattle.format_directory.proofs.DirectoryJudged.{Accepted, accepted_of, few-layers}
 use Rattle.judge.specs.declared.ListedSheet.{ListedSheet}
-use Rattle.judge.specs.Listed.{first_numbers, kept_layers, listed_in}
+use Rattle.judge.specs.Listed.{first_numbers, kept_layers, listed_said, listed_in}
 use Rattle.judge.proofs.ListedLaws.{OpenedListed, listed_refusal, opened-listed}
 use Rattle.directories.specs.declared.writing.Row.{Row}
 use Rattle.directories.specs.Steps.{views_in, layers_in, Kept, RowFrom, rows_put, directory_put}
 use Rattle.directories.proofs.Different.{rows_few}
-
--- all 84 bytes of a record, as the code lends them
-whole_part : (b : List ℕ) → length b ≡ 84 → take (84 - 0) (drop 0 b) ≡ b
-whole_part b w = take_all 84 b (let x : length b ≤ 84 = omega arith in x)
+use Rattle.format.proofs.Reasons.{not_zero}
 
 -- a record of layers has its 84 bytes
 row_long : (file : List ℕ) (e : Edition) (k : ℕ) (r : Row) → RowFrom file e k r → length r.bytes ≡ 84
 row_long file e k r f = ap length f.bytes_are ∙ length-row e (take (per_record e) (layers_in file k)) (most (per_record e) (layers_in file k))
-
-pub row_end : (file : List ℕ) (e : Edition) (k end : ℕ) (r : Row) → RowFrom file e k r → end ≡ 84 → end ≤ length r.bytes
-row_end file e k end r f q = omega (arith, row_long file e k r f)
 
 -- one record of layers more
 shared-more : (each i : ℕ) (ls : List Layer) → shared each (suc i) ls ≡ shared each i ls ++ (take each (drop (each * i) ls) ∷ [])
@@ -89,9 +86,6 @@ pub before-few : (e : Edition) (each rows i : ℕ) → each ≡ per_record e →
 before-few One each rows i q h m = rw q (omega arith)
 before-few Two each rows i q h m = rw q (omega arith)
 
-pub before-fits : (e : Edition) (each rows i : ℕ) → each ≡ per_record e → i < rows → rows ≤ 200000 → Fits w64 (each * i)
-before-fits e each rows i q h m = record { fits = omega (arith, before-few e each rows i q h m) }
-
 -- ---- the loop of `write_rows`: i records are written, and the layers of the others stand from record `at` on
 pub record RowsSoFar (e : Edition) (used k rows : ℕ) (buffer₀ buffer : List ℕ) (at i : ℕ) : Type 0 where
   pub few : i ≤ rows
@@ -119,9 +113,6 @@ module _ (e : Edition) (used k rows : ℕ) (buffer₀ buffer : List ℕ) (at i :
   pub sheet-inside : used ≤ length buffer
   sheet-inside = omega (arith, long_kept)
 
-  pub sheet_taken : used ≡ length (take used buffer)
-  sheet_taken = sym (length-take-le used buffer sheet-inside)
-
   pub records-few : used ≤ 84 * 200000 → length (records_of Plain (take used buffer)) ≤ 200000
   records-few h = omega (arith, ap length (front-records used buffer sheet-inside) ∙ length-chunks (used / 84) buffer)
 
@@ -133,10 +124,7 @@ module _ (e : Edition) (used k rows : ℕ) (buffer₀ buffer : List ℕ) (at i :
     left = ap (λ (x : List ℕ). layers_in x at) kept ∙ g.left ∙ ap₂ (λ (n : ℕ) (x : List ℕ). drop (n * i) (layers_in x k)) (sym each-is) (sym kept);
   }
 
-  pub row_room : i < rows → Fits w64 (length buffer₀) → Fits w64 (used + 84 * i)
-  row_room h f = record { fits = omega (arith, f.fits) }
-
-  pub row_put : i < rows → (r : Row) → RowFrom (take used buffer) e at r → (after : List ℕ) → after ≡ put_at buffer (used + 84 * i) (take (84 - 0) (drop 0 r.bytes)) → RowsSoFar e used k rows buffer₀ after r.next (i + 1)
+  pub row_put : i < rows → (r : Row) → RowFrom (take used buffer) e at r → (after : List ℕ) → after ≡ put_at buffer (used + 84 * i) r.bytes → RowsSoFar e used k rows buffer₀ after r.next (i + 1)
   row_put h r f after q = record { few = omega arith; left = left_more; so_far = put-more }
     where
       ls : List Layer
@@ -157,13 +145,9 @@ module _ (e : Edition) (used k rows : ℕ) (buffer₀ buffer : List ℕ) (at i :
       put-more : after ≡ rows_put e used k (i + 1) buffer₀
       put-more =
           q
-          ∙ ap (put_at buffer (used + 84 * i)) (whole_part r.bytes wide)
           ∙ put-behind (take used buffer₀ ++ rows_of e used k buffer₀ i) r.bytes buffer buffer₀ (used + 84 * i) (g.so_far ∙ put_is e used k buffer₀ i) (front_long e used k buffer₀ i so_room) (omega (arith, wide))
           ∙ ap₂ (λ (x : List ℕ) (n : ℕ). x ++ drop n buffer₀) (append_assoc (take used buffer₀) (rows_of e used k buffer₀ i) r.bytes ∙ ap (λ (x : List ℕ). take used buffer₀ ++ x) (ap (λ (x : List ℕ). rows_of e used k buffer₀ i ++ x) bytes ∙ sym (rows_more e used k buffer₀ i) ∙ ap (rows_of e used k buffer₀) (sym (add-one i)))) (let x : used + 84 * i + length r.bytes ≡ used + 84 * (i + 1) = omega (arith, wide) in x)
           ∙ sym (put_is e used k buffer₀ (i + 1))
-
-  pub all-rows : rows ≤ i → buffer ≡ rows_put e used k rows buffer₀
-  all-rows h = g.so_far ∙ ap (λ (n : ℕ). rows_put e used k n buffer₀) (let x : i ≡ rows = omega (arith, g.few) in x)
 
 -- ---- `write_directory`: the closing record behind them
 module _ (e : Edition) (used part layers rows : ℕ) (buffer : List ℕ) (rows_are : rows ≡ round_up layers (per_record e)) (room : used + 84 * (round_up layers (per_record e) + 1) ≤ length buffer) where
@@ -171,14 +155,10 @@ module _ (e : Edition) (used part layers rows : ℕ) (buffer : List ℕ) (rows_a
   rows-room = omega (arith, rows_are)
 
   module _ (put : List ℕ) (put-rows : put ≡ rows_put e used part rows buffer) where
-    pub put_long : length put ≡ length buffer
-    put_long = ap length put-rows ∙ length-kept e used part buffer rows rows-room
-
-    pub directory_put_lem : layers ≡ length (layers_in (take used buffer) part) → (bytes after : List ℕ) → bytes ≡ closing e (used / 84 + 1) layers → after ≡ put_at put (used + 84 * rows) (take (84 - 0) (drop 0 bytes)) → after ≡ directory_put e used part buffer
+    pub directory_put_lem : layers ≡ length (layers_in (take used buffer) part) → (bytes after : List ℕ) → bytes ≡ closing e (used / 84 + 1) layers → after ≡ put_at put (used + 84 * rows) bytes → after ≡ directory_put e used part buffer
     unfolding directory_put directory_of rows_of
     directory_put_lem counted bytes after bytes_are q =
         q
-        ∙ ap (put_at put (used + 84 * rows)) (whole_part bytes wide)
         ∙ put-behind (take used buffer ++ rows_of e used part buffer rows) bytes put buffer (used + 84 * rows) (put-rows ∙ put_is e used part buffer rows) (front_long e used part buffer rows rows-room) (omega (arith, wide, rows_are))
         ∙ ap (λ (x : List ℕ). x ++ drop (used + 84 * rows + length bytes) buffer) (append_assoc (take used buffer) (rows_of e used part buffer rows) bytes)
         ∙ append_assoc (take used buffer) (rows_of e used part buffer rows ++ bytes) (drop (used + 84 * rows + length bytes) buffer)
@@ -202,7 +182,7 @@ module _ (e : Edition) (used part layers rows : ℕ) (buffer : List ℕ) (rows_a
 pub append-room : (e : Edition) (used layers rows : ℕ) (buffer : List ℕ) → rows ≡ round_up layers (per_record e) → used + 84 * (rows + 1) ≤ length buffer → used + 84 * (round_up layers (per_record e) + 1) ≤ length buffer
 append-room e used layers rows buffer q h = omega (arith, q)
 
-module _ (e : Edition) (used : ℕ) (buffer : List ℕ) (directory : List (List ℕ)) (listed : ListedSheet) (of : listed ≡ listed_in e used buffer directory) where
+module _ (e : Edition) (used : ℕ) (buffer : List ℕ) (directory : List (List ℕ)) where
   abbrev D : List (List ℕ)
   D = directory_of e (suc (used / 84)) (layers_of (chunks (used / 84) buffer))
 
@@ -210,13 +190,13 @@ module _ (e : Edition) (used : ℕ) (buffer : List ℕ) (directory : List (List 
   unfolding append_directory
   by answer q = ap (λ (v : Answer Counts). append_to v used D buffer) q
 
-  pub append-refused : (listed.fault ≡ 0 → ⊥) → record { answer = edited_answer (Edited.Refused listed.fault listed.at); bytes = buffer } ≡ append_directory e used buffer
+  pub append-refused : (w : Refusal) → listed_said (Err w) ≡ listed_in e used buffer directory → record { answer = edited_answer (Err w); bytes = buffer } ≡ append_directory e used buffer
   unfolding edited_answer
-  append-refused ne = sym (by (refused listed.fault listed.at) (listed_refusal used buffer directory e listed of ne))
+  append-refused w of = sym (by (refused (refusal_number w.reason) w.at) (listed_refusal used buffer directory e (listed_said (Err w)) of (not_zero w.reason)))
 
-  module _ (z : listed.fault ≡ 0) where
-    o : OpenedListed e used buffer directory listed
-    o = opened-listed used buffer directory e listed of z
+  module _ (listed : ListedSheet) (of : listed_said (Ok listed) ≡ listed_in e used buffer directory) where
+    o : OpenedListed e used buffer directory (listed_said (Ok listed))
+    o = opened-listed used buffer directory e (listed_said (Ok listed)) of refl
 
     a : Accepted (chunks (used / 84) buffer) (used / 84) o.counts
     a = accepted_of used buffer o.counts o.judged
@@ -244,9 +224,6 @@ module _ (e : Edition) (used : ℕ) (buffer : List ℕ) (directory : List (List 
       pub rows-small : rows ≤ 200000
       rows-small = rows_few e listed.layers rows rows_are layers-few
 
-      pub closing-fits : Fits w64 (rows + 1)
-      closing-fits = record { fits = omega (arith, rows-small) }
-
       pub directory_fits : Fits w64 (84 * (rows + 1))
       directory_fits = record { fits = omega (arith, rows-small) }
 
@@ -256,12 +233,12 @@ module _ (e : Edition) (used : ℕ) (buffer : List ℕ) (directory : List (List 
       new_is : used + 84 * (rows + 1) ≡ used + 84 * length D
       new_is = omega (arith, length_directory e (suc (used / 84)) (layers_of (chunks (used / 84) buffer)), rows_are ∙ ap (λ (n : ℕ). round_up n (per_record e)) o.layers_are)
 
-      pub append-short : length buffer < used + 84 * (rows + 1) → record { answer = edited_answer (Edited.Refused 15 0); bytes = buffer } ≡ append_directory e used buffer
+      pub append-short : length buffer < used + 84 * (rows + 1) → (w : Refusal) → w ≡ refusal_for Reason.Room 0 → record { answer = edited_answer (Err w); bytes = buffer } ≡ append_directory e used buffer
       unfolding edited_answer
-      append-short h = sym (by (given o.counts) o.judged ∙ ap (λ (t : Bool). cond t (record { answer = given (used + 84 * length D); bytes = take used buffer ++ (flat D ++ drop (used + 84 * length D) buffer) }) (record { answer = refused 15 0; bytes = buffer })) (lt-leb (used + 84 * length D) (length buffer) (rw (← new_is) h)))
+      append-short h w q = ap (λ (x : Refusal). record { answer = edited_answer (Err x); bytes = buffer }) q ∙ sym (by (given o.counts) o.judged ∙ ap (λ (t : Bool). cond t (record { answer = given (used + 84 * length D); bytes = take used buffer ++ (flat D ++ drop (used + 84 * length D) buffer) }) (record { answer = refused 15 0; bytes = buffer })) (lt-leb (used + 84 * length D) (length buffer) (rw (← new_is) h)))
 
       module _ (room : used + 84 * (rows + 1) ≤ length buffer) where
-        pub appended : (after : List ℕ) → after ≡ directory_put e used listed.part buffer → record { answer = edited_answer (Edited.Used (used + 84 * (rows + 1))); bytes = after } ≡ append_directory e used buffer
+        pub appended : (after : List ℕ) → after ≡ directory_put e used listed.part buffer → record { answer = edited_answer (Ok (used + 84 * (rows + 1))); bytes = after } ≡ append_directory e used buffer
         unfolding edited_answer directory_put
         appended after q =
             ap₂ (λ (n : ℕ) (x : List ℕ). record { answer = given n; bytes = x }) new_is (q ∙ ap (λ (ls : List Layer). take used buffer ++ (flat (directory_of e (suc (used / 84)) ls) ++ drop (used + 84 * length (directory_of e (suc (used / 84)) ls)) buffer)) layers-same)

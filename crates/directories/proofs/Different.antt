@@ -2,16 +2,15 @@
 use mathlib.Core.Path.{◌≡◌, refl, ap, ap₂, sym, subst, ◌∙◌}
 use mathlib.Core.Bool.{Bool, true, false, cond, not, ◌&&◌, and-true, and-false}
 use mathlib.Core.List.{List, [], ◌∷◌, ◌++◌}
-use Prim.Native.Nat.{ℕ, zero, suc, ◌+◌, ◌-◌, ◌*◌, ◌/◌, ◌%◌, ◌≤◌, ◌<◌}
+use Prim.Native.Nat.{ℕ, zero, suc, ◌+◌, ◌*◌, ◌/◌, ◌%◌, ◌≤◌, ◌<◌}
 use native.Mathlib.Nat.{zero-add, add-zero}
 use native.Mathlib.Numerals.{add-one}
 use native.Mathlib.Omega.{arith}
-use mir.Syntax.{w64}
-use mir.Val.{Fits}
-use borrow.Author.Tests.{eq-eqb, ne_eqb, lt-ltb, le-ltb, ltb-true, ltb-false, not-true, not-false}
-use lib.Dec.{eqb, ltb}
-use lib.ListN.{length, length-drop, take, drop, get_or, drop_of_length-le, get_or-eq_default}
-use lib.Seq.{drop-cons, take_all, length-take-le, get_or-take, get_or-drop}
+use borrow.Author.Tests.{ltb-true, ltb-false, not-true, not-false}
+use lib.Dec.{ltb}
+use lib.ListN.{length, length-drop, length-take, take, drop, get_or, drop_of_length-le, get_or-eq_default}
+use lib.Seq.{drop-cons, get_or-take, get_or-drop}
+use Rattle.std.specs.Prelude.{Option, Some, None}
 use Rattle.format.specs.Text.{same}
 use Rattle.format.specs.Basics.{fault, or_else, to_fault, unless, first, round_up}
 use Rattle.format.proofs.Basics.{true_and}
@@ -22,47 +21,9 @@ use Rattle.format_directory.specs.declared.Edition.TheVariants.{One, Two}
 use Rattle.format_directory.specs.Directory.{Layer, no_layer, letters, end_letters, end_listed, listed, listed_all, per_layer, per_record, record_of, row, closing, directory_of, differs}
 use Rattle.format_directory.proofs.DirectoryRecords.{AllFit, short-all, length-listed, short_end, fit-take, fit-drop, two_letters, two_end_letters, length-listed_all, length-end_listed, most, in_take, row_fits, end_fits, wide_directory, length_directory, row_at, closing_at}
 use Rattle.directory_columns.specs.Numbers.{number_is, numbers_are, lists_layer}
-use Rattle.judge.specs.Listed.{first_unlisted}
+use Rattle.judge.specs.Listed.{first_unlisted, unlisted_said}
 use Rattle.directories.specs.Steps.{framed, closing_is, right_rows, in_row, behind_rows, difference_at, Against, FirstDifferent}
 use Rattle.directories.proofs.Rows.{record_same}
-
--- ---- `right_rows`, `in_row`, `behind_rows`
-pub all_listed : (e : Edition) (rows unlisted : ℕ) → unlisted ≡ 0 → rows ≡ right_rows e rows unlisted
-unfolding right_rows
-all_listed e rows unlisted q = rw q
-
-pub some-listed : (e : Edition) (each rows unlisted : ℕ) → each ≡ per_record e → (unlisted ≡ 0 → ⊥) → (unlisted - 1) / each ≡ right_rows e rows unlisted
-unfolding right_rows
-some-listed e each rows unlisted q h = rw (q, ne_eqb unlisted 0 h)
-
-module _ (e : Edition) (each layers i : ℕ) (is : each ≡ per_record e) where
-  pub few_left : layers - each * i < each → layers - each * i ≡ in_row e layers i
-  unfolding in_row
-  few_left h = rw (← is, lt-ltb (layers - each * i) each h)
-
-  pub enough_left : each ≤ layers - each * i → each ≡ in_row e layers i
-  unfolding in_row
-  enough_left h = rw (← is, le-ltb (layers - each * i) each h)
-
-  pub product_below : per_record e * i ≤ layers → each * i ≤ layers
-  product_below h = rw is h
-
-  pub product_fits : per_record e * i ≤ layers → Fits w64 layers → Fits w64 (each * i)
-  product_fits h f = record { fits = omega (arith, product_below h, f.fits) }
-
-module _ (e : Edition) (directory : List (List ℕ)) (pointer layers rows : ℕ) (r : List ℕ) (t : Bool) (of : r ≡ get_or directory rows []) (is : t ≡ closing_is e pointer layers r) where
-  pub closing-differs : not t ≡ true → rows + 1 ≡ behind_rows e directory pointer layers rows
-  unfolding behind_rows
-  closing-differs h = rw (← of, ← is, not-true t h)
-
-  module _ (h : not t ≡ false) (n : ℕ) (counted : n ≡ length directory) where
-    pub more-behind : rows + 1 < n → rows + 2 ≡ behind_rows e directory pointer layers rows
-    unfolding behind_rows
-    more-behind l = rw (← of, ← is, not-false t h, ← counted, lt-ltb (rows + 1) n l)
-
-    pub none-behind : n ≤ rows + 1 → 0 ≡ behind_rows e directory pointer layers rows
-    unfolding behind_rows
-    none-behind l = rw (← of, ← is, not-false t h, ← counted, le-ltb (rows + 1) n l)
 
 -- ---- which layers a directory lists
 first_unlisted_none : (e : Edition) (directory : List (List ℕ)) (b : ℕ) (ls : List Layer) → first_unlisted e directory b ls ≡ 0 → (j : ℕ) → j < length ls → lists_layer e directory (b + j) (listed e (get_or ls j no_layer)) ≡ true
@@ -216,53 +177,26 @@ module _ (D R : List (List ℕ)) (wide : Wide R) (p i : ℕ) (inside : i < lengt
       go false l = absurd (omega (arith, wide_get i R wide inside, ap length (sym is ∙ get_or-eq_default D [] (ltb-false i (length D) l))))
 
 -- ---- the loop of `first_different`: i records agree
-pub record Comparing (D : List (List ℕ)) (e : Edition) (p layers unlisted rows right i : ℕ) : Type 0 where
+pub record Comparing (D : List (List ℕ)) (e : Edition) (p layers : ℕ) (unlisted : Option ℕ) (rows right i : ℕ) : Type 0 where
   pub few : i ≤ rows
   pub below : i ≤ right
   pub same_still : (ls : List Layer) → Against D e p layers unlisted ls → differs p D (directory_of e p ls) ≡ differs (p + i) (drop i D) (drop i (directory_of e p ls))
 
-pub comparing : (D : List (List ℕ)) (e : Edition) (p layers unlisted rows right : ℕ) → Comparing D e p layers unlisted rows right 0
-comparing D e p layers unlisted rows right = record { few = omega arith; below = omega arith; same_still = λ ls a. ap (λ (n : ℕ). differs n D (directory_of e p ls)) (sym (add-zero p)) }
-
 -- so many of the layers stand in row i
 in_row_is : (e : Edition) (ls : List Layer) (i : ℕ) → length (take (per_record e) (drop (per_record e * i) ls)) ≡ in_row e (length ls) i
-unfolding in_row
-in_row_is e ls i = taken (per_record e) (drop (per_record e * i) ls) ∙ ap (λ (n : ℕ). cond (ltb n (per_record e)) n (per_record e)) (length-drop (per_record e * i) ls)
-  where
-    taken : (n : ℕ) (l : List Layer) → length (take n l) ≡ cond (ltb (length l) n) (length l) n
-    taken n l = by (ltb (length l) n) refl
-      where
-        by : (t : Bool) → ltb (length l) n ≡ t → length (take n l) ≡ cond (ltb (length l) n) (length l) n
-        by true h = ap length (take_all n l (let m : length l ≤ n = omega (arith, ltb-true (length l) n h) in m)) ∙ ap (λ (t : Bool). cond t (length l) n) (sym h)
-        by false h = length-take-le n l (ltb-false (length l) n h) ∙ ap (λ (t : Bool). cond t (length l) n) (sym h)
-
-pub row_starts : (e : Edition) (layers rows i : ℕ) → rows ≡ round_up layers (per_record e) → i < rows → per_record e * i ≤ layers
-row_starts One layers rows i q h = omega (arith, q)
-row_starts Two layers rows i q h = omega (arith, q)
-
-pub in_row_most : (e : Edition) (layers i n : ℕ) → n ≡ in_row e layers i → n ≤ per_record e
-unfolding in_row
-in_row_most e layers i n q = go (ltb (layers - per_record e * i) (per_record e)) refl
-  where
-    go : (t : Bool) → ltb (layers - per_record e * i) (per_record e) ≡ t → n ≤ per_record e
-    go true l = omega (arith, ltb-true (layers - per_record e * i) (per_record e) l, q ∙ ap (λ (t : Bool). cond t (layers - per_record e * i) (per_record e)) l)
-    go false l = omega (arith, q ∙ ap (λ (t : Bool). cond t (layers - per_record e * i) (per_record e)) l)
+in_row_is e ls i = simp (length-take, length-drop) (omega arith)
 
 pub rows_few : (e : Edition) (layers rows : ℕ) → rows ≡ round_up layers (per_record e) → layers ≤ 200000 → rows ≤ 200000
 rows_few One layers rows q h = omega (arith, q)
 rows_few Two layers rows q h = omega (arith, q)
 
-row_of : (e : Edition) (rows unlisted n : ℕ) → unlisted ≡ suc n → cond (eqb unlisted 0) rows ((unlisted - 1) / per_record e) ≡ n / per_record e
-row_of e rows unlisted n z = ap (λ (t : Bool). cond t rows ((unlisted - 1) / per_record e)) (ne_eqb unlisted 0 (λ q. omega arith)) ∙ ap (λ (m : ℕ). m / per_record e) (let x : unlisted - 1 ≡ n = omega arith in x)
-
-module _ (D : List (List ℕ)) (p layers unlisted rows right i : ℕ) where
+module _ (D : List (List ℕ)) (p layers : ℕ) (unlisted : Option ℕ) (rows right i : ℕ) where
   -- what a row says of the whole, by whether it agrees
-  here : (e : Edition) → rows ≡ round_up layers (per_record e) → Comparing D e p layers unlisted rows right i → i < rows → (ls : List Layer) → (a : Against D e p layers unlisted ls) → same (get_or D i []) (row e (take (per_record e) (drop (per_record e * i) ls))) ≡ false → differs p D (directory_of e p ls) ≡ difference_at (i + 1) p
+  here : (e : Edition) → rows ≡ round_up layers (per_record e) → Comparing D e p layers unlisted rows right i → i < rows → (ls : List Layer) → (a : Against D e p layers unlisted ls) → same (get_or D i []) (row e (take (per_record e) (drop (per_record e * i) ls))) ≡ false → differs p D (directory_of e p ls) ≡ difference_at (Some i) p
   here e of g l ls a q =
       let own : i < round_up (length ls) (per_record e) = subst (λ (n : ℕ). i < n) (of ∙ ap (λ (n : ℕ). round_up n (per_record e)) a.count) l in
       g.same_still ls a
       ∙ differs-here D (directory_of e p ls) (wide_directory e p ls) p i (omega (arith, length_directory e p ls, own)) (ap (same (get_or D i [])) (row_at e p ls i own) ∙ q)
-      ∙ ap (λ (n : ℕ). difference_at n p) (sym (add-one i))
 
   on : (e : Edition) → rows ≡ round_up layers (per_record e) → Comparing D e p layers unlisted rows right i → i < rows → (ls : List Layer) → (a : Against D e p layers unlisted ls) → same (get_or D i []) (row e (take (per_record e) (drop (per_record e * i) ls))) ≡ true → differs p D (directory_of e p ls) ≡ differs (p + (i + 1)) (drop (i + 1) D) (drop (i + 1) (directory_of e p ls))
   on e of g l ls a q =
@@ -272,22 +206,21 @@ module _ (D : List (List ℕ)) (p layers unlisted rows right i : ℕ) where
       ∙ ap (λ (n : ℕ). differs (p + n) (drop n D) (drop n (directory_of e p ls))) (sym (add-one i))
 
   -- a layer in this row is not listed
-  pub row_unlisted : (e : Edition) → rows ≡ round_up layers (per_record e) → right ≡ right_rows e rows unlisted → Comparing D e p layers unlisted rows right i → i < rows → right ≡ i → FirstDifferent D e p layers unlisted (i + 1)
-  unfolding right_rows
+  pub row_unlisted : (e : Edition) → rows ≡ round_up layers (per_record e) → right ≡ right_rows e rows unlisted → Comparing D e p layers unlisted rows right i → i < rows → right ≡ i → FirstDifferent D e p layers unlisted (Some i)
   row_unlisted e of r-is g l q ls a = go unlisted refl
     where
-      go : (u : ℕ) → unlisted ≡ u → differs p D (directory_of e p ls) ≡ difference_at (i + 1) p
-      go zero z = absurd (omega (arith, l, q, r-is ∙ ap (λ (t : Bool). cond t rows ((unlisted - 1) / per_record e)) (eq-eqb unlisted 0 z)))
-      go (suc n) z = here e of g l ls a (row_other e D ls a.fit i (n % per_record e) inside (ap (λ (j : ℕ). lists_layer e D j (listed e (get_or ls j no_layer))) at ∙ there))
+      go : (u : Option ℕ) → unlisted ≡ u → differs p D (directory_of e p ls) ≡ difference_at (Some i) p
+      go None z = absurd (omega (arith, l, q, r-is ∙ ap (right_rows e rows) z))
+      go (Some n) z = here e of g l ls a (row_other e D ls a.fit i (n % per_record e) inside (ap (λ (j : ℕ). lists_layer e D j (listed e (get_or ls j no_layer))) at ∙ there))
         where
           u : Unlisted e D 0 ls n
-          u = first_unlisted_some e D 0 ls n (sym a.first_is ∙ z)
+          u = first_unlisted_some e D 0 ls n (sym a.first_is ∙ ap unlisted_said z)
 
           place_is : u.place ≡ n
           place_is = omega (arith, u.is)
 
           row_is : i ≡ n / per_record e
-          row_is = sym q ∙ r-is ∙ row_of e rows unlisted n z
+          row_is = sym q ∙ r-is ∙ ap (right_rows e rows) z
 
           at : per_record e * i + n % per_record e ≡ n
           at = ap (λ (m : ℕ). per_record e * m + n % per_record e) row_is ∙ both_parts e n
@@ -300,18 +233,17 @@ module _ (D : List (List ℕ)) (p layers unlisted rows right i : ℕ) where
 
   -- every layer in this row is listed
   listed_here : (e : Edition) → right ≡ right_rows e rows unlisted → i < right → (ls : List Layer) → Against D e p layers unlisted ls → (q : ℕ) → q < length (take (per_record e) (drop (per_record e * i) ls)) → lists_layer e D (per_record e * i + q) (listed e (get_or ls (per_record e * i + q) no_layer)) ≡ true
-  unfolding right_rows
   listed_here e r-is l ls a q h = go unlisted refl
     where
-      go : (u : ℕ) → unlisted ≡ u → lists_layer e D (per_record e * i + q) (listed e (get_or ls (per_record e * i + q) no_layer)) ≡ true
-      go zero z = ap (λ (m : ℕ). lists_layer e D m (listed e (get_or ls (per_record e * i + q) no_layer))) (sym (zero-add (per_record e * i + q))) ∙ first_unlisted_none e D 0 ls (sym a.first_is ∙ z) (per_record e * i + q) (in_list e ls i q h)
-      go (suc n) z = ap (λ (m : ℕ). lists_layer e D m (listed e (get_or ls (per_record e * i + q) no_layer))) (sym (zero-add (per_record e * i + q))) ∙ u.before (per_record e * i + q) (omega (arith, u.is, row_before e i q n (subst (λ (m : ℕ). i < m) row_is l) (few e ls i q h)))
+      go : (u : Option ℕ) → unlisted ≡ u → lists_layer e D (per_record e * i + q) (listed e (get_or ls (per_record e * i + q) no_layer)) ≡ true
+      go None z = ap (λ (m : ℕ). lists_layer e D m (listed e (get_or ls (per_record e * i + q) no_layer))) (sym (zero-add (per_record e * i + q))) ∙ first_unlisted_none e D 0 ls (sym a.first_is ∙ ap unlisted_said z) (per_record e * i + q) (in_list e ls i q h)
+      go (Some n) z = ap (λ (m : ℕ). lists_layer e D m (listed e (get_or ls (per_record e * i + q) no_layer))) (sym (zero-add (per_record e * i + q))) ∙ u.before (per_record e * i + q) (omega (arith, u.is, row_before e i q n (subst (λ (m : ℕ). i < m) row_is l) (few e ls i q h)))
         where
           u : Unlisted e D 0 ls n
-          u = first_unlisted_some e D 0 ls n (sym a.first_is ∙ z)
+          u = first_unlisted_some e D 0 ls n (sym a.first_is ∙ ap unlisted_said z)
 
           row_is : right ≡ n / per_record e
-          row_is = r-is ∙ row_of e rows unlisted n z
+          row_is = r-is ∙ ap (right_rows e rows) z
 
   module _ (e : Edition) (r : List ℕ) (t : Bool) (n : ℕ) (r-is : r ≡ get_or D i []) (of : rows ≡ round_up layers (per_record e)) (right_is : right ≡ right_rows e rows unlisted) (g : Comparing D e p layers unlisted rows right i) (l : i < rows) (ne : right ≡ i → ⊥) (n-is : n ≡ in_row e layers i) (t-is : t ≡ framed (letters e) (per_layer e * n) r) where
     decided : (ls : List Layer) → Against D e p layers unlisted ls → same (get_or D i []) (row e (take (per_record e) (drop (per_record e * i) ls))) ≡ t
@@ -320,7 +252,7 @@ module _ (D : List (List ℕ)) (p layers unlisted rows right i : ℕ) where
         ∙ ap₂ (λ (k : ℕ) (x : List ℕ). framed (letters e) k x) (length-listed_all e (take (per_record e) (drop (per_record e * i) ls)) ∙ ap (λ (k : ℕ). per_layer e * k) (in_row_is e ls i ∙ ap (λ (k : ℕ). in_row e k i) (sym a.count) ∙ sym n-is)) (sym r-is)
         ∙ sym t-is
 
-    pub row-differs : not t ≡ true → FirstDifferent D e p layers unlisted (i + 1)
+    pub row-differs : not t ≡ true → FirstDifferent D e p layers unlisted (Some i)
     row-differs h ls a = here e of g l ls a (decided ls a ∙ not-true t h)
 
     pub row_agrees : not t ≡ false → Comparing D e p layers unlisted rows right (i + 1)
@@ -335,8 +267,7 @@ module _ (D : List (List ℕ)) (p layers unlisted rows right i : ℕ) where
   unfolding closing_is closing
   end_same e ls m a r = ap (λ (n : ℕ). framed (end_letters e) n r && numbers_are r 0 (end_listed e p layers)) (sym (length-end_listed e p layers)) ∙ record_same (end_letters e) (end_listed e p layers) (two_end_letters e) (short_end p layers a.small (omega arith) e) (omega (arith, length-end_listed e p layers, end_fits e)) r ∙ ap (λ (n : ℕ). same r (record_of (end_letters e) (end_listed e p n))) a.count
 
-  pub rows_behind : (e : Edition) → rows ≡ round_up layers (per_record e) → layers ≤ 200000 → Comparing D e p layers unlisted rows right i → rows ≤ i → (different : ℕ) → different ≡ behind_rows e D p layers rows → FirstDifferent D e p layers unlisted different
-  unfolding behind_rows
+  pub rows_behind : (e : Edition) → rows ≡ round_up layers (per_record e) → layers ≤ 200000 → Comparing D e p layers unlisted rows right i → rows ≤ i → (different : Option ℕ) → different ≡ behind_rows e D p layers rows → FirstDifferent D e p layers unlisted different
   rows_behind e of m g over different is ls a =
       g.same_still ls a
       ∙ ap (λ (n : ℕ). differs (p + n) (drop n D) (drop n R)) (let x : i ≡ rows = omega (arith, g.few) in x)
@@ -358,9 +289,9 @@ module _ (D : List (List ℕ)) (p layers unlisted rows right i : ℕ) where
       over_is = let h : length R ≤ suc rows = omega (arith, length_directory e p ls, own) in drop_of_length-le R h
 
       go : (t : Bool) → same (get_or D rows []) (closing e p (length ls)) ≡ t → differs (p + rows) (drop rows D) (drop rows R) ≡ difference_at different p
-      go false q = differs-here D R (wide_directory e p ls) p rows inside (ap (same (get_or D rows [])) end_is ∙ q) ∙ ap (λ (n : ℕ). difference_at n p) (sym (is ∙ ap (λ (t : Bool). cond t (cond (ltb (rows + 1) (length D)) (rows + 2) 0) (rows + 1)) (end_same e ls m a (get_or D rows []) ∙ q) ∙ add-one rows))
-      go true q = agrees_here D R (wide_directory e p ls) p rows inside (ap (same (get_or D rows [])) end_is ∙ q) ∙ ap (differs (p + suc rows) (drop (suc rows) D)) over_is ∙ past (ltb (rows + 1) (length D)) refl ∙ ap (λ (n : ℕ). difference_at n p) (sym (is ∙ ap (λ (t : Bool). cond t (cond (ltb (rows + 1) (length D)) (rows + 2) 0) (rows + 1)) (end_same e ls m a (get_or D rows []) ∙ q)))
+      go false q = differs-here D R (wide_directory e p ls) p rows inside (ap (same (get_or D rows [])) end_is ∙ q) ∙ ap (λ (n : Option ℕ). difference_at n p) (sym (is ∙ ap (λ (t : Bool). cond t (cond (ltb (rows + 1) (length D)) (Some (rows + 1)) None) (Some rows)) (end_same e ls m a (get_or D rows []) ∙ q)))
+      go true q = agrees_here D R (wide_directory e p ls) p rows inside (ap (same (get_or D rows [])) end_is ∙ q) ∙ ap (differs (p + suc rows) (drop (suc rows) D)) over_is ∙ past (ltb (rows + 1) (length D)) refl ∙ ap (λ (n : Option ℕ). difference_at n p) (sym (is ∙ ap (λ (t : Bool). cond t (cond (ltb (rows + 1) (length D)) (Some (rows + 1)) None) (Some rows)) (end_same e ls m a (get_or D rows []) ∙ q)))
         where
-          past : (t : Bool) → ltb (rows + 1) (length D) ≡ t → differs (p + suc rows) (drop (suc rows) D) [] ≡ difference_at (cond (ltb (rows + 1) (length D)) (rows + 2) 0) p
-          past true l = ap (λ (x : List (List ℕ)). differs (p + suc rows) x []) (drop-cons D (suc rows) [] (omega (arith, ltb-true (rows + 1) (length D) l))) ∙ ap (λ (n : ℕ). difference_at n p) (let x : suc (suc rows) ≡ rows + 2 = omega arith in x) ∙ ap (λ (t : Bool). difference_at (cond t (rows + 2) 0) p) (sym l)
-          past false l = ap (λ (x : List (List ℕ)). differs (p + suc rows) x []) (let h : length D ≤ suc rows = omega (arith, ltb-false (rows + 1) (length D) l) in drop_of_length-le D h) ∙ ap (λ (t : Bool). difference_at (cond t (rows + 2) 0) p) (sym l)
+          past : (t : Bool) → ltb (rows + 1) (length D) ≡ t → differs (p + suc rows) (drop (suc rows) D) [] ≡ difference_at (cond (ltb (rows + 1) (length D)) (Some (rows + 1)) None) p
+          past true l = ap (λ (x : List (List ℕ)). differs (p + suc rows) x []) (drop-cons D (suc rows) [] (omega (arith, ltb-true (rows + 1) (length D) l))) ∙ ap (λ (n : ℕ). fault 19 (p + n)) (sym (add-one rows)) ∙ ap (λ (t : Bool). difference_at (cond t (Some (rows + 1)) None) p) (sym l)
+          past false l = ap (λ (x : List (List ℕ)). differs (p + suc rows) x []) (let h : length D ≤ suc rows = omega (arith, ltb-false (rows + 1) (length D) l) in drop_of_length-le D h) ∙ ap (λ (t : Bool). difference_at (cond t (Some (rows + 1)) None) p) (sym l)

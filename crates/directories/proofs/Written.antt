@@ -8,7 +8,7 @@ use native.Mathlib.Numerals.{add-one}
 use native.Mathlib.Omega.{arith}
 use mir.Syntax.{w64}
 use mir.Val.{Fits, to_z, of_z}
-use borrow.Author.Tests.{eq-eqb, ne_eqb, ltb-true, ltb-false}
+use borrow.Author.Tests.{ltb-true, ltb-false}
 use lib.Dec.{eqb, ltb}
 use lib.IntN.{pos}
 use lib.ListN.{length, length-append, length-drop, length-map, take, drop, get_or, replicate, length-replicate, drop_of_length-le, get_or-append}
@@ -19,14 +19,13 @@ use Rattle.format.specs.Layout.{splice}
 use Rattle.format.specs.Record.{View, view, is_head}
 use Rattle.format.specs.Judge.{due_after, headers_and_items, is_header_at, items}
 use Rattle.format.proofs.Basics.{and-true}
-use Rattle.format.proofs.Columns.{length-written, length-splice}
 use Rattle.columns.specs.InRecord.{write_at}
 use Rattle.columns.proofs.Laws.{number-written}
 use Rattle.files.specs.declared.Stride.TheVariants.{Plain}
 use Rattle.files.specs.Records.{records_of}
 use Rattle.files.specs.Records.{stride_of}
 use Rattle.files.proofs.Records.{record_wide, record_inside}
-use Rattle.records.specs.declared.outlines.Outline.{Outline}
+use Rattle.records.specs.Outline.{Outline}
 use Rattle.records.specs.Outline.{outline_of}
 use Rattle.records.proofs.Outlined.{outline_head, outline_layer, outline_data_records, outline_data_records_most}
 use Rattle.format_directory.specs.declared.Edition.{Edition}
@@ -40,7 +39,7 @@ use Rattle.format_directory.proofs.DirectoryRecords as DirectoryRecords
 use Rattle.format_directory.proofs.DirectoryLayers.{layers-fit}
 use Rattle.format_directory.proofs.DirectoryBodies.{layers-behind}
 use Rattle.directories.specs.declared.writing.Passed.{Passed}
-use Rattle.directories.specs.Steps.{views_in, layers_in, is_layer, item_of, behind_entry, NextLayer, behind_layer, SmallNumbers, FirstLayer, LayerFrom, Kept, numbers_put, layer_put, RowFrom}
+use Rattle.directories.specs.Steps.{views_in, layers_in, is_layer, item_of, behind_entry, NextLayer, behind_layer, SmallNumbers, FirstLayer, Kept, numbers_put, layer_put, RowFrom}
 
 -- ---- a header has no data records
 header_due : (r : View) → is_header_at 1 r ≡ true → due_after 0 r ≡ 0
@@ -107,7 +106,6 @@ module _ (file : List ℕ) where
     head_is = outline_head (get_or rs k []) wide ∙ ap (λ (x : Outline). eqb x.kind 0) (sym is)
 
     layer_is : is_header_at 1 v ≡ is_layer o
-    unfolding is_layer
     layer_is = outline_layer (get_or rs k []) wide ∙ ap (λ (x : Outline). eqb x.kind 0 && eqb x.level 1) (sym is)
 
     data_is : v.data_records ≡ o.data_records
@@ -125,7 +123,6 @@ module _ (file : List ℕ) where
     due_is = ap₂ (λ (t : Bool) (n : ℕ). cond t 0 n) head_is data_is
 
     layer-none : is_layer o ≡ false → layers_in file k ≡ layers_in file (behind_entry o k)
-    unfolding behind_entry
     layer-none q =
         ap (layers_from 0 (suc k)) (views_more k here)
         ∙ ap (λ (t : Bool). cond t (record { header = suc k; body = layer_body 0 (views_in file (suc k)) } ∷ []) [] ++ layers_from (due_after 0 v) (suc (suc k)) (views_in file (suc k))) (layer_is ∙ q)
@@ -150,7 +147,6 @@ module _ (file : List ℕ) where
     own_body q = ap (layer_body 0) (views_more k here) ∙ ap (λ (t : Bool). cond t [] (w ∷ layer_body (due_after 0 w) (views_in file (suc k)))) (layer_is k here o is ∙ q)
 
     behind_is : suc k + due_after 0 w ≡ behind_entry o k
-    unfolding behind_entry
     behind_is = ap (λ (n : ℕ). suc k + n) (due_is k here o is) ∙ go (eqb o.kind 0)
       where
         go : (t : Bool) → suc k + cond t 0 o.data_records ≡ cond t (k + 1) (k + 1 + o.data_records)
@@ -176,32 +172,6 @@ module _ (file : List ℕ) where
         ap (λ (vs : List View). items (headers_and_items 0 vs)) (own_body q)
         ∙ ap₂ (λ (t : Bool) (n : ℕ). cond t 0 1 + n) (head_is k here o is) (skip_items (due_after 0 w) (views_in file (suc k)) ∙ ap (λ (vs : List View). items (headers_and_items 0 (layer_body 0 vs))) (views_later (suc k) (due_after 0 w)))
         ∙ ap (λ (n : ℕ). cond (eqb o.kind 0) 0 1 + items (headers_and_items 0 (layer_body 0 (views_in file n)))) behind_is
-
--- ---- `is_layer`, `one_if_item`, `behind`
-module _ (o : Outline) where
-  pub no_item : o.kind ≡ 0 → 0 ≡ item_of o
-  unfolding item_of
-  no_item h = rw (eq-eqb o.kind 0 h)
-
-  pub one_item : (o.kind ≡ 0 → ⊥) → 1 ≡ item_of o
-  unfolding item_of
-  one_item h = rw (ne_eqb o.kind 0 h)
-
-  pub no_header : (o.kind ≡ 0 → ⊥) → false ≡ is_layer o
-  unfolding is_layer
-  no_header h = rw (ne_eqb o.kind 0 h)
-
-  pub by_level : o.kind ≡ 0 → eqb o.level 1 ≡ is_layer o
-  unfolding is_layer
-  by_level h = rw (eq-eqb o.kind 0 h)
-
-  pub header-behind : (k : ℕ) → o.kind ≡ 0 → k + 1 ≡ behind_entry o k
-  unfolding behind_entry
-  header-behind k h = rw (eq-eqb o.kind 0 h)
-
-  pub item-behind : (k : ℕ) → (o.kind ≡ 0 → ⊥) → k + 1 + o.data_records ≡ behind_entry o k
-  unfolding behind_entry
-  item-behind k h = rw (ne_eqb o.kind 0 h)
 
 pub at_small : (file : List ℕ) (at count : ℕ) → count ≡ length (records_of Plain file) → at < count → length file < 2 ^ 64 → 84 * at < 2 ^ 64
 unfolding stride_of
@@ -234,7 +204,6 @@ module _ (file : List ℕ) (k at count items₁ : ℕ) (counted : count ≡ leng
     few_data = data_most file at inside o own
 
     pub item-fits : (one : ℕ) → one ≡ item_of o → length file < 2 ^ 64 → Fits w64 (items₁ + one)
-    unfolding item_of
     item-fits one one-is long = record { fits = omega (arith, g.few, one-is, at_most (eqb o.kind 0), at_small file at count counted here long) }
 
     module _ (t : Bool) (t-is : t ≡ is_layer o) where
@@ -249,7 +218,6 @@ module _ (file : List ℕ) (k at count items₁ : ℕ) (counted : count ≡ leng
 
       module _ (next : ℕ) (next-is : next ≡ behind_entry o at) (no : t ≡ false) where
         further : at < next
-        unfolding behind_entry
         further = omega (arith, next-is, go (eqb o.kind 0))
           where
             go : (t : Bool) → at < cond t (at + 1) (at + 1 + o.data_records)
@@ -260,7 +228,6 @@ module _ (file : List ℕ) (k at count items₁ : ℕ) (counted : count ≡ leng
         hop_on = omega (arith, further)
 
         pub hops : (one : ℕ) → one ≡ item_of o → Passing file k next (items₁ + one)
-        unfolding item_of
         hops one one-is = record {
           few = omega (arith, g.few, further, one-is, at_most (eqb o.kind 0));
           same-layers = g.same-layers ∙ layer-none file at inside o own (sym t-is ∙ no) ∙ ap (layers_in file) (sym next-is);
@@ -280,12 +247,8 @@ module _ (file : List ℕ) (k at count items₁ : ℕ) (counted : count ≡ leng
 
 -- ---- `find_layer`
 module _ (file : List ℕ) (k : ℕ) (r : Passed) (g : NextLayer file k r) (count : ℕ) (counted : count ≡ length (records_of Plain file)) where
-  pub none_found : (e : Edition) → count ≤ r.next → LayerFrom file e k (record { header = 0; total = 0; last = 0 })
-  none_found e h = record { none_left = λ z. g.none_left (omega (arith, counted)); first_is = λ ne. absurd (ne refl) }
-
-  module _ (here : r.next < count) (long : length file < 2 ^ 64) where
-    pub header-fits : Fits w64 (r.next + 1)
-    header-fits = record { fits = omega (arith, at_small file r.next count counted here long) }
+  pub none_found : count ≤ r.next → layers_in file k ≡ []
+  none_found h = g.none_left (omega (arith, counted))
 
   module _ (e : Edition) (here : r.next < count) where
     l₁ : Layer
@@ -295,15 +258,9 @@ module _ (file : List ℕ) (k : ℕ) (r : Passed) (g : NextLayer file k r) (coun
     unfolding l₁
     there = g.found (omega (arith, counted))
 
-    some : (n : LayerNumbers) → n.header ≡ r.next + 1 → n.header ≡ 0 → ⊥
-    some n q z = omega arith
-
-    pub first_found : e ≡ One → LayerFrom file e k (record { header = r.next + 1; total = 0; last = 0 })
-    unfolding listed_of behind_layer l₁
-    first_found is = subst (λ (x : Edition). LayerFrom file x k (record { header = r.next + 1; total = 0; last = 0 })) (sym is) (record {
-      none_left = λ z. absurd (omega arith);
-      first_is = λ ne. record { layer = l₁; split = there; numbers_are_lem = ap (λ (n : ℕ). n ∷ []) (add-one r.next) };
-    })
+    pub first_found : e ≡ One → FirstLayer file e k (record { header = r.next + 1; total = 0; last = 0 })
+    unfolding listed_of l₁
+    first_found is = subst (λ (x : Edition). FirstLayer file x k (record { header = r.next + 1; total = 0; last = 0 })) (sym is) (record { layer = l₁; split = there; numbers_are_lem = ap (λ (n : ℕ). n ∷ []) (add-one r.next) })
 
     module _ (b : Passed) (body : NextLayer file (r.next + 1) b) (is : e ≡ Two) where
       last_is : last_of l₁ ≡ b.next
@@ -320,12 +277,9 @@ module _ (file : List ℕ) (k : ℕ) (r : Passed) (g : NextLayer file k r) (coun
           ∙ ap (layers_from 0 (suc (r.next + 1) + length (layer_body 0 (views_in file (r.next + 1))))) (views_later file (r.next + 1) (length (layer_body 0 (views_in file (r.next + 1)))))
           ∙ ap₂ (λ (m n : ℕ). layers_from 0 m (views_in file n)) (let q : suc (r.next + 1) + length (layer_body 0 (views_in file (r.next + 1))) ≡ suc b.next = omega (arith, body.body_long (omega (arith, counted))) in q) (body.body_long (omega (arith, counted)))
 
-      pub second_found : LayerFrom file e k (record { header = r.next + 1; total = b.items; last = b.next })
-      unfolding listed_of behind_layer l₁
-      second_found = subst (λ (x : Edition). LayerFrom file x k (record { header = r.next + 1; total = b.items; last = b.next })) (sym is) (record {
-        none_left = λ z. absurd (omega arith);
-        first_is = λ ne. record { layer = l₁; split = there ∙ ap (λ (ls : List Layer). l₁ ∷ ls) behind-it; numbers_are_lem = λ i. header_is i ∷ sym total_is i ∷ sym last_is i ∷ [] };
-      })
+      pub second_found : FirstLayer file e k (record { header = r.next + 1; total = b.items; last = b.next })
+      unfolding listed_of l₁
+      second_found = subst (λ (x : Edition). FirstLayer file x k (record { header = r.next + 1; total = b.items; last = b.next })) (sym is) (record { layer = l₁; split = there ∙ ap (λ (ls : List Layer). l₁ ∷ ls) behind-it; numbers_are_lem = λ i. header_is i ∷ sym total_is i ∷ sym last_is i ∷ [] })
         where
           header_is : r.next + 1 ≡ l₁.header
           header_is = add-one r.next
@@ -369,7 +323,7 @@ place_of (suc due) i (r ∷ rs) j h = place_on due (suc due) i r rs j j refl (pl
 
 -- the layers behind one with these numbers, by what is listed of it
 behind-numbers : (file : List ℕ) (e : Edition) (n : LayerNumbers) (header : ℕ) (vs : List View) → vs ≡ views_in file header → listed_of e n ≡ listed e (record { header = header; body = layer_body 0 vs }) → layers_in file header ≡ layers_in file (behind_layer e n)
-unfolding listed_of behind_layer last_of
+unfolding listed_of last_of
 behind-numbers file One n header vs vs_is q = let h : n.header ≡ header = cc in ap (layers_in file) (sym h)
 behind-numbers file Two n header vs vs_is q =
     let h : n.last ≡ header + length (layer_body 0 vs) = cc in
@@ -419,6 +373,28 @@ module _ (file : List ℕ) (e : Edition) (first : List ℕ) (before k : ℕ) (g 
   gone : length kept_of ≤ before → layers_in file k ≡ []
   gone l = g.left ∙ drop_of_length-le kept_of l
 
+  none : get_or first (per_layer e * before) 0 ≡ 0 → before < length kept_of → ⊥
+  none z l =
+      let p : Place 0 (suc g.part) (views_in file g.part) before = place_of 0 (suc g.part) (views_in file g.part) before l in
+      omega (arith, p.low, z, place_header p l, ap (λ (m : ℕ). get_or first m 0) (let q : per_layer e * before ≡ per_layer e * before + 0 = omega arith in q) ∙ first-at 0 l (some-own e) ∙ first-number e (get_or kept_of before no_layer))
+    where
+      first-number : (x : Edition) (l : Layer) → get_or (listed x l) 0 0 ≡ l.header
+      first-number One l = refl
+      first-number Two l = refl
+
+      place_header : (p : Place 0 (suc g.part) (views_in file g.part) before) → before < length kept_of → (get_or kept_of before no_layer).header ≡ p.header
+      place_header p l =
+          let q : get_or kept_of before no_layer ∷ drop (suc before) kept_of ≡ record { header = p.header; body = layer_body 0 (drop (suc p.header - suc g.part) (views_in file g.part)) } ∷ layers_from 0 (suc p.header) (drop (suc p.header - suc g.part) (views_in file g.part)) = sym (drop-cons kept_of before no_layer l) ∙ p.split in
+          let r : get_or kept_of before no_layer ≡ record { header = p.header; body = layer_body 0 (drop (suc p.header - suc g.part) (views_in file g.part)) } = cc in
+          ap (λ (x : Layer). x.header) r
+
+  none-kept : get_or first (per_layer e * before) 0 ≡ 0 → layers_in file k ≡ []
+  none-kept z = go (ltb before (length kept_of)) refl
+    where
+      go : (t : Bool) → ltb before (length kept_of) ≡ t → layers_in file k ≡ []
+      go true q = absurd (none z (ltb-true before (length kept_of) q))
+      go false q = gone (ltb-false before (length kept_of) q)
+
   module _ (n : LayerNumbers) (numbers_are_lem : (l : before < length (layers_in file g.part)) → listed_of e n ≡ listed e (get_or (layers_in file g.part) before no_layer)) (header_is : n.header ≡ get_or first (per_layer e * before) 0) where
     here : before < length kept_of → FirstLayer file e k n
     here l = record { layer = get_or kept_of before no_layer; split = g.left ∙ drop-cons kept_of before no_layer l ∙ ap (λ (ls : List Layer). get_or kept_of before no_layer ∷ ls) behind-it; numbers_are_lem = numbers_are_lem l }
@@ -447,161 +423,65 @@ module _ (file : List ℕ) (e : Edition) (first : List ℕ) (before k : ℕ) (g 
             on : (x : Edition) → listed_of x n ≡ listed x (record { header = p.header; body = layer_body 0 vs }) → layers_in file p.header ≡ layers_in file (behind_layer x n)
             on x q = behind-numbers file x n p.header vs vs_is q
 
-    none : get_or first (per_layer e * before) 0 ≡ 0 → before < length kept_of → ⊥
-    none z l =
-        let p : Place 0 (suc g.part) (views_in file g.part) before = place_of 0 (suc g.part) (views_in file g.part) before l in
-        omega (arith, p.low, z, place_header p l, ap (λ (m : ℕ). get_or first m 0) (let q : per_layer e * before ≡ per_layer e * before + 0 = omega arith in q) ∙ first-at 0 l (some-own e) ∙ first-number e (get_or kept_of before no_layer))
+    from-kept : (n.header ≡ 0 → ⊥) → FirstLayer file e k n
+    from-kept ne = go (ltb before (length kept_of)) refl
       where
-        first-number : (x : Edition) (l : Layer) → get_or (listed x l) 0 0 ≡ l.header
-        first-number One l = refl
-        first-number Two l = refl
+        go : (t : Bool) → ltb before (length kept_of) ≡ t → FirstLayer file e k n
+        go true q = here (ltb-true before (length kept_of) q)
+        go false q = absurd (ne (header_is ∙ ap (λ (x : List ℕ). get_or x (per_layer e * before) 0) g.are ∙ kept-over e (kept_layers e) kept_of before few (ltb-false before (length kept_of) q)))
 
-        place_header : (p : Place 0 (suc g.part) (views_in file g.part) before) → before < length kept_of → (get_or kept_of before no_layer).header ≡ p.header
-        place_header p l =
-            let q : get_or kept_of before no_layer ∷ drop (suc before) kept_of ≡ record { header = p.header; body = layer_body 0 (drop (suc p.header - suc g.part) (views_in file g.part)) } ∷ layers_from 0 (suc p.header) (drop (suc p.header - suc g.part) (views_in file g.part)) = sym (drop-cons kept_of before no_layer l) ∙ p.split in
-            let r : get_or kept_of before no_layer ≡ record { header = p.header; body = layer_body 0 (drop (suc p.header - suc g.part) (views_in file g.part)) } = cc in
-            ap (λ (x : Layer). x.header) r
-
-    from-kept : LayerFrom file e k n
-    from-kept = go (ltb before (length kept_of)) refl
-      where
-        go : (t : Bool) → ltb before (length kept_of) ≡ t → LayerFrom file e k n
-        go true q = record { none_left = λ z. absurd (none (sym header_is ∙ z) (ltb-true before (length kept_of) q)); first_is = λ ne. here (ltb-true before (length kept_of) q) }
-        go false q = record { none_left = λ z. gone (ltb-false before (length kept_of) q); first_is = λ ne. absurd (ne (header_is ∙ ap (λ (x : List ℕ). get_or x (per_layer e * before) 0) g.are ∙ kept-over e (kept_layers e) kept_of before few (ltb-false before (length kept_of) q))) }
-
-  kept-first : e ≡ One → LayerFrom file e k (record { header = get_or first before 0; total = 0; last = 0 })
+  kept-first : e ≡ One → (get_or first (per_layer e * before) 0 ≡ 0 → ⊥) → FirstLayer file e k (record { header = get_or first (per_layer e * before) 0; total = 0; last = 0 })
   unfolding listed_of
-  kept-first is = from-kept (record { header = get_or first before 0; total = 0; last = 0 }) (λ l. ap (λ (x : Edition). listed_of x (record { header = get_or first before 0; total = 0; last = 0 })) is ∙ ap (λ (n : ℕ). n ∷ []) (head_is₁ ∙ number l) ∙ ap (λ (x : Edition). listed x (get_or kept_of before no_layer)) (sym is)) head_is₁
-    where
-      head_is₁ : get_or first before 0 ≡ get_or first (per_layer e * before) 0
-      head_is₁ = ap (λ (m : ℕ). get_or first m 0) ((let q : before ≡ 1 * before = omega arith in q) ∙ ap (λ (x : Edition). per_layer x * before) (sym is))
-
-      number : before < length kept_of → get_or first (per_layer e * before) 0 ≡ (get_or kept_of before no_layer).header
-      number l = ap (λ (m : ℕ). get_or first m 0) (let q : per_layer e * before ≡ per_layer e * before + 0 = omega arith in q) ∙ first-at 0 l (some-own e) ∙ ap (λ (x : Edition). get_or (listed x (get_or kept_of before no_layer)) 0 0) is
-
-  kept_second : e ≡ Two → LayerFrom file e k (record { header = get_or first (3 * before) 0; total = get_or first (3 * before + 1) 0; last = get_or first (3 * before + 2) 0 })
-  unfolding listed_of
-  kept_second is = from-kept n (λ l. ap (λ (x : Edition). listed_of x n) is ∙ (λ i. header l i ∷ number 1 (omega arith) l i ∷ number 2 (omega arith) l i ∷ []) ∙ ap (λ (x : Edition). listed x (get_or kept_of before no_layer)) (sym is)) (ap (λ (x : Edition). get_or first (per_layer x * before) 0) (sym is))
+  kept-first is = from-kept n (λ l. ap (λ (x : Edition). listed_of x n) is ∙ ap (λ (m : ℕ). m ∷ []) (number l) ∙ ap (λ (x : Edition). listed x (get_or kept_of before no_layer)) (sym is)) refl
     where
       n : LayerNumbers
-      n = record { header = get_or first (3 * before) 0; total = get_or first (3 * before + 1) 0; last = get_or first (3 * before + 2) 0 }
+      n = record { header = get_or first (per_layer e * before) 0; total = 0; last = 0 }
 
-      number : (i : ℕ) → i < 3 → before < length kept_of → get_or first (3 * before + i) 0 ≡ get_or (listed Two (get_or kept_of before no_layer)) i 0
-      number i h l = ap (λ (x : Edition). get_or first (per_layer x * before + i) 0) (sym is) ∙ first-at i l (subst (λ (x : Edition). i < per_layer x) (sym is) h) ∙ ap (λ (x : Edition). get_or (listed x (get_or kept_of before no_layer)) i 0) is
+      number : before < length kept_of → get_or first (per_layer e * before) 0 ≡ (get_or kept_of before no_layer).header
+      number l = ap (λ (m : ℕ). get_or first m 0) (sym (add-zero (per_layer e * before))) ∙ first-at 0 l (some-own e) ∙ ap (λ (x : Edition). get_or (listed x (get_or kept_of before no_layer)) 0 0) is
 
-      header : before < length kept_of → get_or first (3 * before) 0 ≡ (get_or kept_of before no_layer).header
-      header l = ap (λ (m : ℕ). get_or first m 0) (sym (add-zero (3 * before))) ∙ number 0 (omega arith) l
+  kept_second : e ≡ Two → (get_or first (per_layer e * before) 0 ≡ 0 → ⊥) → FirstLayer file e k (record { header = get_or first (per_layer e * before) 0; total = get_or first (per_layer e * before + 1) 0; last = get_or first (per_layer e * before + 2) 0 })
+  unfolding listed_of
+  kept_second is = from-kept n (λ l. ap (λ (x : Edition). listed_of x n) is ∙ (λ i. header l i ∷ number 1 (omega arith) l i ∷ number 2 (omega arith) l i ∷ []) ∙ ap (λ (x : Edition). listed x (get_or kept_of before no_layer)) (sym is)) refl
+    where
+      n : LayerNumbers
+      n = record { header = get_or first (per_layer e * before) 0; total = get_or first (per_layer e * before + 1) 0; last = get_or first (per_layer e * before + 2) 0 }
+
+      number : (i : ℕ) → i < 3 → before < length kept_of → get_or first (per_layer e * before + i) 0 ≡ get_or (listed Two (get_or kept_of before no_layer)) i 0
+      number i h l = first-at i l (subst (λ (x : Edition). i < per_layer x) (sym is) h) ∙ ap (λ (x : Edition). get_or (listed x (get_or kept_of before no_layer)) i 0) is
+
+      header : before < length kept_of → get_or first (per_layer e * before) 0 ≡ (get_or kept_of before no_layer).header
+      header l = ap (λ (m : ℕ). get_or first m 0) (sym (add-zero (per_layer e * before))) ∙ number 0 (omega arith) l
 
 module _ (file : List ℕ) (e : Edition) (first : List ℕ) (before k : ℕ) (g : Kept file e first before k) where
-  pub first-kept : e ≡ One → before < 33 → LayerFrom file e k (record { header = get_or first before 0; total = 0; last = 0 })
-  first-kept is h = kept-first file e first before k g (subst (λ (x : Edition). before < kept_layers x) (sym is) h) is
+  module _ (room own : ℕ) (room-is : room ≡ kept_layers e) (own-is : own ≡ per_layer e) (below : before < room) where
+    few : before < kept_layers e
+    few = omega arith
 
-  pub second_kept : e ≡ Two → before < 11 → LayerFrom file e k (record { header = get_or first (3 * before) 0; total = get_or first (3 * before + 1) 0; last = get_or first (3 * before + 2) 0 })
-  second_kept is h = kept_second file e first before k g (subst (λ (x : Edition). before < kept_layers x) (sym is) h) is
+    pub none_kept : get_or first (own * before) 0 ≡ 0 → layers_in file k ≡ []
+    none_kept = subst (λ (m : ℕ). get_or first (m * before) 0 ≡ 0 → layers_in file k ≡ []) (sym own-is) (none-kept file e first before k g few)
 
-  pub first_33 : length first ≡ 33
-  first_33 = ap length g.are ∙ numbers_long e (layers_in file g.part)
-    where
-      long : (x : Edition) (room : ℕ) (ls : List Layer) → length (first_numbers x room ls) ≡ per_layer x * room
-      long x zero ls = omega arith
-      long x (suc room) [] = length-append (replicate (per_layer x) 0) (first_numbers x room []) ∙ (omega (arith, length-replicate {A = ℕ} (per_layer x) 0, long x room []))
-      long x (suc room) (l ∷ ls) = length-append (listed x l) (first_numbers x room ls) ∙ (omega (arith, length-listed x l, long x room ls))
+    pub first_kept : e ≡ One → (get_or first (own * before) 0 ≡ 0 → ⊥) → FirstLayer file e k (record { header = get_or first (own * before) 0; total = 0; last = 0 })
+    first_kept is = subst (λ (m : ℕ). (get_or first (m * before) 0 ≡ 0 → ⊥) → FirstLayer file e k (record { header = get_or first (m * before) 0; total = 0; last = 0 })) (sym own-is) (kept-first file e first before k g few is)
 
-      numbers_long : (x : Edition) (ls : List Layer) → length (first_numbers x (kept_layers x) ls) ≡ 33
-      numbers_long One ls = long One 33 ls
-      numbers_long Two ls = long Two 11 ls
-
-pub kept_on : (file : List ℕ) (e : Edition) (first : List ℕ) (before k i at : ℕ) → Kept file e first before k → layers_in file at ≡ drop i (layers_in file k) → Kept file e first (before + i) at
-kept_on file e first before k i at g q = record { part = g.part; are = g.are; left = q ∙ ap (drop i) g.left ∙ drop-drop i before (layers_in file g.part) }
-
--- ---- one record written: letters first, then number after number
-module _ (e : Edition) (r : List ℕ) where
-  pub first-blank-row : e ≡ One → r ≡ record_of (90 ∷ 32 ∷ []) [] → r ≡ record_of (letters e) []
-  unfolding bytes
-  first-blank-row is h = h ∙ ap (λ (x : Edition). record_of (letters x) []) (sym is)
-
-  pub second_blank_row : e ≡ Two → r ≡ record_of (89 ∷ 32 ∷ []) [] → r ≡ record_of (letters e) []
-  unfolding bytes
-  second_blank_row is h = h ∙ ap (λ (x : Edition). record_of (letters x) []) (sym is)
-
-  pub first_blank_end : e ≡ One → r ≡ record_of (90 ∷ 69 ∷ []) [] → r ≡ record_of (end_letters e) []
-  unfolding bytes
-  first_blank_end is h = h ∙ ap (λ (x : Edition). record_of (end_letters x) []) (sym is)
-
-  pub second_blank_end : e ≡ Two → r ≡ record_of (89 ∷ 69 ∷ []) [] → r ≡ record_of (end_letters e) []
-  unfolding bytes
-  second_blank_end is h = h ∙ ap (λ (x : Edition). record_of (end_letters x) []) (sym is)
-
--- ---- `behind_layer`
-module _ (e : Edition) (n : LayerNumbers) where
-  pub behind-first : e ≡ One → n.header ≡ behind_layer e n
-  unfolding behind_layer
-  behind-first is = ap (λ (x : Edition). behind_layer x n) (sym is)
-
-  pub behind_second : e ≡ Two → n.last ≡ behind_layer e n
-  unfolding behind_layer
-  behind_second is = ap (λ (x : Edition). behind_layer x n) (sym is)
+    pub second_kept : e ≡ Two → (get_or first (own * before) 0 ≡ 0 → ⊥) → FirstLayer file e k (record { header = get_or first (own * before) 0; total = get_or first (own * before + 1) 0; last = get_or first (own * before + 2) 0 })
+    second_kept is = subst (λ (m : ℕ). (get_or first (m * before) 0 ≡ 0 → ⊥) → FirstLayer file e k (record { header = get_or first (m * before) 0; total = get_or first (m * before + 1) 0; last = get_or first (m * before + 2) 0 })) (sym own-is) (kept_second file e first before k g few is)
 
 -- ---- `put_number`
 pub number_put : (b l' : List ℕ) (k n : ℕ) (done : Bool) → length b ≡ 84 → k < 11 → n ≤ 9999999 → record { done = done; bytes = l' } ≡ write_at b (2 + 7 * k) 7 (to_z w64 (of_z w64 (pos n))) → l' ≡ splice (2 + 7 * k) 7 (written 7 (pos n)) b
 number_put b l' k n done w h m e = number-written 7 n (omega arith) (let x : n < 10 ^ 7 = omega arith in x) b l' (2 + 7 * k) done (omega arith) (omega arith) e
 
-pub put-length : (k n : ℕ) (b : List ℕ) → k < 11 → length b ≡ 84 → length (splice (2 + 7 * k) 7 (written 7 (pos n)) b) ≡ 84
-put-length k n b h w = length-splice (2 + 7 * k) 7 (written 7 (pos n)) b (length-written 7 (pos n)) (omega arith) ∙ w
-
 -- ---- `put_layer`
-module _ (e : Edition) (before : ℕ) (n : LayerNumbers) (b : List ℕ) (wide : length b ≡ 84) (below : before < per_record e) where
+module _ (e : Edition) (before : ℕ) (n : LayerNumbers) (b : List ℕ) (below : before < per_record e) where
   module _ (is : e ≡ One) where
-    pub first_place : before < 11
-    first_place = subst (λ (x : Edition). before < per_record x) is below
-
-    pub first-put : (after : List ℕ) → after ≡ splice (2 + 7 * before) 7 (written 7 (pos n.header)) b → after ≡ layer_put e before n b
+    pub first_put : (after : List ℕ) → after ≡ splice (2 + 7 * before) 7 (written 7 (pos n.header)) b → after ≡ layer_put e before n b
     unfolding layer_put listed_of
-    first-put after q = q ∙ ap (λ (k : ℕ). splice (2 + 7 * k) 7 (written 7 (pos n.header)) b) (let x : before ≡ 1 * before = omega arith in x) ∙ ap (λ (x : Edition). numbers_put (per_layer x * before) (listed_of x n) b) (sym is)
-
-    pub first_small : SmallNumbers e n → n.header ≤ 9999999
-    first_small h = subst (λ (x : Edition). SmallNumbers x n) is h
+    first_put after q = q ∙ ap (λ (k : ℕ). splice (2 + 7 * k) 7 (written 7 (pos n.header)) b) (let x : before ≡ 1 * before = omega arith in x) ∙ ap (λ (x : Edition). numbers_put (per_layer x * before) (listed_of x n) b) (sym is)
 
   module _ (is : e ≡ Two) where
-    second_place : before < 3
-    second_place = subst (λ (x : Edition). before < per_record x) is below
-
-    pub place_fits : Fits w64 (3 * before)
-    place_fits = record { fits = omega (arith, second_place) }
-
-    pub place_fits_one : Fits w64 (3 * before + 1)
-    place_fits_one = record { fits = omega (arith, second_place) }
-
-    pub place_fits_two : Fits w64 (3 * before + 2)
-    place_fits_two = record { fits = omega (arith, second_place) }
-
-    pub place_in : 3 * before < 11
-    place_in = omega (arith, second_place)
-
-    pub place_in_one : 3 * before + 1 < 11
-    place_in_one = omega (arith, second_place)
-
-    pub place_in_two : 3 * before + 2 < 11
-    place_in_two = omega (arith, second_place)
-
     module _ (h : SmallNumbers e n) where
       small : (n.header ≤ 9999999) × (n.total ≤ 9999999) × (n.last ≤ 9999999)
       small = subst (λ (x : Edition). SmallNumbers x n) is h
-
-      pub header-small : n.header ≤ 9999999
-      header-small = small.0
-
-      pub total-small : n.total ≤ 9999999
-      total-small = small.1
-
-      pub last-small : n.last ≤ 9999999
-      last-small = small.2
-
-    pub second_long : (b₁ : List ℕ) → b₁ ≡ splice (2 + 7 * (3 * before)) 7 (written 7 (pos n.header)) b → length b₁ ≡ 84
-    second_long b₁ q = ap length q ∙ put-length (3 * before) n.header b place_in wide
-
-    pub third_long : (b₁ b₂ : List ℕ) → b₁ ≡ splice (2 + 7 * (3 * before)) 7 (written 7 (pos n.header)) b → b₂ ≡ splice (2 + 7 * (3 * before + 1)) 7 (written 7 (pos n.total)) b₁ → length b₂ ≡ 84
-    third_long b₁ b₂ q q₂ = ap length q₂ ∙ put-length (3 * before + 1) n.total b₁ place_in_one (second_long b₁ q)
 
     pub second_put : (b₁ b₂ b₃ : List ℕ) → b₁ ≡ splice (2 + 7 * (3 * before)) 7 (written 7 (pos n.header)) b → b₂ ≡ splice (2 + 7 * (3 * before + 1)) 7 (written 7 (pos n.total)) b₁ → b₃ ≡ splice (2 + 7 * (3 * before + 2)) 7 (written 7 (pos n.last)) b₂ → b₃ ≡ layer_put e before n b
     unfolding layer_put listed_of
@@ -647,57 +527,26 @@ numbers_added l ns (m ∷ ms) two h =
     ∙ numbers_added l (ns ++ (m ∷ [])) ms two (omega (arith, length-append ns (m ∷ [])))
     ∙ ap (record_of l) (append_assoc ns (m ∷ []) ms)
 
--- a record of 84 bytes, lent whole and given back
-lent_back : (b after : List ℕ) → length b ≡ 84 → after ++ drop 84 b ≡ after
-lent_back b after w = ap (λ (x : List ℕ). after ++ x) (drop_of_length-le b (let x : length b ≤ 84 = omega arith in x)) ∙ append-nil after
+-- ---- `blank`
+pub blank_is : (l : List ℕ) → length l ≡ 2 → l ++ drop 2 (replicate 84 32) ≡ record_of l []
+blank_is l q = refl
 
-lent-whole : (b : List ℕ) → length b ≡ 84 → take 84 b ≡ b
-lent-whole b w = take_all 84 b (let x : length b ≤ 84 = omega arith in x)
+-- ---- `closing_bytes`: pointer and count, and the edition where there is one
+module _ (e : Edition) (p c : ℕ) (l b b₁ b₂ : List ℕ) (l-is : l ≡ end_letters e) (q : b ≡ record_of l []) (q₁ : b₁ ≡ splice (2 + 7 * 0) 7 (written 7 (pos p)) b) (q₂ : b₂ ≡ splice (2 + 7 * 1) 7 (written 7 (pos c)) b₁) where
+  two_written : b₂ ≡ record_of (end_letters e) (p ∷ c ∷ [])
+  two_written = q₂ ∙ ap (splice (2 + 7 * 1) 7 (written 7 (pos c))) (q₁ ∙ ap (splice (2 + 7 * 0) 7 (written 7 (pos p))) (q ∙ ap (λ (x : List ℕ). record_of x []) l-is)) ∙ numbers_added (end_letters e) [] (p ∷ c ∷ []) (two_end_letters e) (omega arith)
 
-number-lent : (k n : ℕ) (b after : List ℕ) → length b ≡ 84 → after ≡ splice (2 + 7 * k) 7 (written 7 (pos n)) (take 84 b) → after ++ drop 84 b ≡ splice (2 + 7 * k) 7 (written 7 (pos n)) b
-number-lent k n b after w q = lent_back b after w ∙ q ∙ ap (splice (2 + 7 * k) 7 (written 7 (pos n))) (lent-whole b w)
+  pub first_closing : (e ≡ Two → ⊥) → b₂ ≡ closing e p c
+  unfolding closing
+  first_closing ne = two_written ∙ ap (λ (x : Edition). record_of (end_letters e) (end_listed x p c)) (sym (other e ne))
+    where
+      other : (x : Edition) → (x ≡ Two → ⊥) → x ≡ One
+      other One h = refl
+      other Two h = absurd (h refl)
 
--- the closing record: pointer and count, each written into the lent record, and the edition where there is one
-module _ (e : Edition) (p c : ℕ) (b : List ℕ) (q : b ≡ record_of (end_letters e) []) where
-  blank_long : length b ≡ 84
-  blank_long = ap length q ∙ length_record (end_letters e) [] (two_end_letters e) (omega arith)
-
-  module _ (a₁ : List ℕ) (q₁ : a₁ ≡ splice (2 + 7 * 0) 7 (written 7 (pos p)) (take 84 b)) where
-    abbrev b₁ : List ℕ
-    b₁ = a₁ ++ drop 84 b
-
-    one_put : b₁ ≡ splice (2 + 7 * 0) 7 (written 7 (pos p)) b
-    one_put = number-lent 0 p b a₁ blank_long q₁
-
-    one_long : length b₁ ≡ 84
-    one_long = ap length one_put ∙ put-length 0 p b (omega arith) blank_long
-
-    pub one_room : 84 ≤ length (a₁ ++ drop 84 b)
-    one_room = omega (arith, one_long)
-
-    module _ (a₂ : List ℕ) (q₂ : a₂ ≡ splice (2 + 7 * 1) 7 (written 7 (pos c)) (take 84 (a₁ ++ drop 84 b))) where
-      abbrev b₂ : List ℕ
-      b₂ = a₂ ++ drop 84 (a₁ ++ drop 84 b)
-
-      two_put : b₂ ≡ splice (2 + 7 * 1) 7 (written 7 (pos c)) b₁
-      two_put = number-lent 1 c b₁ a₂ one_long q₂
-
-      two_long : length b₂ ≡ 84
-      two_long = ap length two_put ∙ put-length 1 c b₁ (omega arith) one_long
-
-      pub two_room : 84 ≤ length (a₂ ++ drop 84 (a₁ ++ drop 84 b))
-      two_room = omega (arith, two_long)
-
-      two_written : b₂ ≡ record_of (end_letters e) (p ∷ c ∷ [])
-      two_written = two_put ∙ ap (splice (2 + 7 * 1) 7 (written 7 (pos c))) (one_put ∙ ap (splice (2 + 7 * 0) 7 (written 7 (pos p))) q) ∙ numbers_added (end_letters e) [] (p ∷ c ∷ []) (two_end_letters e) (omega arith)
-
-      pub first-closing : e ≡ One → a₂ ++ drop 84 (a₁ ++ drop 84 b) ≡ closing e p c
-      unfolding closing
-      first-closing is = two_written ∙ ap (λ (x : Edition). record_of (end_letters e) (end_listed x p c)) (sym is)
-
-      pub second_closing : e ≡ Two → (a₃ : List ℕ) → a₃ ≡ splice (2 + 7 * 2) 7 (written 7 (pos 2)) (take 84 (a₂ ++ drop 84 (a₁ ++ drop 84 b))) → a₃ ++ drop 84 (a₂ ++ drop 84 (a₁ ++ drop 84 b)) ≡ closing e p c
-      unfolding closing
-      second_closing is a₃ q₃ = number-lent 2 2 b₂ a₃ two_long q₃ ∙ ap (splice (2 + 7 * 2) 7 (written 7 (pos 2))) two_written ∙ number_added (end_letters e) (p ∷ c ∷ []) (two_end_letters e) 2 (omega arith) ∙ ap (λ (x : Edition). record_of (end_letters e) (end_listed x p c)) (sym is)
+  pub second_closing : e ≡ Two → (b₃ : List ℕ) → b₃ ≡ splice (2 + 7 * 2) 7 (written 7 (pos 2)) b₂ → b₃ ≡ closing e p c
+  unfolding closing
+  second_closing is b₃ q₃ = q₃ ∙ ap (splice (2 + 7 * 2) 7 (written 7 (pos 2))) two_written ∙ number_added (end_letters e) (p ∷ c ∷ []) (two_end_letters e) 2 (omega arith) ∙ ap (λ (x : Edition). record_of (end_letters e) (end_listed x p c)) (sym is)
 
 -- ---- the loop of `row_from`: i layers are written, and the others stand from record `at` on
 pub record Filling (file : List ℕ) (e : Edition) (k each : ℕ) (bytes : List ℕ) (at i : ℕ) : Type 0 where
@@ -706,32 +555,16 @@ pub record Filling (file : List ℕ) (e : Edition) (k each : ℕ) (bytes : List 
   pub left : layers_in file at ≡ drop i (layers_in file k)
   pub bytes_are : bytes ≡ row e (take i (layers_in file k))
 
-pub filling : (file : List ℕ) (e : Edition) (k each : ℕ) (bytes : List ℕ) → bytes ≡ record_of (letters e) [] → Filling file e k each bytes k 0
+pub filling : (file : List ℕ) (e : Edition) (k each : ℕ) (l bytes : List ℕ) → l ≡ letters e → bytes ≡ record_of l [] → Filling file e k each bytes k 0
 unfolding row
-filling file e k each bytes h = record { below = omega arith; taken = omega arith; left = refl; bytes_are = h }
+filling file e k each l bytes q h = record { below = omega arith; taken = omega arith; left = refl; bytes_are = h ∙ ap (λ (x : List ℕ). record_of x []) q }
 
-pub blank_row_long : (e : Edition) (bytes : List ℕ) → bytes ≡ record_of (letters e) [] → length bytes ≡ 84
-blank_row_long e bytes q = ap length q ∙ length_record (letters e) [] (two_letters e) (omega arith)
-
-pub row_long : (file : List ℕ) (e : Edition) (k each : ℕ) (bytes : List ℕ) (at i : ℕ) → Filling file e k each bytes at i → each ≡ per_record e → length bytes ≡ 84
-row_long file e k each bytes at i f q = ap length f.bytes_are ∙ length-row e (take i (layers_in file k)) (omega (arith, most i (layers_in file k), f.below))
-
-pub kept_further : (file : List ℕ) (e : Edition) (first : List ℕ) (before k each : ℕ) (bytes : List ℕ) (at i : ℕ) → Kept file e first before k → Filling file e k each bytes at i → Kept file e first (before + i) at
-kept_further file e first before k each bytes at i g f = kept_on file e first before k i at g f.left
-
-pub each_small : (e : Edition) (each : ℕ) → each ≡ per_record e → each ≤ 11
-each_small One each q = omega arith
-each_small Two each q = omega arith
-
-module _ (file : List ℕ) (e : Edition) (k each : ℕ) (bytes : List ℕ) (at i : ℕ) (g : Filling file e k each bytes at i) (each-is : each ≡ per_record e) (n : LayerNumbers) (from : LayerFrom file e at n) where
+module _ (file : List ℕ) (e : Edition) (k each : ℕ) (bytes : List ℕ) (at i : ℕ) (g : Filling file e k each bytes at i) (each-is : each ≡ per_record e) where
   abbrev ls : List Layer
   ls = layers_in file k
 
   -- a layer is there
-  module _ (ne : n.header ≡ 0 → ⊥) where
-    f : FirstLayer file e at n
-    f = from.first_is ne
-
+  module _ (n : LayerNumbers) (f : FirstLayer file e at n) where
     found : drop i ls ≡ f.layer ∷ layers_in file (behind_layer e n)
     found = sym g.left ∙ f.split
 
@@ -777,32 +610,25 @@ module _ (file : List ℕ) (e : Edition) (k each : ℕ) (bytes : List ℕ) (at i
     listed_long : length (listed_all e (take i ls)) ≡ per_layer e * i
     listed_long = length-listed_all e (take i ls) ∙ ap (λ (m : ℕ). per_layer e * m) (length-take-le i ls (omega (arith, one_left)))
 
-    pub layer_added : i < each → (after : List ℕ) (next : ℕ) → after ≡ layer_put e i n (take 84 bytes) → next ≡ behind_layer e n → Filling file e k each (after ++ drop 84 bytes) next (i + 1)
+    pub layer_added : i < each → (after : List ℕ) (next : ℕ) → after ≡ layer_put e i n bytes → next ≡ behind_layer e n → Filling file e k each after next (i + 1)
     unfolding row layer_put
     layer_added h after next q next-is = record {
       below = omega arith;
       taken = omega (arith, one_left);
       left = ap (layers_in file) next-is ∙ sym others ∙ ap (λ (m : ℕ). drop m ls) (sym (add-one i));
       bytes_are =
-          lent_back bytes after long
-          ∙ q
-          ∙ ap₂ (λ (ns b : List ℕ). numbers_put (per_layer e * i) ns b) f.numbers_are_lem (lent-whole bytes long ∙ g.bytes_are)
+          q
+          ∙ ap₂ (λ (ns b : List ℕ). numbers_put (per_layer e * i) ns b) f.numbers_are_lem g.bytes_are
           ∙ ap (λ (m : ℕ). numbers_put m (listed e f.layer) (record_of (letters e) (listed_all e (take i ls)))) (sym listed_long)
           ∙ numbers_added (letters e) (listed_all e (take i ls)) (listed e f.layer) (two_letters e) (omega (arith, listed_long, length-listed e f.layer, row_fits e (i + 1) (omega (arith, each-is))))
           ∙ ap (record_of (letters e)) (sym (listed_more (take i ls) f.layer))
           ∙ ap (λ (x : List Layer). record_of (letters e) (listed_all e x)) (sym taken_more);
     }
-      where
-        long : length bytes ≡ 84
-        long = row_long file e k each bytes at i g each-is
-
-    pub still_long : i < each → (after : List ℕ) (next : ℕ) → after ≡ layer_put e i n (take 84 bytes) → next ≡ behind_layer e n → length (after ++ drop 84 bytes) ≡ 84
-    still_long h after next q next-is = row_long file e k each (after ++ drop 84 bytes) next (i + 1) (layer_added h after next q next-is) each-is
 
   -- no layer is left
-  module _ (z : n.header ≡ 0) where
+  module _ (none : layers_in file at ≡ []) where
     none_left : drop i ls ≡ []
-    none_left = sym g.left ∙ from.none_left z
+    none_left = sym g.left ∙ none
 
     all_taken : length ls ≤ i
     all_taken = omega (arith, length-drop i ls, ap length none_left)
@@ -810,17 +636,5 @@ module _ (file : List ℕ) (e : Edition) (k each : ℕ) (bytes : List ℕ) (at i
     pub last_row : RowFrom file e k (record { bytes = bytes; next = at })
     last_row = record {
       bytes_are = g.bytes_are ∙ ap (row e) (take_all i ls all_taken ∙ sym (take_all (per_record e) ls (omega (arith, all_taken, g.below, each-is))));
-      left = from.none_left z ∙ sym (drop_of_length-le ls (let x : length ls ≤ per_record e = omega (arith, all_taken, g.below, each-is) in x));
+      left = none ∙ sym (drop_of_length-le ls (let x : length ls ≤ per_record e = omega (arith, all_taken, g.below, each-is) in x));
     }
-
-pub layer_place : (e : Edition) (each i : ℕ) → each ≡ per_record e → i < each → i < per_record e
-layer_place e each i q h = omega arith
-
-pub lent_long : (b : List ℕ) → length b ≡ 84 → length (take 84 b) ≡ 84
-lent_long b w = length-take-le 84 b (let x : 84 ≤ length b = omega arith in x)
-
-module _ (file : List ℕ) (e : Edition) (k each : ℕ) (bytes : List ℕ) (at i : ℕ) (g : Filling file e k each bytes at i) (each-is : each ≡ per_record e) where
-  pub full-row : each ≤ i → RowFrom file e k (record { bytes = bytes; next = at })
-  full-row h =
-      let m : i ≡ per_record e = omega (arith, g.below, each-is) in
-      record { bytes_are = g.bytes_are ∙ ap (λ (x : ℕ). row e (take x (layers_in file k))) m; left = g.left ∙ ap (λ (x : ℕ). drop x (layers_in file k)) m }

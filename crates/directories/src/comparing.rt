@@ -6,30 +6,28 @@ ghost use Rattle.files.specs.declared.Stride.TheVariants.{Plain};
 ghost use Rattle.files.specs.Records.{records_of};
 ghost use Rattle.directories.specs.Steps.{framed, right_rows, in_row, behind_rows, FirstDifferent};
 
-use super::closing;
+use super::{Found, closing};
 use files::Stride;
 use format_directory::Edition;
 
 // A record that lists so many layers has its letters, and spaces behind the numbers.
+#[tactic(auto, using(crate::proofs::OneRecord::row_fits))]
 fn is_row(record: &[u8], edition: Edition, layers: usize) -> bool
     requires { layers ≤ per_record edition }
     ensures { result ≡ framed (letters edition) (per_layer edition * layers) «record».now }
 {
-    match edition {
-        Edition::One => closing::is_framed(record, b'Z', b' ', layers),
-        Edition::Two => closing::is_framed(record, b'Y', b' ', 3 * layers),
-    }
+    let columns = directory_columns::per_layer(edition) * layers;
+    closing::is_framed(record, closing::letters(edition), columns)
 }
 
-// So many records, from the first, list every layer of theirs, where `rows` list all layers and `unlisted` is the first layer that is not listed, or 0.
-fn right_rows(edition: Edition, rows: usize, unlisted: usize) -> usize
+// So many records, from the first, list every layer of theirs, where `rows` list all layers and `unlisted` is the first layer that is not listed.
+fn right_rows(edition: Edition, rows: usize, unlisted: Option<usize>) -> usize
     ensures { result ≡ right_rows edition rows unlisted }
 {
-    let each = directory_columns::per_record(edition);
-    if unlisted == 0 {
-        return rows;
+    match unlisted {
+        Some(layer) => layer / directory_columns::per_record(edition),
+        None => rows,
     }
-    (unlisted - 1) / each
 }
 
 // So many of the layers stand in record i, where the records before it are full.
@@ -38,54 +36,40 @@ fn in_row(edition: Edition, layers: usize, i: usize) -> usize
     ensures { result ≡ in_row edition layers i }
 {
     let each = directory_columns::per_record(edition);
-    let left = layers - each * i;
-    if left < each { left } else { each }
+    (layers - each * i).min(each)
 }
 
-// The first record that differs from the right directory of so many layers, counted from 1; 0 where none does.
+// The first record, counted from 0, that differs from the right directory.
 pub(crate) fn first_different(
     directory: &[u8],
-    edition: Edition,
-    pointer: usize,
-    layers: usize,
-    unlisted: usize,
-) -> usize
-    requires { layers ≤ 200000 }
-    ensures { FirstDifferent (records_of Plain directory.now) edition pointer layers unlisted result }
+    found: Found,
+    unlisted: Option<usize>,
+) -> Option<usize>
+    requires { found.layers ≤ 200000 }
+    ensures { FirstDifferent (records_of Plain directory.now) found.edition found.pointer found.layers unlisted result }
 {
+    let edition = found.edition;
+    let layers = found.layers;
     let rows = directory_columns::rows(edition, layers);
     let right = right_rows(edition, rows, unlisted);
-    let mut i = 0;
-    while i < rows {
+    for i in 0..rows {
         let record = files::record_at(directory, Stride::Plain, i);
-        if right == i {
-            return i + 1;
+        if right == i || !is_row(record, edition, in_row(edition, layers, i)) {
+            return Some(i);
         }
-        if !is_row(record, edition, in_row(edition, layers, i)) {
-            return i + 1;
-        }
-        i += 1;
     }
-    behind_rows(directory, edition, pointer, layers, rows)
+    behind_rows(directory, found, rows)
 }
 
 // The same, where every record that lists layers is right: the closing record, and what stands behind it.
-fn behind_rows(
-    directory: &[u8],
-    edition: Edition,
-    pointer: usize,
-    layers: usize,
-    rows: usize,
-) -> usize
+fn behind_rows(directory: &[u8], found: Found, rows: usize) -> Option<usize>
     requires { rows ≤ 200000 }
-    ensures { result ≡ behind_rows edition (records_of Plain directory.now) pointer layers rows }
+    ensures { result ≡ behind_rows found.edition (records_of Plain directory.now) found.pointer found.layers rows }
 {
     let record = files::record_at(directory, Stride::Plain, rows);
-    if !closing::is_closing(record, edition, pointer, layers) {
-        return rows + 1;
+    if !closing::is_closing(record, found) {
+        return Some(rows);
     }
-    if rows + 1 < files::count(directory, Stride::Plain) {
-        return rows + 2;
-    }
-    0
+    let behind = rows + 1;
+    (behind < files::count(directory, Stride::Plain)).then_some(behind)
 }

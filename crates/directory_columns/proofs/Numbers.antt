@@ -2,10 +2,11 @@
 use mathlib.Core.Path.{◌≡◌, refl, ap, sym, ◌∙◌}
 use mathlib.Core.Bool.{Bool, true, false, not, ◌&&◌, and-true, and-false, and-eq-true_iff}
 use mathlib.Core.List.{List, [], ◌∷◌}
-use Prim.Native.Nat.{ℕ, suc, ◌+◌, ◌-◌, ◌*◌, ◌/◌, ◌%◌, ◌≤◌, ◌<◌}
+use Rattle.std.proofs.Common.{min}
+use Prim.Native.Nat.{ℕ, suc, ◌+◌, ◌*◌, ◌/◌, ◌%◌, ◌≤◌, ◌<◌}
 use native.Mathlib.Numerals.{add-one}
 use native.Mathlib.Omega.{arith}
-use borrow.Author.Tests.{lt-leb, lt-ltb, le-ltb, leb-true, ltb-true, ltb-false, not-true, not-false}
+use borrow.Author.Tests.{lt-leb, leb-true, ltb-true, ltb-false, not-true, not-false}
 use lib.Dec.{eqb, ltb, leb, leb-suc-suc}
 use lib.IntN.{pos}
 use lib.ListN.{length, get_or}
@@ -35,27 +36,9 @@ pub some_each : (e : Edition) (each : ℕ) → each ≡ per_record e → 0 < eac
 some_each One each q = omega (arith, q)
 some_each Two each q = omega (arith, q)
 
-pub no_rows : (e : Edition) (layers : ℕ) → layers ≡ 0 → 0 ≡ round_up layers (per_record e)
-no_rows One layers q = omega arith
-no_rows Two layers q = omega arith
-
-pub row_fits : (e : Edition) (each layers : ℕ) → each ≡ per_record e → Fits w64 layers → Fits w64 ((layers - 1) / each + 1)
-row_fits One each layers q f = rw q (record { fits = omega (arith, f.fits) })
-row_fits Two each layers q f = rw q (record { fits = omega (arith, f.fits) })
-
-pub some-rows : (e : Edition) (each layers : ℕ) → each ≡ per_record e → (layers ≡ 0 → ⊥) → (layers - 1) / each + 1 ≡ round_up layers (per_record e)
-some-rows One each layers q h = rw q (omega arith)
-some-rows Two each layers q h = rw q (omega arith)
-
--- ---- `has_column`
-module _ (r : List ℕ) (k : ℕ) where
-  pub no_column : 11 ≤ k → false ≡ has_column r k
-  unfolding has_column
-  no_column h = rw (le-ltb k 11 h)
-
-  pub column-whole : k < 11 → leb (2 + 7 * k + 7) (length r) ≡ has_column r k
-  unfolding has_column
-  column-whole h = rw (lt-ltb k 11 h)
+pub rows_are : (e : Edition) (each layers : ℕ) → each ≡ per_record e → layers / each + min 1 (layers % each) ≡ round_up layers (per_record e)
+rows_are One each layers q = rw q (omega arith)
+rows_are Two each layers q = rw q (omega arith)
 
 -- what is known of a column that is there
 pub record Column (r : List ℕ) (k : ℕ) : Type 0 where
@@ -76,9 +59,9 @@ module _ (r : List ℕ) (k : ℕ) (g : Column r k) where
   start_fits = record { fits = omega (arith, g.low) }
 
 -- the same in the code's own words
-module _ (r : List ℕ) (k : ℕ) (t : Bool) (e : t ≡ has_column r k) (h : not t ≡ false) where
+module _ (r : List ℕ) (k : ℕ) (t : Bool) (e : t ≡ has_column r k) (h : t ≡ true) where
   there : Column r k
-  there = column_of_lem r k (sym e ∙ not-false t h)
+  there = column_of_lem r k (sym e ∙ h)
 
   pub there-width : Fits w64 (7 * k)
   there-width = width_fits r k there
@@ -91,13 +74,13 @@ module _ (r : List ℕ) (k : ℕ) (t : Bool) (e : t ≡ has_column r k) (h : not
 
 -- ---- `column_is`
 module _ (r : List ℕ) (k p : ℕ) where
-  pub column_lacks : (t : Bool) → t ≡ has_column r k → not t ≡ true → false ≡ column_is r k p
+  pub column_lacks : (t : Bool) → t ≡ has_column r k → t ≡ false → t ≡ column_is r k p
   unfolding column_is
-  column_lacks t e h = rw (← e, not-true t h)
+  column_lacks t e h = rw (← e, h)
 
-  pub compared : (t : Bool) (q : ℕ) → t ≡ has_column r k → not t ≡ false → Packs (column (2 + 7 * k) 7 r) q → eqb q p ≡ column_is r k p
+  pub compared : (t : Bool) (q : ℕ) → t ≡ has_column r k → t ≡ true → Packs (column (2 + 7 * k) 7 r) q → eqb q p ≡ column_is r k p
   unfolding column_is
-  compared t q e h c = packed_decides (column (2 + 7 * k) 7 r) p q (length-column (2 + 7 * k) 7 r (there-whole r k t e h)) c ∙ sym (rw (← e, not-false t h))
+  compared t q e h c = packed_decides (column (2 + 7 * k) 7 r) p q (length-column (2 + 7 * k) 7 r (there-whole r k t e h)) c ∙ sym (rw (← e, h))
 
   column-has : column_is r k p ≡ true → has_column r k ≡ true
   unfolding column_is
@@ -146,13 +129,13 @@ module _ (r : List ℕ) (k : ℕ) (n : PackedNumbers) (t : Bool) (t-is : t ≡ c
       total_is : u ≡ column_is r (suc k) (packed_number n.total)
       total_is = u-is ∙ sym (number-column r (k + 1) n.total) ∙ ap (λ (m : ℕ). column_is r m (packed_number n.total)) (add-one k)
 
-      pub total-differs : not u ≡ true → false ≡ columns_are r k (packed_of e n)
+      pub total-differs : u ≡ false → u ≡ columns_are r k (packed_of e n)
       unfolding packed_of
-      total-differs l = rw (is, ← t-is, not-false t h, ← total_is, not-true u l)
+      total-differs l = rw (is, ← t-is, not-false t h, ← total_is, l)
 
-      pub last_decides : not u ≡ false → (v : Bool) → v ≡ column_is r (k + 2) n.last → v ≡ columns_are r k (packed_of e n)
+      pub last_decides : u ≡ true → (v : Bool) → v ≡ column_is r (k + 2) n.last → v ≡ columns_are r k (packed_of e n)
       unfolding packed_of
-      last_decides l v q = q ∙ sym (rw (is, ← t-is, not-false t h, ← total_is, not-false u l) (and-true (column_is r (suc (suc k)) n.last) ∙ ap (λ (m : ℕ). column_is r m n.last) (let x : suc (suc k) ≡ k + 2 = omega arith in x)))
+      last_decides l v q = q ∙ sym (rw (is, ← t-is, not-false t h, ← total_is, l) (and-true (column_is r (suc (suc k)) n.last) ∙ ap (λ (m : ℕ). column_is r m n.last) (let x : suc (suc k) ≡ k + 2 = omega arith in x)))
 
 -- ---- `is_listed`
 pub place_small : (e : Edition) (own each layer : ℕ) → own ≡ per_layer e → each ≡ per_record e → Fits w64 (own * (layer % each))

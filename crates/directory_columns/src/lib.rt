@@ -35,7 +35,7 @@ const NUMBERS: usize = 3;
 const LAYERS: usize = 3;
 
 // What may be listed of a layer: the record number of its header, how many items it has, at any depth, and the number of its last record.
-#[derive(Clone, Copy)]
+#[derive(Clone, Copy, PartialEq, Eq, Debug)]
 pub struct LayerNumbers {
     pub header: usize,
     pub total: usize,
@@ -43,7 +43,7 @@ pub struct LayerNumbers {
 }
 
 // The same for a comparison: header and last record as packed numbers, the total as it is.
-#[derive(Clone, Copy)]
+#[derive(Clone, Copy, PartialEq, Eq, Debug)]
 pub struct PackedNumbers {
     pub header: u64,
     pub total: usize,
@@ -74,21 +74,15 @@ pub fn per_record(edition: Edition) -> usize
 pub fn rows(edition: Edition, layers: usize) -> usize
     ensures { result ≡ round_up layers (per_record edition) }
 {
-    let each = per_record(edition);
-    if layers == 0 {
-        return 0;
-    }
-    (layers - 1) / each + 1
+    layers.div_ceil(per_record(edition))
 }
 
 // A record has column k, from 0, whole.
+#[tactic(auto, unfolding(crate::specs::Numbers::has_column))]
 fn has_column(record: &[u8], k: usize) -> bool
     ensures { result ≡ has_column «record».now k }
 {
-    if COLUMNS <= k {
-        return false;
-    }
-    LETTERS + WIDTH * k + WIDTH <= record.len()
+    k < COLUMNS && LETTERS + WIDTH * k + WIDTH <= record.len()
 }
 
 // A record of 84 bytes has spaces alone from column k on. Each column is read with the byte behind it, which makes eight.
@@ -101,12 +95,10 @@ pub fn spaces_from(record: &[u8], k: usize) -> bool
     if COLUMNS < k {
         return true;
     }
-    let mut i = k;
-    while i < COLUMNS {
+    for i in k..COLUMNS {
         if packed::eight_at(record, LETTERS + WIDTH * i) != EIGHT_SPACES {
             return false;
         }
-        i += 1;
     }
     columns::spaces_at(record, LETTERS + WIDTH * COLUMNS, BEHIND)
 }
@@ -115,10 +107,7 @@ pub fn spaces_from(record: &[u8], k: usize) -> bool
 fn column_is(record: &[u8], k: usize, packed: u64) -> bool
     ensures { result ≡ column_is «record».now k packed }
 {
-    if !has_column(record, k) {
-        return false;
-    }
-    packed::packed_at(record, LETTERS + WIDTH * k) == packed
+    has_column(record, k) && packed::packed_at(record, LETTERS + WIDTH * k) == packed
 }
 
 // Column k of a record, from 0, holds the number in written form.
@@ -138,10 +127,7 @@ fn numbers_are(record: &[u8], k: usize, edition: Edition, numbers: PackedNumbers
     match edition {
         Edition::One => true,
         Edition::Two => {
-            if !number_is(record, k + 1, numbers.total) {
-                return false;
-            }
-            column_is(record, k + 2, numbers.last)
+            number_is(record, k + 1, numbers.total) && column_is(record, k + 2, numbers.last)
         }
     }
 }

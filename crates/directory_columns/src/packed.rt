@@ -16,25 +16,20 @@ const NONE: u64 = 0x100000000000000;
 // The greatest number that seven digits hold.
 const MOST: usize = 9999999;
 
-fn wide(byte: u8) -> u64
-    ensures { (result ≡ byte) × (result ≤ 255) }
-{
-    byte as u64
-}
-
 // The eight bytes from `start`, which the machine reads at once.
+// Kept: no plainer, u64::from_le_bytes takes an array, so the eight bytes would be copied into one first.
 pub(crate) fn eight_at(record: &[u8], start: usize) -> u64
     requires { start + 8 ≤ length «record».now }
     ensures { Packs (column start 8 «record».now) result }
 {
-    wide(record[start])
-        + wide(record[start + 1]) * 0x100
-        + wide(record[start + 2]) * 0x10000
-        + wide(record[start + 3]) * 0x1000000
-        + wide(record[start + 4]) * 0x100000000
-        + wide(record[start + 5]) * 0x10000000000
-        + wide(record[start + 6]) * 0x1000000000000
-        + wide(record[start + 7]) * 0x100000000000000
+    u64::from(record[start])
+        + u64::from(record[start + 1]) * 0x100
+        + u64::from(record[start + 2]) * 0x10000
+        + u64::from(record[start + 3]) * 0x1000000
+        + u64::from(record[start + 4]) * 0x100000000
+        + u64::from(record[start + 5]) * 0x10000000000
+        + u64::from(record[start + 6]) * 0x1000000000000
+        + u64::from(record[start + 7]) * 0x100000000000000
 }
 
 // The seven bytes of a column, which are read with the one before them.
@@ -87,13 +82,14 @@ fn digits(n: u32) -> u64
     let d = c / 10;
     let e = d / 10;
     let f = e / 10;
-    let tenths = (((b as u64) * 256 + (c as u64)) * 256 + (d as u64)) * 65536
-        + (e as u64) * 256
-        + (f as u64);
-    ((n - 10 * a) as u64) * ONES + ((a as u64) * TENS - 2559 * tenths)
+    let tenths = ((u64::from(b) * 256 + u64::from(c)) * 256 + u64::from(d)) * 65536
+        + u64::from(e) * 256
+        + u64::from(f);
+    u64::from(n - 10 * a) * ONES + (u64::from(a) * TENS - 2559 * tenths)
 }
 
 // The written form of a number; NONE where it does not fit a column.
+// Kept: NONE is the value that the contract (packed_number of specs/PackedColumns) names, and one comparison tells a column from it as from any other.
 pub fn packed_number(number: usize) -> u64
     ensures { result ≡ packed_number number }
 {

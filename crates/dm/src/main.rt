@@ -1,74 +1,34 @@
 // The program: judges what stands on standard input and prints one line.
 #![tactic(auto)]
 
-ghost use Rattle.std.specs.Prelude.{◌≡◌, ◌+◌, ◌≤◌, length};
+ghost use Rattle.std.specs.Prelude.{IfSome};
 ghost use Rattle.io.specs.Counts.{IsPrefixLen};
-ghost use Rattle.dm.specs.Printing.{printed_length};
 
-use format::Written;
 use std::io::Read;
 
-// What reading came to: so many bytes, and whether it ended by a read that failed. Then they may be a part of the input.
-#[derive(Clone, Copy)]
-struct Input {
-    used: usize,
-    failed: bool,
-}
-
-// One read into a buffer, from `used` on; no bytes at the input's end.
-fn read_more(from: &mut impl Read, input: &mut [u8], used: usize) -> Input
-    requires { used ≤ length input.old }
-    ensures { used + result.used ≤ length input.new }
-{
-    match from.read(&mut input[used..]) {
-        Ok(got) => Input {
-            used: got,
-            failed: false,
-        },
-        Err(_) => Input {
-            used: 0,
-            failed: true,
-        },
-    }
-}
-
-// Reads until the buffer is full, the input ends or a read fails.
-fn read_input(from: &mut impl Read, input: &mut [u8]) -> Input
-    ensures { IsPrefixLen result.used input.new }
+// Reads until the buffer is full or the input ends, and answers how many bytes that were; none where a read failed: then what was read may be a part of the
+// input.
+fn read_input(from: &mut impl Read, input: &mut [u8]) -> Option<usize>
+    ensures { IfSome result (λ used. IsPrefixLen used input.new) }
 {
     let mut used = 0;
+    // Kept: a read says how far it came, which no range counts.
     while used < input.len() {
-        let more = read_more(from, input, used);
-        if more.used == 0 {
-            return Input {
-                used,
-                failed: more.failed,
-            };
+        let got = from.read(&mut input[used..]).ok()?;
+        if got == 0 {
+            break;
         }
-        used += more.used;
+        used += got;
     }
-    Input {
-        used,
-        failed: false,
-    }
+    Some(used)
 }
 
-// How much of a buffer is to be printed: nothing, where the line has no room in it.
-fn printed_length(written: Written) -> usize
-    ensures { result ≡ printed_length written }
-{
-    match written {
-        Written::Bytes(n) => n,
-        Written::Refused(_, _) => 0,
-    }
-}
-
-// Reads the input, puts the line for it at the start of a buffer, and answers the line's length.
+// Reads the input, puts the line for it at the start of a buffer, and answers the line's length: 0, where the line has no room in it.
 fn put_line(from: &mut impl Read, input: &mut [u8], out: &mut [u8]) -> usize
     ensures { IsPrefixLen result out.new }
 {
     let read = read_input(from, input);
-    printed_length(report::report_read(input, read.used, read.failed, out))
+    report::report_read(input, read, out).unwrap_or(0)
 }
 
 fn main(rt: HostRuntime) -> std::io::Result<()> {

@@ -2,40 +2,42 @@
 use mathlib.Core.Path.{◌≡◌, refl, ap, sym, ◌∙◌}
 use mathlib.Core.Bool.{Bool, true, false, cond, not, ◌&&◌, ◌||◌}
 use mathlib.Core.List.{List, [], ◌∷◌, ◌++◌, map}
-use Prim.Native.Nat.{ℕ, zero, suc, pred, ◌+◌, ◌-◌, ◌*◌, ◌/◌, ◌%◌, ◌≤◌}
+use Prim.Native.Nat.{ℕ, zero, suc, pred, ◌+◌, ◌-◌, ◌*◌, ◌/◌, ◌%◌, ◌≤◌, ◌<◌}
 use native.Mathlib.Omega.{arith}
-use borrow.Author.Tests.{leb-true, eq-eqb, eqb-true, not-true, not-false}
+use borrow.Author.Tests.{leb-true, eq-eqb, eqb-true}
 use lib.Dec.{leb, eqb}
 use lib.ListN.{length, take, drop, get_or, length-drop, length-map}
 use lib.Seq.{drop-length}
-use Rattle.format.specs.Basics.{unless, chunks, flat}
+use Rattle.format.specs.Basics.{first, unless, chunks, flat}
 use Rattle.format.specs.Layout.{find, number_at, header, sheet_b}
 use Rattle.format.specs.Record.{count_index, View, view, count_in}
 use Rattle.format.specs.Sheet.{part_length, stated_records}
 use Rattle.format.specs.Judge.{sheet_in}
-use Rattle.format.specs.Edit.{has_room, block_item, insert_fault, insert11, fault12, insert13, insert14, insert15, above_block, block_of, absent, above_in, open_behind, not_below, before, after, body_place}
-use Rattle.format.specs.declared.Block.{Block}
-use Rattle.format.specs.declared.Block.TheVariants.{Item, NoItem}
+use Rattle.format.specs.Edit.{has_room, block_item, insert_fault, insert11, fault12, insert13, insert14, insert15, above_block, block_of, absent, above_in, due_behind, open_behind, not_below, before, after, body_place}
+use Rattle.std.specs.Prelude.{Option, Some, None, Result, Ok, Err}
+use Rattle.std.specs.Option.{ok_or}
+use Rattle.format.specs.Reasons.{refusal_number}
+use Rattle.format.specs.declared.Reason.{Reason}
+use Rattle.format.specs.declared.BlockItem.{BlockItem}
 use Rattle.format.specs.Answers.{block_answer}
 use Rattle.format.proofs.AcceptedSheet.{used-length, records_are, sheet_two, all-records}
 use Rattle.format.proofs.Basics.{and-true, first_zero, unless_zero}
 use Rattle.format.proofs.Lists.{length-chunks, flat-chunks}
-use Rattle.records.specs.declared.items.Entry.{Entry}
 use Rattle.records.specs.Entry.{entry_of}
 use Rattle.files.specs.Records as Files
 use Rattle.files.specs.declared.Stride.TheVariants.{Plain}
 use Rattle.files.proofs.Records.{front-records}
 use Rattle.edit_block.proofs.Laws.{read_item, read_none}
-use Rattle.edit.specs.declared.plans.Plan.TheVariants.{Refuse, Store}
+use Rattle.judge.specs.Sheet.{sheet_said, opened_in}
 use Rattle.judge.specs.declared.Sheet.{Sheet}
 use Rattle.edit.specs.declared.plans.Above.{Above}
-use Rattle.edit.specs.declared.counts.Change.{Change}
-use Rattle.edit.specs.Plans.{OpenedAt, is_place, nests_in, room_fault, HasAbove, header_record, AboveRead, ForPlace, Nested, one_more, Countable, InsertionPlanned}
+use Rattle.edit.specs.Plans.{Refuse, Store, is_place, nests_in, room_fault, HasAbove, header_record, AboveRead, InsertionPlanned}
 use Rattle.edit.proofs.Columns.{one_more_fits}
 use Rattle.edit.proofs.Inserted.{count_of_total, insert_stored}
 use Rattle.edit.proofs.Refused.{insert-refused}
 use Rattle.edit.proofs.AtPlace.{not-below, above_total, above_count}
-use Rattle.edit.proofs.OpenedAt.{start_is, insert_place, at-start, at-inside, has_above, index_is, index-inside, record_is}
+use Rattle.edit.proofs.OpenedAt.{OpenedAt, opens_at, start_is, AtStart, insert_place, at-start, at-inside, has_above, index_is, index-inside, record_is}
+use Rattle.format.proofs.Reasons.{not_zero}
 
 -- ---- a block that is an item is whole records
 module _ (block : List ℕ) (no_fault : fault12 (map view (block_of block)) ≡ 0) where
@@ -68,50 +70,97 @@ module _ (block : List ℕ) (no_fault : fault12 (map view (block_of block)) ≡ 
       rest : drop (84 * (length block / 84)) block ≡ []
       rest = rw all (drop-length block)
 
--- ---- 11 and 12
+-- ---- a place of an opened sheet
+-- a block that neither 11 nor 12 refuses there: an item of this kind and level
+pub record ForPlace (bytes : List ℕ) (used place : ℕ) (block : List ℕ) (sheet : Sheet) (kind level : ℕ) : Type 0 where
+  pub opened-at : OpenedAt bytes used place sheet
+  pub eleven : insert11 (sheet_in used bytes) place ≡ 0
+  pub twelve : fault12 (map view (block_of block)) ≡ 0
+  pub closed : due_behind 0 (before (sheet_in used bytes) place) ≡ 0
+  pub kind_is : kind ≡ count_index (get_or (map view (block_of block)) 0 absent).kind
+  pub level_is : level ≡ (get_or (map view (block_of block)) 0 absent).level
+  pub kind-most : kind ≤ 9
+  pub level-low : 2 ≤ level
+  pub level-high : level ≤ 9
+  pub behind : sheet.part < place
+  pub place_high : place ≤ used / 84 + 1
 
-insertion_refused : (l : List ℕ) (used place : ℕ) (sheet : Sheet) → OpenedAt l used place sheet → (block : List ℕ) (n : ℕ) → insert_fault (sheet_in used l) place (drop used l) (map view (block_of block)) 200000 ≡ suc n → InsertionPlanned l used place block (Refuse (suc n) 0)
-unfolding InsertionPlanned
-insertion_refused l used place sheet s block n e = insert-refused s.accepted place n block e
+-- and not 13 either
+pub record Nested (bytes : List ℕ) (used place : ℕ) (block : List ℕ) (sheet : Sheet) (kind level : ℕ) : Type 0 where
+  pub for_place : ForPlace bytes used place block sheet kind level
+  pub thirteen : insert13 (sheet_in used bytes) place (map view (block_of block)) ≡ 0
 
-module _ (l : List ℕ) (used place : ℕ) (sheet : Sheet) (s : OpenedAt l used place sheet) (block : List ℕ) (is-place : Bool) (place_is : is-place ≡ is_place sheet.part (used / 84 + 1) sheet.due place) where
-  pub no_place : not is-place ≡ true → InsertionPlanned l used place block (Refuse 11 0)
-  no_place h = insertion_refused l used place sheet s block 10 (rw (insert_place l used place sheet s, ← place_is, not-true is-place h))
+first_some : (n b : ℕ) → (n ≡ 0 → ⊥) → first n b ≡ n
+first_some zero b some = absurd (some refl)
+first_some (suc n) b some = refl
 
-  module _ (h : not is-place ≡ false) (answer : Block) (answer_is : block_answer answer ≡ block_item block) where
+module _ (l : List ℕ) (used place : ℕ) (sheet : Sheet) (block : List ℕ) (s : OpenedAt l used place sheet) where
+  -- a refusal, by the fault that is found
+  refusal : (reason : Reason) → insert_fault (sheet_in used l) place (drop used l) (map view (block_of block)) 200000 ≡ refusal_number reason → InsertionPlanned l used place block (Refuse (refusal_number reason) 0)
+  unfolding InsertionPlanned
+  refusal reason e = go (refusal_number reason) e (not_zero reason)
+    where
+      go : (f : ℕ) → insert_fault (sheet_in used l) place (drop used l) (map view (block_of block)) 200000 ≡ f → (f ≡ 0 → ⊥) → InsertionPlanned l used place block (Refuse f 0)
+      go zero e some = absurd (some refl)
+      go (suc n) e some = insert-refused s.accepted place n block e
+
+module _ (l : List ℕ) (used place : ℕ) (sheet : Sheet) (opened : sheet_said (Ok sheet) ≡ opened_in used l (place - 1)) (block : List ℕ) where
+  s : OpenedAt l used place sheet
+  s = opens_at l used place sheet opened
+
+  pub free-there : used ≤ length l
+  free-there = s.inside
+
+  pub items_few : sheet.items ≤ 200000
+  items_few = s.items-few
+
+  pub part_inside : sheet.part ≤ used / 84
+  part_inside = s.part-inside
+
+  -- ---- 11
+  pub no_place : (reason : Reason) → refusal_number reason ≡ unless (is_place sheet.part (used / 84 + 1) sheet.due place) 11 → InsertionPlanned l used place block (Refuse (refusal_number reason) 0)
+  no_place reason e = refusal l used place sheet block s reason (rw (insert_place l used place sheet s, ← e) (first_some (refusal_number reason) _ (not_zero reason)))
+
+  module _ (free : 0 ≡ unless (is_place sheet.part (used / 84 + 1) sheet.due place) 11) where
     eleven : insert11 (sheet_in used l) place ≡ 0
-    eleven = rw (insert_place l used place sheet s, ← place_is, not-false is-place h)
+    eleven = insert_place l used place sheet s ∙ sym free
 
-    pub no_item : answer ≡ NoItem → InsertionPlanned l used place block (Refuse 12 0)
-    no_item e = insertion_refused l used place sheet s block 11 (rw (eleven, read_none block answer answer_is e))
+    start : AtStart l used place sheet s (used / 84 + 1)
+    start = at-start l used place sheet s (used / 84 + 1) (unless_zero (is_place sheet.part (used / 84 + 1) sheet.due place) 10 (sym free))
 
-    pub for_place : (kind level : ℕ) → answer ≡ Item kind level → ForPlace l used place block sheet kind level
-    for_place kind level e =
-        let start = at-start l used place sheet s (used / 84 + 1) (sym place_is ∙ not-false is-place h) in
-        let one = read_item block answer answer_is kind level e in
-        record { opened-at = s; eleven = eleven; twelve = one.no_fault; closed = start.closed; kind_is = one.kind_is; level_is = one.level_is; kind-most = one.kind-most; level-low = one.low; level-high = one.high; behind = start.follows; place_high = start.up_to }
+    pub place_some : 1 ≤ place
+    place_some = omega (arith, start.follows)
 
--- ---- 13
-module _ (l : List ℕ) (used place : ℕ) (block : List ℕ) (sheet : Sheet) (kind level : ℕ) (p : ForPlace l used place block sheet kind level) where
-  pub place_some : 1 ≤ place
-  place_some = omega (arith, p.behind)
+    pub place_few : place ≤ 200001
+    place_few = omega (arith, start.up_to, s.few)
 
-  pub level-some : 1 ≤ level
-  level-some = omega (arith, p.level-low)
+    -- ---- 12
+    module _ (answer : Option BlockItem) (answer_is : block_answer answer ≡ block_item block) where
+      pub no_item : (reason : Reason) → answer ≡ None → Err reason ≡ ok_or answer Reason.Block → InsertionPlanned l used place block (Refuse (refusal_number reason) 0)
+      no_item reason none value =
+          let error : ◌≡◌ {A = Result BlockItem Reason} (Err reason) (Err Reason.Block) = value ∙ ap (λ (o : Option BlockItem). ok_or o Reason.Block) none in
+          let is : reason ≡ Reason.Block = cc in
+          rw is (refusal l used place sheet block s Reason.Block (rw (eleven, read_none block answer answer_is none)))
 
-  pub used-there : used ≡ length (take used l)
-  used-there = used-length p.opened-at.accepted
+      module _ (item : BlockItem) (item-is : answer ≡ Some item) where
+        p : ForPlace l used place block sheet item.kind item.level
+        p = let one = read_item block answer answer_is item item-is in
+            record { opened-at = s; eleven = eleven; twelve = one.no_fault; closed = start.closed; kind_is = one.kind_is; level_is = one.level_is; kind-most = one.kind-most; level-low = one.low; level-high = one.high; behind = start.follows; place_high = start.up_to }
 
-  module _ (next : Entry) (next-is : next ≡ entry_of (get_or (Files.records_of Plain (take used l)) (place - 1) [])) (nests : Bool) (nests_is : nests ≡ nests_in sheet.open_level level next.level) where
-    thirteen : insert13 (sheet_in used l) place (map view (block_of block)) ≡ unless nests 13
-    unfolding nests_in
-    thirteen = rw (← p.level_is, not-below p.opened-at.accepted place (omega (arith, p.behind, p.opened-at.part_is)) p.closed level, ← p.opened-at.open_level_is, nests_is, next-is, front-records used l p.opened-at.inside)
+        pub level-some : 1 ≤ item.level
+        level-some = omega (arith, p.level-low)
 
-    pub wrong-level : not nests ≡ true → InsertionPlanned l used place block (Refuse 13 0)
-    wrong-level n = insertion_refused l used place sheet p.opened-at block 12 (rw (p.eleven, p.twelve, thirteen, not-true nests n))
+        -- ---- 13
+        module _ (next : ℕ) (next-is : next ≡ (entry_of (get_or (Files.records_of Plain (take used l)) (place - 1) [])).level) where
+          thirteen : insert13 (sheet_in used l) place (map view (block_of block)) ≡ unless (nests_in sheet.open_level item.level next) 13
+          unfolding nests_in
+          thirteen = rw (← p.level_is, not-below s.accepted place (omega (arith, p.behind, s.part_is)) p.closed item.level, ← s.open_level_is, next-is, front-records used l s.inside)
 
-    pub nested : not nests ≡ false → Nested l used place block sheet kind level
-    nested n = record { for_place = p; thirteen = thirteen ∙ rw (not-false nests n) }
+          pub wrong-level : (reason : Reason) → refusal_number reason ≡ unless (nests_in sheet.open_level item.level next) 13 → InsertionPlanned l used place block (Refuse (refusal_number reason) 0)
+          wrong-level reason e = refusal l used place sheet block s reason (rw (eleven, p.twelve, thirteen, ← e) (first_some (refusal_number reason) _ (not_zero reason)))
+
+          pub nested : 0 ≡ unless (nests_in sheet.open_level item.level next) 13 → Nested l used place block sheet item.kind item.level
+          nested n = record { for_place = p; thirteen = thirteen ∙ sym n }
 
 -- ---- 14 and 15, and the counts
 module _ (l : List ℕ) (used place : ℕ) (block : List ℕ) (sheet : Sheet) (kind level : ℕ) (n : Nested l used place block sheet kind level) where
@@ -158,20 +207,13 @@ module _ (l : List ℕ) (used place : ℕ) (block : List ℕ) (sheet : Sheet) (k
     fifteen : insert15 (drop used l) item_views ≡ unless (leb (length block) (length l - used)) 15
     fifteen = rw (length-map (block_of block) view, long_block block n.for_place.twelve, length-drop used l)
 
-    pub countable : Countable above sheet (used / 84 + length block / 84) place
-    countable = record { total-small = read.total-small; count_small = read.count_small; items-few = n.for_place.opened-at.items-few; part-inside = omega (arith, n.for_place.opened-at.part-inside); place_some = omega (arith, n.for_place.behind); place_few = omega (arith, n.for_place.place_high, n.for_place.opened-at.few) }
-
     module _ (fault : ℕ) (fault_is : fault ≡ room_fault above kind (used / 84 + length block / 84) 200000 (length l - used) (length block)) where
       faults : insert_fault (sheet_in used l) place (drop used l) item_views 200000 ≡ fault
       unfolding room_fault
       faults = rw (n.for_place.eleven, n.for_place.twelve, n.thirteen, fourteen, fifteen) (sym fault_is)
 
-      pub full : (fault ≡ 0 → ⊥) → InsertionPlanned l used place block (Refuse fault 0)
-      full some = go fault faults some
-        where
-          go : (f : ℕ) → insert_fault (sheet_in used l) place (drop used l) item_views 200000 ≡ f → (f ≡ 0 → ⊥) → InsertionPlanned l used place block (Refuse f 0)
-          go zero e some = absurd (some refl)
-          go (suc f) e some = insertion_refused l used place sheet n.for_place.opened-at block f e
+      pub full : (reason : Reason) → fault ≡ refusal_number reason → InsertionPlanned l used place block (Refuse (refusal_number reason) 0)
+      full reason is = refusal l used place sheet block n.for_place.opened-at reason (faults ∙ is)
 
       module _ (none : fault ≡ 0) where
         tests : (has_room above.total kind above.count (used / 84 + length block / 84) 200000 ≡ true) × (leb (length block) (length l - used) ≡ true)
@@ -208,9 +250,9 @@ module _ (l : List ℕ) (used place : ℕ) (block : List ℕ) (sheet : Sheet) (k
         records_is : used / 84 + length block / 84 - sheet.part ≡ stated_records (get_or (chunks (used / 84) l) 1 []) + length (block_of block)
         records_is = omega (arith, records_are n.for_place.opened-at.accepted, n.for_place.opened-at.part_is, n.for_place.opened-at.part-inside, length_block block n.for_place.twelve)
 
-        stored_so : InsertionPlanned l used place block (Store (one_more above kind sheet (used / 84 + length block / 84) place (length block)))
-        unfolding InsertionPlanned one_more find header sheet_b
-        stored_so = record {
+        pub stored : InsertionPlanned l used place block (Store (record { header = above.header; kind = kind; total = above.total + 1; count = above.count + 1; stated_elements = sheet.items + 1; stated_records = used / 84 + length block / 84 - sheet.part; start = 84 * (place - 1); length = length block }))
+        unfolding InsertionPlanned find header sheet_b
+        stored = record {
           can = record {
             inside = omega (arith, n.for_place.place_high);
             room = omega (arith, fits, n.for_place.opened-at.inside);
@@ -226,6 +268,3 @@ module _ (l : List ℕ) (used place : ℕ) (block : List ℕ) (sheet : Sheet) (k
           };
           outcome = insert_stored l used place n.for_place.opened-at.accepted block (bytes_block block n.for_place.twelve) _ accepted-fault inside-there (rw (← n.for_place.level_is) n.for_place.level-low) (rw (← n.for_place.level_is) near) (rw (← n.for_place.kind_is) n.for_place.kind-most) header_is n.for_place.kind_is total_is count_is (ap (λ (z : ℕ). z + 1) n.for_place.opened-at.items_are) records_is (start_is l used place sheet n.for_place.opened-at n.for_place.behind) (long_block block n.for_place.twelve);
         }
-
-        pub stored : (change : Change) → change ≡ one_more above kind sheet (used / 84 + length block / 84) place (length block) → InsertionPlanned l used place block (Store change)
-        stored change e = rw e stored_so

@@ -1,4 +1,5 @@
 -- An opened sheet at a place: how it is opened, what its numbers say of 11, and which header stands above an item. Assumes nothing.
+use Rattle.format.proofs.Reasons.{not_zero}
 use mathlib.Core.Path.{◌≡◌, refl, ap, sym, ◌∙◌}
 use mathlib.Core.Bool.{Bool, true, false, not, ◌&&◌}
 use mathlib.Core.List.{List, []}
@@ -7,11 +8,11 @@ use native.Mathlib.Omega.{arith}
 use borrow.Author.Tests.{leb-true, ltb-true, ltb-false, le-leb, lt-leb, eqb-true}
 use lib.Dec.{leb, ltb, eqb}
 use lib.ListN.{length, take, get_or}
-use Rattle.format.specs.Basics.{unless, chunks}
+use Rattle.format.specs.Basics.{unless, chunks, refused}
 use Rattle.format.specs.Layout.{number_at, header}
 use Rattle.format.specs.Record.{View, is_head, count_in}
 use Rattle.format.specs.Sheet.{part_length}
-use Rattle.format.specs.Judge.{sheet_in}
+use Rattle.format.specs.Judge.{sheet_in, judge_sheet, AcceptedSheet}
 use Rattle.format.specs.Calls.{insert, remove}
 use Rattle.format.specs.Edit.{absent, above_in, last_header, due_behind, open_behind, insert11, remove11, before, body_place}
 use Rattle.format.proofs.Basics.{and-true, and_same, leb_same}
@@ -19,32 +20,54 @@ use Rattle.format.proofs.AcceptedSheet.{inside, few, used-length, all-records, e
 use Rattle.files.specs.Records as Files
 use Rattle.files.specs.declared.Stride.TheVariants.{Plain}
 use Rattle.files.proofs.Records.{front-records, plain-records, count-plain, record_wide}
+use Rattle.std.specs.Prelude.{Ok, Option, Some, None, MatchOption}
+use Rattle.format.specs.Reasons.{refusal_number}
+use Rattle.format.specs.declared.Reason.{Reason}
+use Rattle.format.specs.declared.Refusal.{Refusal}
+use Rattle.records.specs.Entry.{entry_of, entry_said}
+use Rattle.records.specs.Entry as Read
 use Rattle.records.specs.declared.items.Entry.{Entry}
-use Rattle.records.specs.Entry.{entry_of}
 use Rattle.judge.specs.declared.Sheet.{Sheet}
-use Rattle.judge.specs.Sheet.{body_before, opened_in}
+use Rattle.judge.specs.Sheet.{body_before, opened_in, sheet_said, refused_sheet}
 use Rattle.judge.proofs.Opened.{Opened, sheet_refused_is, opened-sheet, before_place_lem}
-use Rattle.edit.specs.declared.plans.Plan.TheVariants.{Refuse}
-use Rattle.edit.specs.Plans.{InsertionPlanned, RemovalPlanned, OpenedAt, is_place, HasAbove, header_record, AboveRead}
+use Rattle.edit.specs.Plans.{Refuse, InsertionPlanned, RemovalPlanned, EntryFound, is_place, HasAbove, header_record, AboveRead}
 use Rattle.edit.proofs.Refused.{not-accepted}
 use Rattle.edit.proofs.AtPlace.{above_low, above_high}
 
+-- an opened sheet has those of an accepted one at a place
+pub record OpenedAt (bytes : List ℕ) (used place : ℕ) (sheet : Sheet) : Type 0 where
+  pub accepted : AcceptedSheet used bytes
+  pub part_is : sheet.part ≡ (sheet_in used bytes).part_length
+  pub items_are : sheet.items ≡ (sheet_in used bytes).stated_elements
+  pub due_is : sheet.due ≡ due_behind 0 (before (sheet_in used bytes) place)
+  pub open_level_is : sheet.open_level ≡ open_behind 0 0 (before (sheet_in used bytes) place)
+  pub header_is : (level : ℕ) → 1 ≤ level → level ≤ 9 → get_or sheet.headers (level - 1) 0 ≡ (sheet_in used bytes).part_length + above_in level (before (sheet_in used bytes) place)
+  -- no sum of them is too large
+  pub inside : used ≤ length bytes
+  pub few : used / 84 ≤ 200000
+  pub part-inside : sheet.part ≤ used / 84
+  pub items-few : sheet.items ≤ 200000
+
 -- ---- the sheet as it was opened, at the place behind so many records
-module _ (l : List ℕ) (used place at : ℕ) (at-is : at ≡ place - 1) (sheet : Sheet) (is : sheet ≡ opened_in used l at) where
-  pub insertion_refused : (sheet.fault ≡ 0 → ⊥) → (block : List ℕ) → InsertionPlanned l used place block (Refuse sheet.fault sheet.at)
-  unfolding InsertionPlanned
-  insertion_refused some block = not-accepted (insert place block) l used sheet.fault sheet.at (sheet_refused_is used l at sheet is some)
+module _ (l : List ℕ) (used place : ℕ) where
+  module _ (r : Refusal) (is : refused_sheet (refusal_number r.reason) r.at ≡ opened_in used l (place - 1)) where
+    judged : judge_sheet used l ≡ refused (refusal_number r.reason) r.at
+    judged = sheet_refused_is used l (place - 1) (refused_sheet (refusal_number r.reason) r.at) is (not_zero r.reason)
 
-  pub removal_refused : (sheet.fault ≡ 0 → ⊥) → RemovalPlanned l used place (Refuse sheet.fault sheet.at)
-  unfolding RemovalPlanned
-  removal_refused some = not-accepted (remove place) l used sheet.fault sheet.at (sheet_refused_is used l at sheet is some)
+    pub insertion_refused : (block : List ℕ) → InsertionPlanned l used place block (Refuse (refusal_number r.reason) r.at)
+    unfolding InsertionPlanned
+    insertion_refused block = not-accepted (insert place block) l used (refusal_number r.reason) r.at judged
 
-  module _ (none : sheet.fault ≡ 0) where
-    o : Opened used l at sheet
-    o = opened-sheet used l at sheet is none
+    pub removal_refused : RemovalPlanned l used place (Refuse (refusal_number r.reason) r.at)
+    unfolding RemovalPlanned
+    removal_refused = not-accepted (remove place) l used (refusal_number r.reason) r.at judged
 
-    before_is : body_before (sheet_in used l) at ≡ before (sheet_in used l) place
-    before_is = ap (body_before (sheet_in used l)) at-is ∙ before_place_lem (sheet_in used l) place
+  module _ (sheet : Sheet) (is : sheet_said (Ok sheet) ≡ opened_in used l (place - 1)) where
+    o : Opened used l (place - 1) (sheet_said (Ok sheet))
+    o = opened-sheet used l (place - 1) (sheet_said (Ok sheet)) is refl
+
+    before_is : body_before (sheet_in used l) (place - 1) ≡ before (sheet_in used l) place
+    before_is = before_place_lem (sheet_in used l) place
 
     pub opens_at : OpenedAt l used place sheet
     opens_at = record {
@@ -59,6 +82,9 @@ module _ (l : List ℕ) (used place at : ℕ) (at-is : at ≡ place - 1) (sheet 
       part-inside = omega (arith, o.part_is, all-records o.accepted);
       items-few = omega (arith, o.items_are, elements_few o.accepted);
     }
+
+    pub used-there : used ≡ length (take used l)
+    used-there = used-length o.accepted
 
 ltb_leb : (a b : ℕ) → ltb a b ≡ leb (suc a) b
 ltb_leb a b = go (ltb a b) refl
@@ -138,6 +164,7 @@ module _ (file : List ℕ) (sheet : Sheet) (level kind : ℕ) (h : HasAbove file
   pub above_read : (total count : ℕ) → total ≡ number_at header "total" r → total < 100000 → count ≡ count_in r kind → count < 100000 → AboveRead file sheet level kind (record { header = get_or sheet.headers (level - 1) 0 - 1; total = total; count = count })
   above_read total count total_is total-small count_is count_small = record { index_is = refl; total_is = total_is ∙ ap (number_at header "total") read_is; count_is = count_is ∙ ap (λ (x : List ℕ). count_in x kind) read_is; total-small = total-small; count_small = count_small }
 
--- ---- `entry_at`
-pub entry_read : (file r : List ℕ) (index : ℕ) (e : Entry) → r ≡ get_or (Files.records_of Plain file) index [] → e ≡ entry_of r → e ≡ entry_of (get_or (Files.records_of Plain file) index [])
-entry_read file r index e read is = is ∙ ap entry_of read
+-- ---- the level of what stands at the place
+pub level_there : (found : Option Entry) (read : Read.Entry) (level : ℕ) (P : Entry → Type 0) → EntryFound found read → MatchOption found (level ≡ 0) P → ((e : Entry) → P e → level ≡ e.level) → level ≡ read.level
+level_there (Some e) read level P is same p = p e same ∙ ap (λ (r : Read.Entry). r.level) is
+level_there None read level P none zero p = zero ∙ sym none.1

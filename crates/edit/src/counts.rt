@@ -9,7 +9,8 @@ use layouts::{Header, SheetB};
 // What an edit changes. `header` is the index of the header above, counted from 0; `kind` is the count that the item belongs to; then the
 // header's total and that count, and the element count and the record count of the sheet, as they are to be written. The item's
 // bytes go in or out at `start`, `length` of them.
-#[derive(Clone, Copy)]
+// Kept: a number for the kind, since it is the index of a count in the header, and the block's item of document 01 has it so.
+#[derive(Clone, Copy, PartialEq, Eq, Debug)]
 pub(crate) struct Change {
     pub header: usize,
     pub kind: usize,

@@ -11,8 +11,7 @@ ghost use Rattle.edit.specs.Plans.{CanPut, CanTake};
 ghost use Rattle.format.specs.Answers.{step_for};
 
 use counts::Change;
-use format::Edited;
-use plans::Plan;
+use format::Refusal;
 
 mod counts;
 mod moves;
@@ -37,30 +36,21 @@ fn store_removal(buffer: &mut [u8], used: usize, change: Change)
     counts::write_counts(buffer, change);
 }
 
+// Kept: the used length beside the buffer, here and in `remove`, since the C interface and document 01 lend them so.
 // The block goes in before the record at the place, or at the end.
-pub fn insert(buffer: &mut [u8], used: usize, place: usize, block: &[u8]) -> Edited
+pub fn insert(buffer: &mut [u8], used: usize, place: usize, block: &[u8]) -> Result<usize, Refusal>
     ensures { step_for result used buffer.new ≡ call (insert place block.now) (record { bytes = buffer.old; used = used }) }
 {
-    let plan = plans::insertion(&buffer[..], used, place, block);
-    match plan {
-        Plan::Refuse(number, at) => Edited::Refused(number, at),
-        Plan::Store(change) => {
-            store_insertion(buffer, used, block, change);
-            Edited::Used(used + block.len())
-        }
-    }
+    let change = plans::insertion(&buffer[..], used, place, block)?;
+    store_insertion(buffer, used, block, change);
+    Ok(used + block.len())
 }
 
 // The item at the place goes out.
-pub fn remove(buffer: &mut [u8], used: usize, place: usize) -> Edited
+pub fn remove(buffer: &mut [u8], used: usize, place: usize) -> Result<usize, Refusal>
     ensures { step_for result used buffer.new ≡ call (remove place) (record { bytes = buffer.old; used = used }) }
 {
-    let plan = plans::removal(&buffer[..], used, place);
-    match plan {
-        Plan::Refuse(number, at) => Edited::Refused(number, at),
-        Plan::Store(change) => {
-            store_removal(buffer, used, change);
-            Edited::Used(used - change.length)
-        }
-    }
+    let change = plans::removal(&buffer[..], used, place)?;
+    store_removal(buffer, used, change);
+    Ok(used - change.length)
 }

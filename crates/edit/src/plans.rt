@@ -1,194 +1,141 @@
 // What an edit is to change, or why it is refused: nothing is stored here. A refusal after judging is at record 0.
-ghost use Rattle.std.specs.Prelude.{◌≡◌, [], ◌-◌, get_or};
-ghost use Rattle.records.specs.Entry.{entry_of};
+ghost use Rattle.std.specs.Prelude.{◌≡◌, Ok, [], ◌-◌, ◌≤◌, take, get_or};
 ghost use Rattle.files.specs.Records.{records_of};
 ghost use Rattle.files.specs.declared.Stride.TheVariants.{Plain};
-ghost use Rattle.edit.specs.Plans.{OpenedAt, HasAbove, AboveRead, ForPlace, Nested, Countable, one_more, Removable, InsertionPlanned, RemovalPlanned};
+ghost use Rattle.records.specs.Entry.{entry_of};
+ghost use Rattle.judge.specs.Sheet.{sheet_said, opened_in};
+ghost use Rattle.edit.specs.Plans.{EntryFound, HasAbove, AboveRead, InsertionPlanned, RemovalPlanned, planned, planned_there};
 
 use super::counts::Change;
 use super::{counts, refusals};
 use files::Stride;
-use format::Block;
+use format::{Reason, Refusal};
 use judge::Sheet;
 use records::Entry;
 
-#[derive(Clone, Copy)]
-pub(crate) enum Plan {
-    Refuse(u8, usize),
-    Store(Change),
-}
-
 // The header above an item, by its index in the file, and what it states: its total, and its count of the item's kind.
-#[derive(Clone, Copy)]
+#[derive(Clone, Copy, PartialEq, Eq, Debug)]
 pub(crate) struct Above {
     pub header: usize,
     pub total: usize,
     pub count: usize,
 }
 
-// A number less another, at least 0.
-fn less(n: usize, by: usize) -> usize
-    ensures { result ≡ n - by }
-{
-    if n < by { 0 } else { n - by }
-}
-
-// The header or item at an index; all 0 where there is none.
-fn entry_at(file: &[u8], index: usize) -> Entry
-    ensures { result ≡ entry_of (get_or (records_of Plain file.now) index []) }
-{
-    records::entry(files::record_at(file, Stride::Plain, index))
-}
-
-// The header above an item of a level, by the last header of each level.
-fn header_above(file: &[u8], sheet: Sheet, level: usize, kind: usize) -> Above
-    requires { HasAbove file.now sheet level kind }
-    ensures { AboveRead file.now sheet level kind result }
-{
-    let headers = sheet.headers;
-    let above = level - 1;
-    let header = headers[above] - 1;
-    let record = files::record_at(file, Stride::Plain, header);
-    Above {
-        header,
-        total: counts::stated_total(record),
-        count: records::stated_count(record, kind),
-    }
-}
-
-// The counts of one item more, in a file of `all` records then.
-fn one_item_more(
-    above: Above,
-    kind: usize,
-    sheet: Sheet,
-    all: usize,
-    place: usize,
-    length: usize,
-) -> Change
-    requires { Countable above sheet all place }
-    ensures { result ≡ one_more above kind sheet all place length }
-{
-    Change {
-        header: above.header,
-        kind,
-        total: above.total + 1,
-        count: above.count + 1,
-        stated_elements: sheet.items + 1,
-        stated_records: all - sheet.part,
-        start: files::RECORD * (place - 1),
-        length,
-    }
-}
-
-// A block that nests there: 14, 15, or the counts of one item more.
-fn counted_in(
-    buffer: &[u8],
+// A place of an accepted sheet, the file in the first `used` bytes of a buffer, by its record number; and the sheet as it was opened there.
+#[derive(Clone, Copy)]
+struct Place<'a> {
+    buffer: &'a [u8],
     used: usize,
+    number: usize,
     sheet: Sheet,
-    place: usize,
-    block: &[u8],
-    kind: usize,
-    level: usize,
-) -> Plan
-    requires { Nested buffer.now used place block.now sheet kind level }
-    ensures { InsertionPlanned buffer.now used place block.now result }
-{
-    let above = header_above(&buffer[..used], sheet, level, kind);
-    let length = block.len();
-    let all = used / files::RECORD + length / files::RECORD;
-    let free = buffer.len() - used;
-    let fault = refusals::room(above, kind, all, files::MOST, free, length);
-    if fault != 0 {
-        return Plan::Refuse(fault, 0);
-    }
-    Plan::Store(one_item_more(above, kind, sheet, all, place, length))
+    ghost opened: { sheet_said (Ok sheet) ≡ opened_in used buffer.now (number - 1) },
 }
 
-// An item at the place: the counts of one item less.
-fn counted_out(buffer: &[u8], used: usize, sheet: Sheet, place: usize, item: Entry) -> Plan
-    requires { Removable buffer.now used place sheet item }
-    ensures { RemovalPlanned buffer.now used place result }
-{
-    let above = header_above(&buffer[..used], sheet, item.level, item.kind);
-    let records = item.data_records + 1;
-    Plan::Store(Change {
-        header: above.header,
-        kind: item.kind,
-        total: less(above.total, 1),
-        count: less(above.count, 1),
-        stated_elements: less(sheet.items, 1),
-        stated_records: used / files::RECORD - sheet.part - records,
-        start: files::RECORD * (place - 1),
-        length: files::RECORD * records,
-    })
-}
+impl Place<'_> {
+    // The header or item at the place, where there is one.
+    fn entry(&self) -> Option<Entry>
+        requires { 1 ≤ self.now.number }
+        ensures { EntryFound result (entry_of (get_or (records_of Plain (take self.now.used self.now.buffer.now)) (self.now.number - 1) [])) }
+    {
+        let file = &self.buffer[..self.used];
+        records::entry(files::record_at(file, Stride::Plain, self.number - 1)).ok()
+    }
 
-// An item for the place: 13, then `counted_in`.
-fn item_for_place(
-    buffer: &[u8],
-    used: usize,
-    sheet: Sheet,
-    place: usize,
-    block: &[u8],
-    kind: usize,
-    level: usize,
-) -> Plan
-    requires { ForPlace buffer.now used place block.now sheet kind level }
-    ensures { InsertionPlanned buffer.now used place block.now result }
-{
-    let next = entry_at(&buffer[..used], place - 1);
-    if !refusals::nests(sheet.open_level, level, next.level) {
-        return Plan::Refuse(refusals::WRONG_LEVEL, 0);
+    // The header above an item of a level there, by the last header of each level.
+    fn header_above(&self, level: usize, kind: usize) -> Above
+        requires { HasAbove (take self.now.used self.now.buffer.now) self.now.sheet level kind }
+        ensures { AboveRead (take self.now.used self.now.buffer.now) self.now.sheet level kind result }
+    {
+        let header = self.sheet.headers[level - 1] - 1;
+        let record = files::record_at(&self.buffer[..self.used], Stride::Plain, header);
+        Above {
+            header,
+            total: counts::stated_total(record),
+            count: records::stated_count(record, kind),
+        }
     }
-    counted_in(buffer, used, sheet, place, block, kind, level)
-}
 
-// An insertion into an accepted sheet: 11 and 12, then `item_for_place`.
-fn insertion_in_sheet(buffer: &[u8], used: usize, sheet: Sheet, place: usize, block: &[u8]) -> Plan
-    requires { OpenedAt buffer.now used place sheet }
-    ensures { InsertionPlanned buffer.now used place block.now result }
-{
-    if !refusals::is_place(sheet.part, used / files::RECORD + 1, sheet.due, place) {
-        return Plan::Refuse(refusals::NO_PLACE, 0);
+    // 11 to 15 in their order, or the counts of one item more.
+    fn insertion(&self, block: &[u8]) -> Result<Change, Reason>
+        ensures { InsertionPlanned self.now.buffer.now self.now.used self.now.number block.now (planned_there result) }
+    {
+        let sheet = self.sheet;
+        let records = self.used / files::RECORD;
+        refusals::check_place(sheet.part, records + 1, sheet.due, self.number)?;
+        let item = edit_block::read_block(block).ok_or(Reason::Block)?;
+        let next = self.entry().map_or(0, |next| next.level);
+        refusals::check_level(sheet.open_level, item.level, next)?;
+        let above = self.header_above(item.level, item.kind);
+        let length = block.len();
+        let all = records + length / files::RECORD;
+        let free = self.buffer.len() - self.used;
+        refusals::check_room(above, item.kind, all, free, length)?;
+        Ok(Change {
+            header: above.header,
+            kind: item.kind,
+            total: above.total + 1,
+            count: above.count + 1,
+            stated_elements: sheet.items + 1,
+            stated_records: all - sheet.part,
+            start: files::RECORD * (self.number - 1),
+            length,
+        })
     }
-    let Block::Item(kind, level) = edit_block::read_block(block) else {
-        return Plan::Refuse(refusals::NO_ITEM, 0);
-    };
-    item_for_place(buffer, used, sheet, place, block, kind, level)
-}
 
-// A removal from an accepted sheet: 11, then `counted_out`.
-fn removal_in_sheet(buffer: &[u8], used: usize, sheet: Sheet, place: usize) -> Plan
-    requires { OpenedAt buffer.now used place sheet }
-    ensures { RemovalPlanned buffer.now used place result }
-{
-    if !refusals::is_place(sheet.part, used / files::RECORD, sheet.due, place) {
-        return Plan::Refuse(refusals::NO_PLACE, 0);
+    // 11, or the counts of one item less.
+    fn removal(&self) -> Result<Change, Reason>
+        ensures { RemovalPlanned self.now.buffer.now self.now.used self.now.number (planned_there result) }
+    {
+        let sheet = self.sheet;
+        let records = self.used / files::RECORD;
+        refusals::check_place(sheet.part, records, sheet.due, self.number)?;
+        let item = self
+            .entry()
+            .filter(|item| item.kind != 0)
+            .ok_or(Reason::Place)?;
+        let above = self.header_above(item.level, item.kind);
+        let gone = item.data_records + 1;
+        Ok(Change {
+            header: above.header,
+            kind: item.kind,
+            total: above.total.saturating_sub(1),
+            count: above.count.saturating_sub(1),
+            stated_elements: sheet.items.saturating_sub(1),
+            stated_records: records - sheet.part - gone,
+            start: files::RECORD * (self.number - 1),
+            length: files::RECORD * gone,
+        })
     }
-    let item = entry_at(&buffer[..used], place - 1);
-    if item.kind == 0 {
-        return Plan::Refuse(refusals::NO_PLACE, 0);
-    }
-    counted_out(buffer, used, sheet, place, item)
 }
 
 // Judges first; a refusal of judging is the answer.
-pub(crate) fn insertion(buffer: &[u8], used: usize, place: usize, block: &[u8]) -> Plan
-    ensures { InsertionPlanned buffer.now used place block.now result }
+pub(crate) fn insertion(
+    buffer: &[u8],
+    used: usize,
+    number: usize,
+    block: &[u8],
+) -> Result<Change, Refusal>
+    ensures { InsertionPlanned buffer.now used number block.now (planned result) }
 {
-    let sheet = judge::open_sheet(buffer, used, less(place, 1));
-    if sheet.fault != 0 {
-        return Plan::Refuse(sheet.fault, sheet.at);
-    }
-    insertion_in_sheet(buffer, used, sheet, place, block)
+    let sheet = judge::open_sheet(buffer, used, number.saturating_sub(1))?;
+    let place = Place {
+        buffer,
+        used,
+        number,
+        sheet,
+    };
+    place.insertion(block).map_err(|reason| reason.at(0))
 }
 
-pub(crate) fn removal(buffer: &[u8], used: usize, place: usize) -> Plan
-    ensures { RemovalPlanned buffer.now used place result }
+pub(crate) fn removal(buffer: &[u8], used: usize, number: usize) -> Result<Change, Refusal>
+    ensures { RemovalPlanned buffer.now used number (planned result) }
 {
-    let sheet = judge::open_sheet(buffer, used, less(place, 1));
-    if sheet.fault != 0 {
-        return Plan::Refuse(sheet.fault, sheet.at);
-    }
-    removal_in_sheet(buffer, used, sheet, place)
+    let sheet = judge::open_sheet(buffer, used, number.saturating_sub(1))?;
+    let place = Place {
+        buffer,
+        used,
+        number,
+        sheet,
+    };
+    place.removal().map_err(|reason| reason.at(0))
 }

@@ -1,12 +1,17 @@
 -- The data records of a block in the code's own words. Assumes nothing.
 use mathlib.Core.Path.{◌≡◌, refl, sym, ◌∙◌}
-use mathlib.Core.Bool.{true, false}
+use mathlib.Core.Bool.{Bool, true, false, true≢false}
 use mathlib.Core.List.{List, [], map}
 use Prim.Native.Nat.{ℕ, zero, suc, ◌+◌, ◌-◌, ◌/◌, ◌≤◌, ◌<◌}
 use native.Mathlib.Numerals.{add-one}
 use native.Mathlib.Omega.{arith}
 use lib.ListN.{length, drop, get_or, length-map, drop_of_length-le}
 use lib.Seq.{drop-cons}
+use Rattle.std.specs.Prelude.{Result, Ok, Err}
+use Rattle.std.specs.Result.{is_err}
+use Rattle.format.specs.Reasons.{fault_number}
+use Rattle.format.specs.declared.Reason.{Reason}
+use Rattle.format.proofs.Reasons.{not_zero}
 use Rattle.format.specs.Basics.{Fault, fine, or_else, to_fault}
 use Rattle.format.specs.Record.{Data, View, view}
 use Rattle.format.specs.Judge.{walk}
@@ -39,6 +44,15 @@ some-fault : (n i : ℕ) (rest : Fault) → (n ≡ 0 → ⊥) → false ≡ fine
 some-fault zero i rest h = absurd (h refl)
 some-fault (suc n) i rest h = refl
 
+-- what a check found
+errs : (answer : Result (Unit {0}) Reason) → is_err answer ≡ true → fault_number answer ≡ 0 → ⊥
+errs (Ok u) e = absurd (true≢false (sym e))
+errs (Err reason) e = not_zero reason
+
+none_there : (answer : Result (Unit {0}) Reason) → is_err answer ≡ false → fault_number answer ≡ 0
+none_there (Ok u) e = refl
+none_there (Err reason) e = absurd (true≢false e)
+
 -- ---- `data_in_order`: the walk from an index comes to the same as that from the first data record
 
 abbrev pub Same : List ℕ → Held → (index : ℕ) → Type 0
@@ -51,19 +65,19 @@ module _ (block : List ℕ) (held : Held) (index : ℕ) (same : Same block held 
   pub data_over : length block / 84 ≤ index → (opened : ℕ) → true ≡ data_walk (map view (records_of Plain block)) (to_data held) opened 1
   data_over h opened = walk-over (map view (records_of Plain block)) (to_data held) opened index (rw length_views h) ∙ sym (same opened)
 
-  module _ (inside : index < length block / 84) (r : List ℕ) (read : r ≡ get_or (records_of Plain block) index []) (number : ℕ) (is : number ≡ data_fault_of r held (length block / 84 - index - 1)) where
-    fault-here : (get_or (map view (records_of Plain block)) index absent).fault_as_data (to_data held) (length (map view (records_of Plain block)) - index - 1) ≡ number
+  module _ (inside : index < length block / 84) (r : List ℕ) (read : r ≡ get_or (records_of Plain block) index []) (answer : Result (Unit {0}) Reason) (is : fault_number answer ≡ data_fault_of r held (length block / 84 - index - 1)) where
+    fault-here : (get_or (map view (records_of Plain block)) index absent).fault_as_data (to_data held) (length (map view (records_of Plain block)) - index - 1) ≡ fault_number answer
     fault-here = rw (length_views, get_or_views (records_of Plain block) index (rw (block_long block) inside), ← read) (data_fault_at r (block_wide block r index read inside) held (length block / 84 - index - 1) ∙ sym is)
 
-    walk_here : (opened : ℕ) → data_walk (map view (records_of Plain block)) (to_data held) opened index ≡ fine (or_else (to_fault number index) (walk opened (length (map view (records_of Plain block)) - index - 1) (to_data held) 0 (suc index) (drop (suc index) (map view (records_of Plain block)))))
+    walk_here : (opened : ℕ) → data_walk (map view (records_of Plain block)) (to_data held) opened index ≡ fine (or_else (to_fault (fault_number answer) index) (walk opened (length (map view (records_of Plain block)) - index - 1) (to_data held) 0 (suc index) (drop (suc index) (map view (records_of Plain block)))))
     walk_here opened = walk_at (map view (records_of Plain block)) (to_data held) opened index (rw length_views inside) ∙ rw fault-here
 
-    pub data_wrong : (number ≡ 0 → ⊥) → (opened : ℕ) → false ≡ data_walk (map view (records_of Plain block)) (to_data held) opened 1
-    data_wrong some opened = some-fault number index _ some ∙ sym (same opened ∙ walk_here opened)
+    pub data_wrong : (flag : Bool) → flag ≡ is_err answer → flag ≡ true → (opened : ℕ) → false ≡ data_walk (map view (records_of Plain block)) (to_data held) opened 1
+    data_wrong flag told some opened = some-fault (fault_number answer) index _ (errs answer (sym told ∙ some)) ∙ sym (same opened ∙ walk_here opened)
 
-    pub data_passes : number ≡ 0 → Same block held (index + 1)
+    pub data_passes : (flag : Bool) → flag ≡ is_err answer → flag ≡ false → Same block held (index + 1)
     unfolding data_walk
-    data_passes none opened = same opened ∙ walk_here opened ∙ rw (none, add-one index, less)
+    data_passes flag told none opened = same opened ∙ walk_here opened ∙ rw (none_there answer (sym told ∙ none), add-one index, less)
       where
         less : length (map view (records_of Plain block)) - index - 1 ≡ length (map view (records_of Plain block)) - suc index
         less = omega arith

@@ -1,10 +1,11 @@
 -- A block in the code's own words: it is an item where its first record is one and its data records are in order. Assumes nothing.
+use Rattle.format.proofs.Reasons.{not_zero}
 use mathlib.Core.Path.{◌≡◌, refl, ap, ap₂, sym, ◌∙◌}
 use mathlib.Core.Bool.{Bool, true, false, cond, not, ◌&&◌, true≢false}
 use mathlib.Core.List.{List, [], ◌∷◌, map}
 use Prim.Native.Nat.{ℕ, ◌-◌, ◌/◌, ◌%◌, ◌≤◌, ◌<◌}
 use native.Mathlib.Omega.{arith}
-use borrow.Author.Tests.{eq-eqb, ne_eqb, eqb-true, le-leb, leb-true, not-true, not-false}
+use borrow.Author.Tests.{eq-eqb, ne_eqb, eqb-true, le-leb, leb-true, not-true}
 use lib.Dec.{eqb, leb}
 use lib.ListN.{length, drop, get_or, length-drop, length-map}
 use Rattle.format.specs.Basics.{Answer, given, refused, unless, fine}
@@ -16,14 +17,18 @@ use Rattle.format.proofs.JudgeSteps.{walk_step}
 use Rattle.format.proofs.EditItems.{item-data_records}
 use Rattle.format.proofs.EditInsert.{fine-none}
 use Rattle.format.proofs.JudgeWalks.{Good, good, good_fault_at, walk-passes}
-use Rattle.records.specs.declared.items.Entry.{Entry}
-use Rattle.records.specs.Entry.{to_data, view_fault, entry_of}
+use Rattle.records.specs.Entry.{Entry}
+use Rattle.records.specs.Entry.{to_data, view_fault, refused_entry, entry_of}
 use Rattle.records.proofs.Laws.{entry-fault, entry-kind, entry-level, entry_data_records, entry_held, entry_rule, entry-head, entry_counted, entry_columns}
 use Rattle.files.specs.declared.Stride.TheVariants.{Plain}
 use Rattle.files.specs.Records.{records_of}
 use Rattle.files.proofs.Records.{plain-records}
 use Rattle.edit_block.proofs.Records.{block_long, block_wide}
-use Rattle.format.specs.declared.Block.TheVariants.{Item, NoItem}
+use Rattle.std.specs.Prelude.{Option, None}
+use Rattle.std.specs.Bool.{then_some}
+use Rattle.format.specs.Reasons.{refusal_number}
+use Rattle.format.specs.declared.Reason.{Reason}
+use Rattle.format.specs.declared.BlockItem as Declared
 use Rattle.format.specs.Answers.{block_answer}
 use Rattle.edit_block.specs.Steps.{is_item, data_walk}
 
@@ -116,19 +121,19 @@ module _ (l : List ℕ) (ds : List View) (whole : length l ≡ 84) where
 -- ---- `read_block`
 
 module _ (block : List ℕ) where
-  no_block : map view (block_of block) ≡ [] → block_answer NoItem ≡ block_item block
+  no_block : map view (block_of block) ≡ [] → block_answer None ≡ block_item block
   unfolding block_item block_answer
   no_block e = sym (ap item_in e)
 
-  pub not-whole : (length block % 84 ≡ 0 → ⊥) → block_answer NoItem ≡ block_item block
+  pub not-whole : (length block % 84 ≡ 0 → ⊥) → block_answer None ≡ block_item block
   not-whole h = no_block (rw (ne_eqb (length block % 84) 0 h))
 
-  pub empty : length block ≡ 0 → block_answer NoItem ≡ block_item block
+  pub empty : length block ≡ 0 → block_answer None ≡ block_item block
   empty h = no_block (rw h)
 
-  module _ (whole : length block % 84 ≡ 0) (some : length block ≡ 0 → ⊥) (r : List ℕ) (read : r ≡ get_or (records_of Plain block) 0 []) (e : Entry) (is : e ≡ entry_of r) where
+  module _ (whole : length block % 84 ≡ 0) (bare : Bool) (bare_is : bare ≡ eqb (length block) 0) (some : bare ≡ false) (r : List ℕ) (read : r ≡ get_or (records_of Plain block) 0 []) where
     inside : 0 < length block / 84
-    inside = omega arith
+    inside = let h : length block ≡ 0 → ⊥ = (λ z. true≢false (sym (bare_is ∙ eq-eqb (length block) 0 z) ∙ some)) in omega arith
 
     wide : length r ≡ 84
     wide = block_wide block r 0 read inside
@@ -157,21 +162,29 @@ module _ (block : List ℕ) where
     is_block_lem : block_item block ≡ cond (is_block (view r) (drop 1 (map view (records_of Plain block)))) (given (record { count_index = count_index (view r).kind; level = (view r).level })) (refused 12 0)
     is_block_lem = block_records ∙ ap item_in views_are ∙ picked (is_block (view r) (drop 1 (map view (records_of Plain block)))) (given (record { count_index = count_index (view r).kind; level = (view r).level })) (refused 12 0)
 
-    refuse : is_block (view r) (drop 1 (map view (records_of Plain block))) ≡ false → block_answer NoItem ≡ block_item block
+    refuse : is_block (view r) (drop 1 (map view (records_of Plain block))) ≡ false → block_answer None ≡ block_item block
     unfolding block_answer
     refuse f = sym (is_block_lem ∙ rw f)
 
-    module _ (flag : Bool) (flag_is : flag ≡ is_item e (length block / 84 - 1)) where
-      pub not-item : not flag ≡ true → block_answer NoItem ≡ block_item block
+    -- a first record that is refused
+    pub refused-first : (reason : Reason) → refused_entry (refusal_number reason) ≡ entry_of r → block_answer None ≡ block_item block
+    refused-first reason is = refuse (go (is_block (view r) (drop 1 (map view (records_of Plain block)))) refl)
+      where
+        go : (b : Bool) → is_block (view r) (drop 1 (map view (records_of Plain block))) ≡ b → b ≡ false
+        go true t = absurd (not_zero reason (ap (λ (x : Entry). x.fault) is ∙ (block_first r (drop 1 (map view (records_of Plain block))) wide t).no_fault))
+        go false t = refl
+
+    module _ (e : Entry) (is : e ≡ entry_of r) (flag : Bool) (flag_is : flag ≡ is_item e (length block / 84 - 1)) where
+      pub not-item : not flag ≡ true → block_answer None ≡ block_item block
       not-item t = refuse (go (is_block (view r) (drop 1 (map view (records_of Plain block)))) refl)
         where
           go : (b : Bool) → is_block (view r) (drop 1 (map view (records_of Plain block))) ≡ b → b ≡ false
           go true q = absurd (true≢false (sym (passed e (length block / 84 - 1) (rw (is, ← length_ds) (block_first r (drop 1 (map view (records_of Plain block))) wide q))) ∙ sym flag_is ∙ not-true flag t))
           go false q = refl
 
-      module _ (t : not flag ≡ false) (in_order : Bool) (o : (opened : ℕ) → in_order ≡ data_walk (map view (records_of Plain block)) (to_data e.held) opened 1) where
+      module _ (t : flag ≡ true) (in_order : Bool) (o : (opened : ℕ) → in_order ≡ data_walk (map view (records_of Plain block)) (to_data e.held) opened 1) where
         one : FirstRecord (entry_of r) (length (drop 1 (map view (records_of Plain block))))
-        one = rw (← is, length_ds) (tested e (length block / 84 - 1) (sym flag_is ∙ not-false flag t))
+        one = rw (← is, length_ds) (tested e (length block / 84 - 1) (sym flag_is ∙ t))
 
         decides : is_block (view r) (drop 1 (map view (records_of Plain block))) ≡ in_order
         unfolding data_walk
@@ -180,9 +193,13 @@ module _ (block : List ℕ) where
             left : length (drop 1 (map view (records_of Plain block))) ≡ length (map view (records_of Plain block)) - 1
             left = length-drop 1 (map view (records_of Plain block))
 
-        pub data_wrong : in_order ≡ false → block_answer NoItem ≡ block_item block
-        data_wrong f = refuse (decides ∙ f)
-
-        pub one_item : in_order ≡ true → block_answer (Item e.kind e.level) ≡ block_item block
+        -- the answer is the item or none, as the data records decide
+        pub told : (answer : Option Declared.BlockItem) → answer ≡ then_some in_order (record { kind = e.kind; level = e.level }) → block_answer answer ≡ block_item block
         unfolding block_answer
-        one_item f = sym (is_block_lem ∙ rw (decides, f, is, entry-kind r wide one.no_fault, entry-level r wide one.no_fault))
+        told answer q = go in_order refl (ap block_answer q)
+          where
+            go : (b : Bool) → in_order ≡ b → block_answer answer ≡ block_answer (then_some b (record { kind = e.kind; level = e.level })) → block_answer answer ≡ block_item block
+            go true f p = p ∙ sym (is_block_lem ∙ rw (decides, f, is, entry-kind r wide one.no_fault, entry-level r wide one.no_fault))
+            go false f p = p ∙ refuse (decides ∙ f)
+
+pub ruleset block_laws = (not-whole, empty, not-item, told)

@@ -14,8 +14,8 @@ use Rattle.format.specs.Edit.{BlockItem, item_in, block_item, absent, is_block, 
 use Rattle.format.proofs.Basics.{and-true}
 use Rattle.format.proofs.EditInsert.{fine-none}
 use Rattle.format.proofs.JudgeWalks.{Good, good, walk-passes}
-use Rattle.format.specs.declared.Block.{Block}
-use Rattle.format.specs.declared.Block.TheVariants.{Item, NoItem}
+use Rattle.std.specs.Prelude.{Option, Some, None}
+use Rattle.format.specs.declared.BlockItem as Declared
 use Rattle.format.specs.Answers.{block_answer}
 use Rattle.edit_block.proofs.Items.{item-low, item-high}
 
@@ -64,11 +64,11 @@ none_of (v ∷ ds) e = go (is_block v ds) e
     go true q = let z : ◌≡◌ {A = ℕ} 0 1 = cc in absurd (omega arith)
     go false q = refl
 
-module _ (block : List ℕ) (answer : Block) (is : block_answer answer ≡ block_item block) where
-  pub read_item : (kind level : ℕ) → answer ≡ Item kind level → OneItem (map view (block_of block)) kind level
+module _ (block : List ℕ) (answer : Option Declared.BlockItem) (is : block_answer answer ≡ block_item block) where
+  pub read_item : (read : Declared.BlockItem) → answer ≡ Some read → OneItem (map view (block_of block)) read.kind read.level
   unfolding block_item block_answer
-  read_item kind level e = item_of_lem (map view (block_of block)) kind level (ap block_answer (sym e) ∙ is)
+  read_item read e = item_of_lem (map view (block_of block)) read.kind read.level (ap block_answer (sym e) ∙ is)
 
-  pub read_none : answer ≡ NoItem → fault12 (map view (block_of block)) ≡ 12
+  pub read_none : answer ≡ None → fault12 (map view (block_of block)) ≡ 12
   unfolding block_item block_answer
   read_none e = none_of (map view (block_of block)) (ap block_answer (sym e) ∙ is)

@@ -3,7 +3,7 @@ use Rattle.std.specs.Prelude.{Bool, not, ◌&&◌, List, ℕ, ◌-◌, eqb, leb,
 use Rattle.format.specs.Basics.{fine}
 use Rattle.format.specs.Record.{Data, View}
 use Rattle.format.specs.Judge.{walk}
-use Rattle.records.specs.declared.items.Entry.{Entry}
+use Rattle.records.specs.Entry.{Entry}
 
 -- an item in order, of level 2 to 9, with so many data records behind it
 unfoldable pub is_item : Entry → (behind : ℕ) → Bool

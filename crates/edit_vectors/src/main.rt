@@ -6,108 +6,43 @@
 // number; `end` ends the list.
 #![tactic(auto)]
 
-ghost use Rattle.std.specs.Prelude.{◌≡◌, ◌≤◌, ◌<◌, length, IfOk};
-
-use format::{Edited, WayUp};
+use format::{HeaderAbove, Refusal};
 use std::io;
 use std::io::Read;
 
-// The most lists there may be, and calls in a list, so that the loops end.
-const MOST: usize = 10000;
-
-fn wide(b: u8) -> usize
-    ensures { result ≤ 255 }
-{
-    b as usize
-}
-
-// A number of at most ten digits.
-fn number(digits: &[u8]) -> usize {
-    let mut n: usize = 0;
-    let mut i = 0;
-    while i < digits.len() {
-        n = n % 1000000000 * 10 + wide(digits[i]) % 16;
-        i += 1;
-    }
-    n
-}
-
-fn least(n: usize, most: usize) -> usize
-    ensures { result ≤ most }
-{
-    if n < most { n } else { most }
-}
-
-// A digest of bytes: each counts 31 times for each byte behind it, modulo a prime.
-fn digest(bytes: &[u8]) -> u64 {
-    let mut h: u64 = 0;
-    let mut i = 0;
-    while i < bytes.len() {
-        h = (h % 4294967291 * 31 + (wide(bytes[i]) as u64)) % 4294967291;
-        i += 1;
-    }
-    h
-}
-
-fn print_number(rt: &impl Print, n: usize) -> io::Result<()> {
-    print!(rt; " {n}")
-}
+// The head of a call.
+type Head = [u8; 24];
 
 // The digest of the whole buffer, tail and all, and the line's end.
 fn print_digest(rt: &impl Print, buffer: &[u8]) -> io::Result<()> {
-    print!(rt; " {}\n", digest(buffer))
-}
-
-fn print_refusal(rt: &impl Print, refusal: u8, at: usize) -> io::Result<()> {
-    print!(rt; "no")?;
-    print_number(rt, refusal as usize)?;
-    print_number(rt, at)
+    print!(rt; " {}\n", vectors::digest(buffer))
 }
 
 // The way up: the header above, 0 for a layer header, and the headers passed.
-fn print_way_up(rt: &impl Print, answer: WayUp) -> io::Result<()> {
-    match answer {
-        WayUp::Header(header, passed) => {
-            print!(rt; "ok")?;
-            print_number(rt, header)?;
-            print_number(rt, passed as usize)?;
-        }
-        WayUp::LayerHeader => print!(rt; "ok 0 0")?,
-        WayUp::Refused(refusal, at) => print_refusal(rt, refusal, at)?,
-    }
+fn print_way_up(rt: &impl Print, way: Result<Option<HeaderAbove>, Refusal>) -> io::Result<()> {
+    let numbers = match way {
+        Ok(Some(above)) => Ok([above.header, usize::from(above.passed)]),
+        Ok(None) => Ok([0, 0]),
+        Err(refusal) => Err(refusal),
+    };
+    vectors::print_answer(rt, numbers)?;
     print!(rt; "\n")
 }
 
-// An edit's answer; answers the used length for the next call, which a refusal leaves.
-fn print_edited(rt: &impl Print, answer: Edited, used: usize) -> io::Result<usize> {
-    match answer {
-        Edited::Used(after) => {
-            print!(rt; "ok")?;
-            print_number(rt, after)?;
-            Ok(after)
-        }
-        Edited::Refused(refusal, at) => {
-            print_refusal(rt, refusal, at)?;
-            Ok(used)
-        }
-    }
-}
-
-fn edit_sheet(
-    insertion: bool,
-    buffer: &mut [u8],
+// An edit, and the digest that it leaves; answers the used length for the next call, which a refusal leaves.
+fn print_edited(
+    rt: &impl Print,
+    edited: Result<usize, Refusal>,
     used: usize,
-    place: usize,
-    block: &[u8],
-) -> Edited {
-    if insertion {
-        edit::insert(buffer, used, place, block)
-    } else {
-        edit::remove(buffer, used, place)
-    }
+    buffer: &[u8],
+) -> io::Result<usize> {
+    vectors::print_answer(rt, edited.map(|after| [after]))?;
+    print_digest(rt, buffer)?;
+    Ok(edited.unwrap_or(used))
 }
 
 // One call at a place or from a record, told apart by its word's first letter; answers the used length for the next call.
+// Kept: the letter as it stands in the head; an enum would be matched once, where it is made.
 fn answer(
     rt: &impl Print,
     word: u8,
@@ -116,133 +51,94 @@ fn answer(
     used: usize,
     block: &[u8],
 ) -> io::Result<usize> {
-    if word == b'u' {
-        print_way_up(rt, way_up::way_up(buffer, used, place))?;
-        return Ok(used);
-    }
-    let edited = edit_sheet(word == b'i', buffer, used, place, block);
-    let after = print_edited(rt, edited, used)?;
-    print_digest(rt, buffer)?;
-    Ok(after)
-}
-
-// Reads until the buffer is full or the input ends, and answers how many bytes were read. An error leaves a part of them at its start.
-fn read_full(from: &mut impl Read, buffer: &mut [u8]) -> io::Result<usize>
-    ensures ok { IfOk result (λ n. n ≤ length buffer.new) }
-    ensures kept { length buffer.new ≡ length buffer.old }
-{
-    let mut done = 0;
-    while done < buffer.len() {
-        let n = from.read(&mut buffer[done..])?;
-        if n == 0 {
-            break;
+    match word {
+        b'u' => {
+            print_way_up(rt, way_up::way_up(buffer, used, place))?;
+            Ok(used)
         }
-        done += n;
+        b'i' => {
+            let edited = edit::insert(buffer, used, place, block);
+            print_edited(rt, edited, used, buffer)
+        }
+        _ => {
+            let edited = edit::remove(buffer, used, place);
+            print_edited(rt, edited, used, buffer)
+        }
     }
-    Ok(done)
 }
 
 // The call that a line heads: reads its block, and answers it.
-fn read_call(
+fn answer_call(
     rt: &impl Print,
     from: &mut impl Read,
-    head: &[u8],
+    head: &Head,
     buffer: &mut [u8],
     used: usize,
     block: &mut [u8],
-) -> io::Result<usize>
-    requires { 24 ≤ length head.now }
-{
-    let place = number(&head[7..17]);
-    let length = least(number(&head[18..23]), block.len());
-    read_full(from, &mut block[..length])?;
-    answer(rt, head[0], place, buffer, used, &block[..length])
+) -> io::Result<usize> {
+    let place = vectors::number(&head[7..17]);
+    let length = vectors::number(&head[18..23]).min(block.len());
+    let block = &mut block[..length];
+    vectors::read_full(from, block)?;
+    answer(rt, head[0], place, buffer, used, block)
 }
 
 // Reads and answers calls until the list ends.
-fn read_calls(
+fn answer_calls(
     rt: &impl Print,
     from: &mut impl Read,
-    head: &mut [u8],
     buffer: &mut [u8],
     start: usize,
     block: &mut [u8],
-) -> io::Result<()>
-    requires { 24 ≤ length head.old }
-{
+) -> io::Result<()> {
+    let mut head = [0u8; 24];
     let mut used = start;
-    let mut n = 0;
-    while n < MOST {
-        let got = read_full(from, head)?;
-        if got < 24 {
+    for _ in 0..vectors::MOST {
+        if !vectors::read_head(from, &mut head)? || head[0] == b'e' {
             return Ok(());
         }
-        if head[0] == b'e' {
-            return Ok(());
-        }
-        used = read_call(rt, from, head, buffer, used, block)?;
-        n += 1;
+        used = answer_call(rt, from, &head, buffer, used, block)?;
     }
     Ok(())
 }
 
-// One list, in a buffer of its length, and the digest that it leaves.
-fn read_list(
+// The list that a line starts, in a buffer of its length, and the digest that it leaves.
+fn answer_list(
     rt: &impl Print,
     from: &mut impl Read,
-    head: &mut [u8],
+    head: &Head,
     buffer: &mut [u8],
-    used: usize,
     block: &mut [u8],
-) -> io::Result<()>
-    requires { 24 ≤ length head.old }
-{
-    read_full(from, buffer)?;
-    read_calls(rt, from, head, buffer, used, block)?;
+) -> io::Result<()> {
+    let used = vectors::number(&head[7..17]);
+    let size = vectors::number(&head[18..23]).min(buffer.len());
+    let buffer = &mut buffer[..size];
+    vectors::read_full(from, buffer)?;
+    answer_calls(rt, from, buffer, used, block)?;
     print!(rt; "end")?;
     print_digest(rt, buffer)
 }
 
-// The list that a line starts.
-fn start_list(
-    rt: &impl Print,
-    from: &mut impl Read,
-    head: &mut [u8],
-    buffer: &mut [u8],
-    block: &mut [u8],
-) -> io::Result<()>
-    requires { 24 ≤ length head.old }
-{
-    let used = number(&head[7..17]);
-    let size = least(number(&head[18..23]), buffer.len());
-    read_list(rt, from, head, &mut buffer[..size], used, block)
-}
-
 // Reads lists until the input ends.
-fn read_lists(
+// Kept: the loop stands in each of these programs; over a closure it would take a `requires` that the closure may be called, and be no plainer.
+fn answer_lists(
     rt: &impl Print,
     from: &mut impl Read,
-    head: &mut [u8],
     buffer: &mut [u8],
     block: &mut [u8],
-) -> io::Result<()>
-    requires { 24 ≤ length head.old }
-{
-    let mut n = 0;
-    while n < MOST {
-        let got = read_full(from, head)?;
-        if got < 24 {
+) -> io::Result<()> {
+    let mut head = [0u8; 24];
+    for _ in 0..vectors::MOST {
+        if !vectors::read_head(from, &mut head)? {
             return Ok(());
         }
-        start_list(rt, from, head, buffer, block)?;
-        n += 1;
+        answer_list(rt, from, &head, buffer, block)?;
     }
     Ok(())
 }
 
 fn main(rt: HostRuntime) -> io::Result<()> {
-    let mut head = [0u8; 24];
     let mut buffer = [0u8; 65536];
     let mut block = [0u8; 65536];
-    read_lists(&rt, &mut rt.stdin(), &mut head, &mut buffer, &mut block)
+    answer_lists(&rt, &mut rt.stdin(), &mut buffer, &mut block)
 }

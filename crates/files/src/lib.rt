@@ -16,7 +16,7 @@ pub const LINE: usize = RECORD + 2;
 pub const MOST: usize = 200000;
 
 // How far a record starts behind the one before it: records of 84 bytes end to end, or with a line end of two bytes behind each.
-#[derive(Clone, Copy)]
+#[derive(Clone, Copy, PartialEq, Eq, Debug)]
 pub enum Stride {
     Plain,
     Lines,
@@ -36,6 +36,7 @@ pub fn bytes(stride: Stride) -> usize
 pub fn count(file: &[u8], stride: Stride) -> usize
     ensures { result ≡ length (records_of stride file.now) }
 {
+    // Kept: `file.len() / bytes(stride)` is shorter and divides by a number that the compiler does not know, at every record of every walk.
     match stride {
         Stride::Plain => file.len() / RECORD,
         Stride::Lines => file.len() / LINE,
@@ -58,17 +59,8 @@ pub fn record_at(file: &[u8], stride: Stride, k: usize) -> &[u8]
 pub fn length_ok(buffer: &[u8], used: usize, stride: Stride) -> bool
     ensures { result ≡ length_ok stride used buffer.now }
 {
-    if used == 0 {
-        return false;
-    }
-    if buffer.len() < used {
-        return false;
-    }
     let each = bytes(stride);
-    if used % each != 0 {
-        return false;
-    }
-    used <= each * MOST
+    0 < used && used <= buffer.len() && used % each == 0 && used <= each * MOST
 }
 
 // Puts bytes into a buffer, from `at` on; nothing where they have no room there.
@@ -81,9 +73,5 @@ pub fn put_at(buffer: &mut [u8], at: usize, bytes: &[u8])
     if buffer.len() - at < bytes.len() {
         return;
     }
-    let mut i = 0;
-    while i < bytes.len() {
-        buffer[at + i] = bytes[i];
-        i += 1;
-    }
+    buffer[at..at + bytes.len()].copy_from_slice(bytes);
 }

@@ -1,6 +1,6 @@
 -- Many bytes: the doubts of letters put one after another are the sum of theirs, and where a column's bytes have none, it is well formed.
 -- Assumes nothing.
-use mathlib.Core.Path.{◌≡◌, refl, ap, sym}
+use mathlib.Core.Path.{◌≡◌, refl, ap, sym, ◌∙◌}
 use mathlib.Core.Bool.{Bool, true, false, cond}
 use mathlib.Core.List.{List, [], ◌∷◌, ◌++◌}
 use Prim.Native.Nat.{ℕ, zero, suc, ◌+◌, ◌≤◌, ◌<◌}
@@ -9,9 +9,20 @@ use native.Mathlib.Numerals.{add-one}
 use native.Mathlib.Omega.{arith}
 use lib.ListN.{length, take, drop, get_or}
 use lib.Seq.{drop-cons}
+use Rattle.std.proofs.Common.{min}
+use borrow.Author.Tests.{ltb-true, ltb-false}
+use lib.Dec.{ltb}
 use Rattle.form_bytes.specs.Doubt.{surely_right, doubt}
 use Rattle.form_bytes.specs.Letters.{behind, letters_in, doubts_in}
 use Rattle.form_bytes.proofs.Neighbours.{Right, first_letter, between_letter, last-right, only_right, between-right, first-right, Loose, loose_last, loose_only, loose_between, loose_first}
+
+-- ---- `most_at`
+pub least_of : (letter most x : ℕ) → x ≡ min letter most → x ≡ cond (ltb letter most) letter most
+least_of letter most x e = e ∙ go (ltb letter most) refl
+  where
+    go : (t : Bool) → ltb letter most ≡ t → min letter most ≡ cond t letter most
+    go true e = omega (arith, ltb-true letter most e)
+    go false e = omega (arith, ltb-false letter most e)
 
 -- ---- one byte
 

@@ -28,7 +28,7 @@ fn most_at(letter: u8) -> u8
     if letter == b'Z' {
         return b'0';
     }
-    if letter < b'9' { letter } else { b'9' }
+    letter.min(b'9')
 }
 
 // 0 where the byte is surely right by its letter after the byte before it, else 1: a column of which no byte is in doubt has no fault but a 0 where a

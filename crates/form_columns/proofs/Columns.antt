@@ -32,6 +32,10 @@ ends l m count h k f b =
     let front = (and-true (each_formed (count - m) l) _ (sym (split (count - m) (m + m - count) l) ∙ ap (λ (n : ℕ). each_formed n l) (sym e) ∙ f)).0 in
     ap (λ (n : ℕ). each_formed n l) (sym g) ∙ split (count - m) m l ∙ true_and _ _ front b
 
+all_of : (t : Bool) → t && true ≡ t
+all_of true = refl
+all_of false = refl
+
 -- ---- `many_formed`: seven at the front and seven at the end are sure, or those of one end
 
 module _ (l : List ℕ) (start count : ℕ) (least : 7 ≤ count) where
@@ -46,11 +50,7 @@ module _ (l : List ℕ) (start count : ℕ) (least : 7 ≤ count) where
   pub back-sure : (back r : Bool) → (back ≡ true → each_formed 7 (drop (start + (count - 7) * 7) l) ≡ true) → back ≡ true → r ≡ each_formed (count - 7) (drop start l) → r ≡ each_formed count (drop start l)
   back-sure back r b e g =
       let n : count ≡ count - 7 + 7 = omega arith in
-      g ∙ sym (ap (λ (m : ℕ). each_formed m (drop start l)) n ∙ split (count - 7) 7 (drop start l) ∙ rw (drop-drop ((count - 7) * 7) start l, b e) (all (each_formed (count - 7) (drop start l))))
-    where
-      all : (t : Bool) → t && true ≡ t
-      all true = refl
-      all false = refl
+      g ∙ sym (ap (λ (m : ℕ). each_formed m (drop start l)) n ∙ split (count - 7) 7 (drop start l) ∙ rw (drop-drop ((count - 7) * 7) start l, b e) (all_of (each_formed (count - 7) (drop start l))))
 
 -- ---- `few_formed`
 
@@ -63,18 +63,18 @@ few_are_sure l start count r e f = sym (f e)
 
 -- ---- one column after another
 
-pub one_column : (l : List ℕ) (at left : ℕ) (good r all : Bool) → r ≡ formed (column_of (take 7 (drop at l))) → 0 < left → good && each_formed left (drop at l) ≡ all → (good && r) && each_formed (left - 1) (drop (at + 7) l) ≡ all
+pub one_column : (l : List ℕ) (start count column : ℕ) (good r all : Bool) → r ≡ formed (column_of (take 7 (drop (start + column * 7) l))) → column < count → good && each_formed (count - column) (drop (start + column * 7) l) ≡ all → (good && r) && each_formed (count - (column + 1)) (drop (start + (column + 1) * 7) l) ≡ all
 unfolding each_formed
-one_column l at zero good r all e h k = absurd (omega arith)
-one_column l at (suc n) good r all e h k =
-    let q : suc n - 1 ≡ n = omega arith in
-    rw (q, e, and_assoc, ← drop-drop 7 at l) k
+one_column l start count column good r all e h k =
+    let m : count - column ≡ suc (count - (column + 1)) = omega arith in
+    let q : start + (column + 1) * 7 ≡ start + column * 7 + 7 = omega arith in
+    rw (q, e, and_assoc, ← drop-drop 7 (start + column * 7) l) (rw m at k)
 
-pub no_column : (l : List ℕ) (at left : ℕ) (good all : Bool) → left ≤ 0 → good && each_formed left (drop at l) ≡ all → good ≡ all
+pub no_column : (l : List ℕ) (start count column : ℕ) (good all : Bool) → count ≤ column → good && each_formed (count - column) (drop (start + column * 7) l) ≡ all → good ≡ all
 unfolding each_formed
-no_column l at zero true all h k = k
-no_column l at zero false all h k = k
-no_column l at (suc n) good all h k = absurd (omega arith)
+no_column l start count column good all h k =
+    let z : count - column ≡ 0 = omega arith in
+    sym (all_of good) ∙ rw z at k
 
 -- ---- column by column
 

@@ -16,7 +16,7 @@ const LETTERS: [u8; 48] = *b"mmmmmdMmmmmmdMmmmmmdMmmmmmdMmmmmmdMmmmmmdMmmmmmd";
 const COLUMNS: [u8; 48] = *b"000000111111122222223333333444444455555556666666";
 
 // Whether seven columns are surely well formed, at the front and at the back of many.
-#[derive(Clone, Copy)]
+#[derive(Clone, Copy, PartialEq, Eq, Debug)]
 struct Ends {
     front: bool,
     back: bool,
@@ -32,11 +32,9 @@ fn ends_sure(bytes: &[u8], at: usize, end: usize) -> Ends
     let letters = LETTERS;
     let mut front = doubt_at(b'M', b' ', bytes[at]);
     let mut back = doubt_at(b'M', b' ', bytes[end]);
-    let mut i = 0;
-    while i < 48 {
+    for i in 0..48 {
         front = front + doubt_at(letters[i], bytes[at + i], bytes[at + i + 1]);
         back = back + doubt_at(letters[i], bytes[end + i], bytes[end + i + 1]);
-        i += 1;
     }
     Ends {
         front: front == 0,
@@ -60,11 +58,9 @@ fn few_sure(bytes: &[u8], at: usize, count: u8) -> bool
     let columns = COLUMNS;
     let end = b'0' + count;
     let mut doubts = doubt_at(b'M', b' ', bytes[at]);
-    let mut i = 0;
-    while i < 48 {
+    for i in 0..48 {
         let doubt = doubt_at(letters[i], bytes[at + i], bytes[at + i + 1]);
         doubts = doubts + counted(columns[i] < end, doubt);
-        i += 1;
     }
     doubts == 0
 }
@@ -74,10 +70,7 @@ fn has_value(bytes: &[u8], at: usize) -> bool
     requires { at + 7 ≤ length bytes.now }
     ensures { result ≡ formed (column_of (take 7 (drop at bytes.now))) }
 {
-    let Column::Value(_) = columns::column_at(bytes, at, 7) else {
-        return false;
-    };
-    true
+    matches!(columns::column_at(bytes, at, 7), Column::Value(_))
 }
 
 // Any number of columns, one after another.
@@ -86,12 +79,8 @@ fn each_formed(bytes: &[u8], start: usize, count: usize) -> bool
     ensures { result ≡ each_formed count (drop start bytes.now) }
 {
     let mut good = true;
-    let mut at = start;
-    let mut left = count;
-    while 0 < left {
-        good = good & has_value(bytes, at);
-        at += 7;
-        left -= 1;
+    for column in 0..count {
+        good &= has_value(bytes, start + column * 7);
     }
     good
 }

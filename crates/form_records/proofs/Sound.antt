@@ -1,7 +1,7 @@
 -- No byte of a record is in doubt by the letters of its layout exactly where the record can be told at once; and what callers make of that. Assumes nothing.
 use mathlib.Core.Path.{◌≡◌, refl, sym}
 use mathlib.Core.Bool.{Bool, true, false, cond, ◌&&◌, false≢true}
-use mathlib.Core.List.{List, [], ◌∷◌, ◌++◌}
+use mathlib.Core.List.{List, [], ◌∷◌}
 use Prim.Native.Nat.{ℕ, zero, suc, ◌+◌, ◌≤◌}
 use native.Mathlib.Nat.{zero-add, add-suc}
 use native.Mathlib.Omega.{arith}
@@ -9,26 +9,20 @@ use borrow.Author.Tests.{leb-true, eqb-true, eqb-false, ne_eqb}
 use lib.Dec.{eqb, leb}
 use lib.ListN.{length, drop, get_or, length-drop}
 use lib.Seq.{drop-drop, get_or-drop}
-use Rattle.format.specs.Layout.{Rule, any_sign, at_least, range, within, one_of, What, text, blank, integral, integral_or_spaces, Col, column, bytes_of, is_formed, is_inside, all_formed, all_inside, index_c, sheet_b, sheet_e, sheet_f, header, element, grid_header, net_header, data_note}
+use Rattle.format.specs.Layout.{Rule, any_sign, at_least, range, within, one_of, What, text, blank, integral, integral_or_spaces, Col, column, bytes_of, is_formed, is_inside, all_formed, all_inside}
 use Rattle.format.proofs.Basics.{and-true, true_and}
 use Rattle.form_bytes.specs.Letters.{letters_for, doubts_in}
 use Rattle.form_bytes.specs.Told.{looser_rule, looser, no_zero_after_minus, told_at_once, has_letters}
 use Rattle.form_bytes.proofs.Doubts.{doubts_append}
 use Rattle.form_bytes.proofs.Rules.{length_for}
 use Rattle.form_bytes.proofs.AtOnce.{at_once}
+use Rattle.form_records.specs.LaidOut.{letters_of, laid_out}
 use Rattle.form_records.specs.Sure.{all_told, sure}
 
--- ---- the letters of a layout's bytes, and records of which no byte is in doubt, as the code counts
-
-unfoldable pub letters_of : List Col → List ℕ
-letters_of [] = []
-letters_of (c ∷ cs) = letters_for c.what c.width ++ letters_of cs
-
-unfoldable pub surely : List Col → List ℕ → Bool
-surely layout r = eqb (length r) 84 && eqb (doubts_in (letters_of layout) 32 r) 0
+-- ---- exactly, by the letters
 
 -- a sum is 0 where both are
-pub zero_sum : (x y : ℕ) → eqb (x + y) 0 ≡ eqb x 0 && eqb y 0
+zero_sum : (x y : ℕ) → eqb (x + y) 0 ≡ eqb x 0 && eqb y 0
 zero_sum x y = go (eqb x 0) refl
   where
     go : (t : Bool) → eqb x 0 ≡ t → eqb (x + y) 0 ≡ t && eqb y 0
@@ -36,11 +30,6 @@ zero_sum x y = go (eqb x 0) refl
     go false e =
         let n : x ≡ 0 → ⊥ = eqb-false x 0 e in
         ne_eqb (x + y) 0 (λ (p : x + y ≡ 0). n (omega arith))
-
--- every column has a byte and letters of its own, and starts where the one before it ends; the last ends at 84
-abbrev laid_out : ℕ → List Col → Bool
-laid_out at [] = eqb at 84
-laid_out at (c ∷ cs) = eqb c.start at && ((leb 1 c.width && has_letters c.what c.width) && laid_out (at + c.width) cs)
 
 record Laid (at : ℕ) (c : Col) (cs : List Col) : Type 0 where
   start_is : c.start ≡ at
@@ -86,51 +75,13 @@ module _ (r : List ℕ) (whole : length r ≡ 84) where
       let i = columns_told cs (at + w) a.behind in
       rw (s, length_for c.what w, next-before w at (byte_before at) a.has_byte, drop-drop w at r, zero_sum, t, i, a.start_is)
 
-pub surely_sure : (layout : List Col) → laid_out 0 layout ≡ true → (r : List ℕ) → surely layout r ≡ sure layout r
-unfolding surely sure
-surely_sure layout h r = go (eqb (length r) 84) refl
-  where
-    go : (t : Bool) → eqb (length r) 84 ≡ t → t && eqb (doubts_in (letters_of layout) 32 r) 0 ≡ t && all_told layout r
-    go true e = columns_told r (eqb-true (length r) 84 e) layout 0 h
-    go false e = refl
+pub doubtless : (layout : List Col) → laid_out 0 layout ≡ true → (r : List ℕ) → length r ≡ 84 → eqb (doubts_in (letters_of layout) 32 r) 0 ≡ sure layout r
+unfolding sure
+doubtless layout h r whole = rw whole (columns_told r whole layout 0 h)
 
--- ---- the nine layouts
-
-pub index-c-sure : (r : List ℕ) → surely index_c r ≡ sure index_c r
-unfolding index_c
-index-c-sure = surely_sure index_c refl
-
-pub sheet-b-sure : (r : List ℕ) → surely sheet_b r ≡ sure sheet_b r
-unfolding sheet_b
-sheet-b-sure = surely_sure sheet_b refl
-
-pub sheet-e-sure : (r : List ℕ) → surely sheet_e r ≡ sure sheet_e r
-unfolding sheet_e
-sheet-e-sure = surely_sure sheet_e refl
-
-pub sheet-f-sure : (r : List ℕ) → surely sheet_f r ≡ sure sheet_f r
-unfolding sheet_f
-sheet-f-sure = surely_sure sheet_f refl
-
-pub header-sure : (r : List ℕ) → surely header r ≡ sure header r
-unfolding header
-header-sure = surely_sure header refl
-
-pub element-sure : (r : List ℕ) → surely element r ≡ sure element r
-unfolding element
-element-sure = surely_sure element refl
-
-pub grid-header-sure : (r : List ℕ) → surely grid_header r ≡ sure grid_header r
-unfolding grid_header
-grid-header-sure = surely_sure grid_header refl
-
-pub net-header-sure : (r : List ℕ) → surely net_header r ≡ sure net_header r
-unfolding net_header
-net-header-sure = surely_sure net_header refl
-
-pub data_note_sure : (r : List ℕ) → surely data_note r ≡ sure data_note r
-unfolding data_note
-data_note_sure = surely_sure data_note refl
+pub no_record : (layout : List Col) (r : List ℕ) → (length r ≡ 84 → ⊥) → false ≡ sure layout r
+unfolding sure
+no_record layout r h = rw (ne_eqb (length r) 84 h)
 
 -- ---- what callers cite: a record told at once is without fault, but for those columns of which more is asked: a number above 0, or one of a list
 

@@ -2,163 +2,135 @@
 // formed and inside their ranges, but for a 0 where a number above 0 is due and for lists, and in which no 0 stands right after a minus. Any other may still
 // be right: "-05" is.
 //
-// The bytes from 2 to 81 of a record, sixteen at a time, are compared with the letters of its layout; its two first and two last bytes apart.
+// Each byte of a record is compared with the letter that its layout has there.
 #![tactic(auto)]
 
-ghost use Rattle.std.specs.Prelude.{◌≡◌, length, get_or, drop};
+ghost use Rattle.std.specs.Prelude.{◌≡◌, true};
 ghost use Rattle.format.specs.Layout.{index_c, sheet_b, sheet_e, sheet_f, header, element, grid_header, net_header, data_note};
 ghost use Rattle.form_bytes.specs.Letters.{doubts_in};
+ghost use Rattle.form_records.specs.LaidOut.{letters_of, laid_out, laid_index_c, laid_sheet_b, laid_sheet_e, laid_sheet_f, laid_header, laid_element, laid_grid_header, laid_net_header, laid_data_note};
 ghost use Rattle.form_records.specs.Sure.{sure};
 
 use files::RECORD;
 use form_bytes::doubt_at;
+use layouts::{
+    DataNote, Element, GridHeader, Header, IndexC, Layout, NetHeader, SheetB, SheetE, SheetF,
+};
 
-// The letters, those of form_bytes, of the bytes from 2 to 81.
-const INDEX_C: [u8; 80] =
-    *b"sdSssd1111111111d...............................................................";
+// A layout whose records can be told at once: the letters, those of form_bytes, of its bytes.
+pub trait Lettered: Layout {
+    fn letters() -> &'static [u8; RECORD]
+        ensures { result.now ≡ letters_of Self.columns };
 
-const SHEET_B: [u8; 80] =
-    *b"mmmmdMmmmmmdMmmmmmdMmmmmmd...SssssdSsssssdSsdMmmmmmdMmmmmmdMmmmmmdMmmmmmd.......";
-
-const SHEET_E: [u8; 80] =
-    *b"......................................MmmdMmmdMmmdMmmdMmmdMmmdMmmdMmmd..........";
-
-const SHEET_F: [u8; 80] =
-    *b"......SsssddSssdSssd........SsssddSssdSssd........SsssddSssdSssd................";
-
-const HEADER: [u8; 80] =
-    *b"SssdSdSssdSssdSdSsssdSsssdSsssdSsssdSsssdSsssdSsssdSsssdSsssdSsssdd............S";
-
-const ELEMENT: [u8; 80] =
-    *b"SssdSdSssdSssdSdSd6Sd2ZddSssdSssdMmmmmmdMmmmmmdMmmmmmsSd........................";
-
-const GRID_HEADER: [u8; 80] =
-    *b"SssdSdSssdSssdSdSssdSssdSssdSsssssdSsssssdMmmmmmdMmmmmmd............SdSd........";
-
-const NET_HEADER: [u8; 80] =
-    *b"SssdSdSssdSssdSdSdSssssdSssssd............Sd....................................";
-
-const DATA_NOTE: [u8; 80] =
-    *b"mmmmmdSsssdSsssdSd..............................................................";
-
-// The doubts of the bytes from 2 to 81. At most 80 are counted in a byte, so that sixteen of them are added at a time.
-fn middle_doubts(record: &[u8], letters: &[u8; 80]) -> u8
-    requires { (length «record».now ≡ 84) × (length letters.now ≡ 80) }
-    ensures { result ≡ doubts_in letters.now (get_or «record».now 1 0) (drop 2 «record».now) }
-{
-    let mut doubts: u8 = 0;
-    let mut i = 0;
-    while i < 80 {
-        doubts = doubts + doubt_at(letters[i], record[i + 1], record[i + 2]);
-        i += 1;
-    }
-    doubts
+    // the columns follow one another from 0 to 84, and each has letters of its own
+    ghost laid: { laid_out 0 Self.columns ≡ true };
 }
 
-pub fn index_c_sure(record: &[u8]) -> bool
-    ensures { result ≡ sure index_c «record».now }
-{
-    if record.len() != RECORD {
-        return false;
+impl Lettered for IndexC {
+    ghost laid = { laid_index_c };
+
+    #[tactic(auto, unfolding(crate::specs::LaidOut::letters_of, form_bytes::specs::Letters::letters_for, form_bytes::specs::Letters::ruled, form_bytes::specs::Letters::letters_in, form_bytes::specs::Letters::behind, format::specs::Layout::index_c))]
+    fn letters() -> &'static [u8; RECORD] {
+        b"SssdSssd1111111111d................................................................."
     }
-    let letters = INDEX_C;
-    let first = doubt_at(b'S', b' ', record[0]);
-    let second = doubt_at(b's', record[0], record[1]);
-    let middle = middle_doubts(record, &letters);
-    (first == 0) & (second == 0) & (middle == 0)
 }
 
-pub fn sheet_b_sure(record: &[u8]) -> bool
-    ensures { result ≡ sure sheet_b «record».now }
-{
-    if record.len() != RECORD {
-        return false;
+impl Lettered for SheetB {
+    ghost laid = { laid_sheet_b };
+
+    #[tactic(auto, unfolding(crate::specs::LaidOut::letters_of, form_bytes::specs::Letters::letters_for, form_bytes::specs::Letters::ruled, form_bytes::specs::Letters::letters_in, form_bytes::specs::Letters::behind, format::specs::Layout::sheet_b))]
+    fn letters() -> &'static [u8; RECORD] {
+        b"MmmmmmdMmmmmmdMmmmmmdMmmmmmd...SssssdSsssssdSsdMmmmmmdMmmmmmdMmmmmmdMmmmmmd........."
     }
-    let letters = SHEET_B;
-    let first = doubt_at(b'M', b' ', record[0]);
-    let second = doubt_at(b'm', record[0], record[1]);
-    let middle = middle_doubts(record, &letters);
-    (first == 0) & (second == 0) & (middle == 0)
 }
 
-pub fn sheet_e_sure(record: &[u8]) -> bool
-    ensures { result ≡ sure sheet_e «record».now }
-{
-    if record.len() != RECORD {
-        return false;
+impl Lettered for SheetE {
+    ghost laid = { laid_sheet_e };
+
+    #[tactic(auto, unfolding(crate::specs::LaidOut::letters_of, form_bytes::specs::Letters::letters_for, form_bytes::specs::Letters::ruled, form_bytes::specs::Letters::letters_in, form_bytes::specs::Letters::behind, format::specs::Layout::sheet_e))]
+    fn letters() -> &'static [u8; RECORD] {
+        b"........................................MmmdMmmdMmmdMmmdMmmdMmmdMmmdMmmd............"
     }
-    let letters = SHEET_E;
-    let middle = middle_doubts(record, &letters);
-    middle == 0
 }
 
-pub fn sheet_f_sure(record: &[u8]) -> bool
-    ensures { result ≡ sure sheet_f «record».now }
-{
-    if record.len() != RECORD {
-        return false;
+impl Lettered for SheetF {
+    ghost laid = { laid_sheet_f };
+
+    #[tactic(auto, unfolding(crate::specs::LaidOut::letters_of, form_bytes::specs::Letters::letters_for, form_bytes::specs::Letters::ruled, form_bytes::specs::Letters::letters_in, form_bytes::specs::Letters::behind, format::specs::Layout::sheet_f))]
+    fn letters() -> &'static [u8; RECORD] {
+        b"........SsssddSssdSssd........SsssddSssdSssd........SsssddSssdSssd.................."
     }
-    let letters = SHEET_F;
-    let middle = middle_doubts(record, &letters);
-    middle == 0
 }
 
-pub fn header_sure(record: &[u8]) -> bool
-    ensures { result ≡ sure header «record».now }
-{
-    if record.len() != RECORD {
-        return false;
+impl Lettered for Header {
+    ghost laid = { laid_header };
+
+    #[tactic(auto, unfolding(crate::specs::LaidOut::letters_of, form_bytes::specs::Letters::letters_for, form_bytes::specs::Letters::ruled, form_bytes::specs::Letters::letters_in, form_bytes::specs::Letters::behind, format::specs::Layout::header))]
+    fn letters() -> &'static [u8; RECORD] {
+        b"..SssdSdSssdSssdSdSsssdSsssdSsssdSsssdSsssdSsssdSsssdSsssdSsssdSsssdd............Sd."
     }
-    let letters = HEADER;
-    let middle = middle_doubts(record, &letters);
-    let behind = doubt_at(b'd', record[81], record[82]);
-    (middle == 0) & (behind == 0)
 }
 
-pub fn element_sure(record: &[u8]) -> bool
-    ensures { result ≡ sure element «record».now }
-{
-    if record.len() != RECORD {
-        return false;
+impl Lettered for Element {
+    ghost laid = { laid_element };
+
+    #[tactic(auto, unfolding(crate::specs::LaidOut::letters_of, form_bytes::specs::Letters::letters_for, form_bytes::specs::Letters::ruled, form_bytes::specs::Letters::letters_in, form_bytes::specs::Letters::behind, format::specs::Layout::element))]
+    fn letters() -> &'static [u8; RECORD] {
+        b"..SssdSdSssdSssdSdSd6Sd2ZddSssdSssdMmmmmmdMmmmmmdMmmmmmsSd.........................r"
     }
-    let letters = ELEMENT;
-    let middle = middle_doubts(record, &letters);
-    let last = doubt_at(b'r', record[82], record[83]);
-    (middle == 0) & (last == 0)
 }
 
-pub fn grid_header_sure(record: &[u8]) -> bool
-    ensures { result ≡ sure grid_header «record».now }
-{
-    if record.len() != RECORD {
-        return false;
+impl Lettered for GridHeader {
+    ghost laid = { laid_grid_header };
+
+    #[tactic(auto, unfolding(crate::specs::LaidOut::letters_of, form_bytes::specs::Letters::letters_for, form_bytes::specs::Letters::ruled, form_bytes::specs::Letters::letters_in, form_bytes::specs::Letters::behind, format::specs::Layout::grid_header))]
+    fn letters() -> &'static [u8; RECORD] {
+        b"..SssdSdSssdSssdSdSssdSssdSssdSsssssdSsssssdMmmmmmdMmmmmmd............SdSd.........r"
     }
-    let letters = GRID_HEADER;
-    let middle = middle_doubts(record, &letters);
-    let last = doubt_at(b'r', record[82], record[83]);
-    (middle == 0) & (last == 0)
 }
 
-pub fn net_header_sure(record: &[u8]) -> bool
-    ensures { result ≡ sure net_header «record».now }
-{
-    if record.len() != RECORD {
-        return false;
+impl Lettered for NetHeader {
+    ghost laid = { laid_net_header };
+
+    #[tactic(auto, unfolding(crate::specs::LaidOut::letters_of, form_bytes::specs::Letters::letters_for, form_bytes::specs::Letters::ruled, form_bytes::specs::Letters::letters_in, form_bytes::specs::Letters::behind, format::specs::Layout::net_header))]
+    fn letters() -> &'static [u8; RECORD] {
+        b"..SssdSdSssdSssdSdSdSssssdSssssd............Sd......................................"
     }
-    let letters = NET_HEADER;
-    let middle = middle_doubts(record, &letters);
-    middle == 0
 }
 
-pub fn data_note_sure(record: &[u8]) -> bool
-    ensures { result ≡ sure data_note «record».now }
-{
-    if record.len() != RECORD {
-        return false;
+impl Lettered for DataNote {
+    ghost laid = { laid_data_note };
+
+    #[tactic(auto, unfolding(crate::specs::LaidOut::letters_of, form_bytes::specs::Letters::letters_for, form_bytes::specs::Letters::ruled, form_bytes::specs::Letters::letters_in, form_bytes::specs::Letters::behind, format::specs::Layout::data_note))]
+    fn letters() -> &'static [u8; RECORD] {
+        b"1MmmmmmdSsssdSsssdSd................................................................"
     }
-    let letters = DATA_NOTE;
-    let first = doubt_at(b'1', b' ', record[0]);
-    let second = doubt_at(b'M', record[0], record[1]);
-    let middle = middle_doubts(record, &letters);
-    (first == 0) & (second == 0) & (middle == 0)
+}
+
+// The doubts of a record's bytes: at most one a byte, so that they are counted in a byte, and sixteen of them added at a time. Those of the two first and
+// the two last bytes apart, so that the loop has whole sixteens.
+#[inline(always)]
+fn doubts(letters: &[u8; RECORD], record: &[u8; RECORD]) -> u8
+    ensures { result ≡ doubts_in letters.now 32 «record».now }
+{
+    let mut doubts = 0;
+    // Kept: by index, since a byte is read with its letter and the byte before it: three slices zipped are no plainer.
+    for i in 0..80 {
+        doubts += doubt_at(letters[i + 2], record[i + 1], record[i + 2]);
+    }
+    let first = doubt_at(letters[0], b' ', record[0]);
+    let second = doubt_at(letters[1], record[0], record[1]);
+    let behind = doubt_at(letters[82], record[81], record[82]);
+    let last = doubt_at(letters[83], record[82], record[83]);
+    doubts + (first + second + behind + last)
+}
+
+// Whether a record can be told at once to be right by its layout.
+pub fn is_sure<L: Lettered>(record: &[u8]) -> bool
+    ensures { result ≡ sure L.columns «record».now }
+{
+    let Ok(record) = <&[u8; RECORD]>::try_from(record) else {
+        return false;
+    };
+    doubts(L::letters(), record) == 0
 }

@@ -1,5 +1,6 @@
 -- Laws of the definitions, in the order of specs/; Claims and the files whose names begin with it state the theorems that a reader should know.
 pub mod Basics
+pub mod Reasons
 pub mod Lists
 pub mod Columns
 pub mod ColumnFits

@@ -9,8 +9,9 @@ use Rattle.format.specs.Basics.{given, refused, chunks}
 use Rattle.format.specs.Judge.{Counts, judge_sheet}
 use Rattle.format_directory.specs.declared.Edition.{Edition}
 use Rattle.format_directory.specs.declared.Edition.TheVariants.{One, Two}
-use Rattle.format_directory.specs.declared.Jumped.{Jumped}
-use Rattle.format_directory.specs.declared.JumpedEither.{JumpedEither}
+use Rattle.std.specs.Prelude.{Result}
+use Rattle.format.specs.declared.Refusal.{Refusal}
+use Rattle.format_directory.specs.declared.LayerEntry as Declared
 use Rattle.format_directory.specs.Answers.{jumped_answer, jumped_either_answer}
 use Rattle.format_directory.specs.Directory.{layers_of, judge_directory, append_directory, jump, judge_either_edition, LayerEntry, jump_either_edition}
 use Rattle.format_directory.specs.DirectoryChecks.{joined, ListsLayers, totals, Meet, UsedFails, DirectoryRefusal, StartsYE, EitherRefusal, AppendRefusal, Appended, NthHeader, NthLayer, header_of}
@@ -64,7 +65,7 @@ pub plain_refuses_long : (used : ℕ) (buffer : List ℕ) (counts : Counts) → 
 plain_refuses_long = DirectoryJumps.plain_refuses_long
 
 -- ---- the answer of a jump and the paper's answers are one to one
-pub jumps_one_to_one : (x y : Jumped) → jumped_answer x ≡ jumped_answer y → x ≡ y
+pub jumps_one_to_one : (x y : Result ℕ Refusal) → jumped_answer x ≡ jumped_answer y → x ≡ y
 jumps_one_to_one = DirectoryJumps.one_to_one
 
 -- ---- Order 13, the second edition: "new ones read both"; "Edition 2 is accepted exactly when all three numbers are right for each layer"
@@ -123,5 +124,5 @@ pub plain_refuses_either_long : (used : ℕ) (buffer : List ℕ) (counts : Count
 plain_refuses_either_long = DirectoryJumps.plain_refuses_either_long
 
 -- ---- the answer of a jump in either edition and the paper's answers are one to one
-pub either_one_to_one : (x y : JumpedEither) → jumped_either_answer x ≡ jumped_either_answer y → x ≡ y
+pub either_one_to_one : (x y : Result Declared.LayerEntry Refusal) → jumped_either_answer x ≡ jumped_either_answer y → x ≡ y
 either_one_to_one = DirectoryJumps.either_one_to_one

@@ -14,8 +14,10 @@ use Rattle.format.specs.Judge.{Counts, file_of, judge_records, judge_sheet}
 use Rattle.format.proofs.Basics.{and-true, true_and, or_cases}
 use Rattle.format_directory.specs.declared.Edition.{Edition}
 use Rattle.format_directory.specs.declared.Edition.TheVariants.{One, Two}
-use Rattle.format_directory.specs.declared.Jumped.{Jumped}
-use Rattle.format_directory.specs.declared.JumpedEither.{JumpedEither}
+use Rattle.std.specs.Prelude.{Result, Ok, Err}
+use Rattle.format.specs.declared.Refusal.{Refusal}
+use Rattle.format.proofs.ClaimsAnswers.{value_of, refusal_one_to_one}
+use Rattle.format_directory.specs.declared.LayerEntry as Declared
 use Rattle.format_directory.specs.Answers.{jumped_answer, jumped_either_answer}
 use Rattle.format_directory.specs.Directory.{Layer, layers_of, total_of, last_of, last_record, layer_count, in_count, after_judging, listed_in, sheet_in, directory_in, judge_directory, jump, no_layer, layer_of, counted_header, edition_of, judge_either_edition, LayerEntry, entry_in, jump_either_edition}
 use Rattle.format_directory.specs.DirectoryChecks.{Rising, Spans, AllSpan, ListsLayers, NthHeader, NthLayer, header_of}
@@ -259,21 +261,16 @@ pub plain_refuses_either_long : (used : ℕ) (b : List ℕ) (c : Counts) → jud
 plain_refuses_either_long used b c e h = DirectoryRefused.plain_refuses_long used b h
 
 -- ---- the answers of the code
-pub one_to_one : (x y : Jumped) → jumped_answer x ≡ jumped_answer y → x ≡ y
+pub one_to_one : (x y : Result ℕ Refusal) → jumped_answer x ≡ jumped_answer y → x ≡ y
 unfolding jumped_answer
-one_to_one (Jumped.Header h) (Jumped.Header k) e = cc
-one_to_one (Jumped.Header h) (Jumped.Refused m r) e = cc
-one_to_one (Jumped.Refused n r) (Jumped.Header k) e = cc
-one_to_one (Jumped.Refused n r) (Jumped.Refused m s) e = cc
+one_to_one (Ok h) (Ok k) e = cc
+one_to_one (Ok h) (Err r) e = cc
+one_to_one (Err r) (Ok k) e = cc
+one_to_one (Err r) (Err s) e = ap Err (refusal_one_to_one r s e)
 
-pub either_one_to_one : (x y : JumpedEither) → jumped_either_answer x ≡ jumped_either_answer y → x ≡ y
+pub either_one_to_one : (x y : Result Declared.LayerEntry Refusal) → jumped_either_answer x ≡ jumped_either_answer y → x ≡ y
 unfolding jumped_either_answer
-either_one_to_one (JumpedEither.Layer h t l) (JumpedEither.Layer h' t' l') e =
-    let q : ◌≡◌ {A = LayerEntry} (record { header = h; total = t; last = l }) (record { header = h'; total = t'; last = l' }) = cc in
-    let x : h ≡ h' = ap (λ (y : LayerEntry). y.header) q in
-    let y : t ≡ t' = ap (λ (y : LayerEntry). y.total) q in
-    let z : l ≡ l' = ap (λ (y : LayerEntry). y.last) q in
-    cc
-either_one_to_one (JumpedEither.Layer h t l) (JumpedEither.Refused m r) e = cc
-either_one_to_one (JumpedEither.Refused n r) (JumpedEither.Layer h t l) e = cc
-either_one_to_one (JumpedEither.Refused n r) (JumpedEither.Refused m s) e = cc
+either_one_to_one (Ok d) (Ok e) h = ap Ok (ap (λ (a : Answer LayerEntry). (let v = value_of (record { header = d.header; total = d.total; last = d.last }) a in record { header = v.header; total = v.total; last = v.last })) h)
+either_one_to_one (Ok d) (Err r) e = cc
+either_one_to_one (Err r) (Ok d) e = cc
+either_one_to_one (Err r) (Err s) e = ap Err (refusal_one_to_one r s e)

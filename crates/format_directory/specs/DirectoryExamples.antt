@@ -11,8 +11,10 @@ use Rattle.format.specs.Sheet.{wholes_of, fractions_of, part_length, sheet_fault
 use Rattle.format.specs.Judge.{Counts, accepted, judge, judge_records, judge_sheet}
 use Rattle.format_directory.specs.declared.Edition.{Edition}
 use Rattle.format_directory.specs.declared.Edition.TheVariants.{One, Two}
-use Rattle.format_directory.specs.declared.Jumped.{Jumped}
-use Rattle.format_directory.specs.declared.JumpedEither.{JumpedEither}
+use Rattle.std.specs.Prelude.{Result, Ok, Err}
+use Rattle.format.specs.declared.Reason.{Reason}
+use Rattle.format.specs.declared.Refusal.{Refusal}
+use Rattle.format_directory.specs.declared.LayerEntry as Declared
 use Rattle.format_directory.specs.Answers.{jumped_answer, jumped_either_answer}
 use Rattle.format_directory.specs.Directory.{layers_of, total_of, last_of, row, closing, directory_of, last_record, number_in, is_written, closing_ok, judge_from, judge_edition, judge_directory, append_directory, sheet_in, directory_in, jump, is_second, edition_ok, judge_either_edition, LayerEntry, jump_either_edition}
 use Rattle.format.specs.Examples.{example, wrong}
@@ -172,12 +174,12 @@ lent n = replicate n 126
 
 -- ---- One table, one claim
 pub data Example : Type 0 where
-  answers : Jumped → Answer ℕ → Example
+  answers : Result ℕ Refusal → Answer ℕ → Example
   judges : (used : ℕ) → (buffer : List ℕ) → Answer Counts → Example
   plainly : (used : ℕ) → (buffer : List ℕ) → Answer Counts → Example
   appends : (e : Edition) → (used : ℕ) → (buffer : List ℕ) → Answer ℕ → (after : List ℕ) → Example
   jumps : (used : ℕ) → (buffer : List ℕ) → (n : ℕ) → Answer ℕ → Example
-  answers_either : JumpedEither → Answer LayerEntry → Example
+  answers_either : Result Declared.LayerEntry Refusal → Answer LayerEntry → Example
   judges_either : (used : ℕ) → (buffer : List ℕ) → Answer Counts → Example
   jumps_either : (used : ℕ) → (buffer : List ℕ) → (n : ℕ) → Answer LayerEntry → Example
 
@@ -243,8 +245,8 @@ table =
     jumps 504 (none ++ bytes ze_6) 1 (refused 17 0) ∷
     jumps 840 (behind z_6 ze_10) 1 (refused 19 10) ∷
     -- what the code's answer says
-    answers (Jumped.Header 16) (given 16) ∷
-    answers (Jumped.Refused 19 10) (refused 19 10) ∷
+    answers (Ok 16) (given 16) ∷
+    answers (Err (record { reason = Reason.Directory; at = 10 })) (refused 19 10) ∷
     -- order 13: of 0, 3 and 4 layers; three layers fill a record; a short buffer
     appends Two 756 (example ++ lent 170) (given 924) (behind y_6 ye_10 ++ lent 2) ∷
     appends Two 420 (none ++ lent 84) (given 504) (none ++ bytes ye_6) ∷
@@ -309,8 +311,8 @@ table =
     judges_either 924 (wrong ++ rows (y_6 ∷ ye_10 ∷ [])) (refused 10 6) ∷
     judges 924 (behind "Z       7                                                                           " "ZE     10     -1                                                                    ") (refused 19 10) ∷
     -- what the code's answer says
-    answers_either (JumpedEither.Layer 6 1 9) (layer 6 1 9) ∷
-    answers_either (JumpedEither.Refused 27 11) (refused 27 11) ∷ []
+    answers_either (Ok (record { header = 6; total = 1; last = 9 })) (layer 6 1 9) ∷
+    answers_either (Err (record { reason = Reason.Edition; at = 11 })) (refused 27 11) ∷ []
 
 abbrev pub Says : Example → Type 0
 Says (answers jumped answer) = jumped_answer jumped ≡ answer

@@ -1,11 +1,13 @@
 -- What a program may show: the words of each refusal, and a column of a layout by two numbers. Assumes nothing.
-use Rattle.std.specs.Prelude.{cond, List, [], ◌∷◌, ℕ, zero, suc, eqb}
+use Rattle.std.specs.Prelude.{cond, List, [], ◌∷◌, ℕ, zero, suc, eqb, Result, Ok, Err}
 use Prim.Native.String.{String}
 use Rattle.format.specs.Basics.{Answer, given, refused, Outcome}
 use Rattle.format.specs.Text.{bytes}
 use Rattle.format.specs.Program.{line_to}
 use Rattle.format.specs.Layout.{Rule, any_sign, at_least, range, within, one_of, What, text, blank, integral, integral_or_spaces, Col, layouts}
 use Rattle.layouts.specs.Tables.{low_in, high_in}
+use Rattle.format.specs.Answers.{refused_by}
+use Rattle.format.specs.declared.Refusal.{Refusal}
 use Rattle.format_words.specs.declared.Described.{Described}
 
 -- entry n of a list, numbered from 1; a number that has none is not allowed, 16 at record 0
@@ -89,6 +91,11 @@ letter_of integral_or_spaces = 83
 
 -- start, width, letter, and the least and the greatest number that it may hold: of an integer what `Least` and `Greatest` of crate layouts say, 0 of
 -- text and blanks
-unfoldable pub described_of : Answer Col → Described
-described_of (given c) = Described.Column c.start c.width (letter_of c.what) (low_in c) (high_in c)
-described_of (refused n r) = Described.Refused n r
+unfoldable pub described_of : Answer Col → Answer Described
+described_of (given c) = given (record { start = c.start; width = c.width; letter = letter_of c.what; least = low_in c; greatest = high_in c })
+described_of (refused n r) = refused n r
+
+-- the answer of the code: its values, or the paper's number of the refusal
+unfoldable pub described_answer : Result Described Refusal → Answer Described
+described_answer (Ok d) = given d
+described_answer (Err r) = refused_by r

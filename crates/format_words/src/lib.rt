@@ -2,8 +2,11 @@
 #![tactic(auto)]
 
 // A column of a layout: start and width, in bytes, the letter for what may stand in it, and the least and the greatest number that it may hold.
-#[derive(Clone, Copy)]
-pub enum Described {
-    Column(usize, usize, u8, i64, i64),
-    Refused(u8, usize),
+#[derive(Clone, Copy, PartialEq, Eq, Debug)]
+pub struct Described {
+    pub start: usize,
+    pub width: usize,
+    pub letter: u8,
+    pub least: i64,
+    pub greatest: i64,
 }

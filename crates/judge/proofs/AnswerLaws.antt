@@ -1,4 +1,6 @@
 -- What opening answers of a body, from what its walk ensures. Assumes nothing.
+use Rattle.std.specs.Prelude.{Option, Some, None, Ok, Err}
+use Rattle.std.specs.Option.{option_or}
 use mathlib.Core.Path.{◌≡◌, refl, sym, ap, ◌∙◌}
 use mathlib.Core.Bool.{Bool, true, false, cond, ◌&&◌}
 use mathlib.Core.List.{List, [], ◌∷◌}
@@ -7,21 +9,24 @@ use native.Mathlib.Omega.{arith}
 use native.Mathlib.Nat.{zero-add, add-zero}
 use native.Mathlib.Numerals.{add-one}
 use lib.Dec.{eqb}
-use lib.ListN.{length, take, get_or, get_or-replicate}
+use lib.ListN.{take, get_or, get_or-replicate}
 use lib.Seq.{ext_get_or}
-use Rattle.format.specs.Basics.{Fault, none, or_else, to_fault, first, unless}
+use Rattle.format.specs.Basics.{Fault, none, or_else, to_fault, unless}
+use Rattle.format.specs.Reasons.{refusal_for}
+use Rattle.format.specs.declared.Reason.TheVariants.{Count}
+use Rattle.format.specs.declared.Refusal.{Refusal}
 use Rattle.format.specs.Record.{View}
-use Rattle.format.specs.Judge.{File, items, accepted, count_fault, body_fault, verdict, judge, due_after, is_header_at}
+use Rattle.format.specs.Judge.{File, items, accepted, count_fault, body_fault, judge, due_after, is_header_at}
 use Rattle.format.specs.Edit.{last_header}
 use Rattle.format.specs.Above.{last_start}
 use Rattle.format_directory.specs.declared.Edition.{Edition}
-use Rattle.part_and_index.specs.declared.SheetPart.{SheetPart}
+use Rattle.part_and_index.specs.Result.{SheetPart}
 use Rattle.judge.specs.declared.body_records.Extent.{Extent}
-use Rattle.judge.specs.declared.Sheet.{Sheet}
-use Rattle.judge.specs.declared.opening.Against.{Against}
-use Rattle.judge.specs.declared.walk.WalkedLayers.{WalkedLayers}
-use Rattle.judge.specs.Walks.{ExtentOf, views_from, fault_from, entries, wrong_at, up_to, body_of, wrong_sheet_of, Stands, standing_sheet, WholeBody, body_sheet, Listing, BodyAgainst}
-use Rattle.judge.specs.Sheet.{values, start_before, header_before, refused_sheet, sheet_for}
+use Rattle.judge.specs.declared.Sheet as Declared
+use Rattle.judge.specs.declared.walk.WalkedLayers as Walk
+use Rattle.judge.specs.Walks.{ExtentOf, views_from, fault_from, entries, wrong_at, up_to, body_of, wrong_sheet_of, Stands, standing_sheet, WalkedLayers, WholeBody, WholeListed, body_sheet, BodyAgainst, layers_said, against_said}
+use Rattle.judge.specs.Sheet.{values, start_before, header_before, sheet_said}
+use Rattle.format.proofs.Reasons.{not_zero}
 use Rattle.judge.proofs.Steps.{views_end}
 use Rattle.judge.proofs.Joined.{wrong_first}
 use Rattle.judge.proofs.PlaceLaws.{length_views}
@@ -54,13 +59,25 @@ get_or-values (suc count) from f zero h = ap f (let e : from ≡ from + 0 = omeg
 get_or-values (suc count) from f (suc i) h = get_or-values count (suc from) f i (omega arith) ∙ ap f (let e : suc from + i ≡ from + suc i = omega arith in e)
 
 -- ---- stage three: the first of two wrong counts
-wrong-sheet : (agree : Bool) → to_fault (unless agree 10) 2 ≡ wrong_at (cond agree 0 2)
+wrong-sheet : (agree : Bool) → to_fault (unless agree 10) 2 ≡ wrong_at (cond agree None (Some 2))
 wrong-sheet true = refl
 wrong-sheet false = refl
 
-or-none : (low : ℕ) → or_else (wrong_at low) none ≡ wrong_at low
-or-none zero = refl
-or-none (suc low) = refl
+or-none : (low : Option ℕ) → or_else (wrong_at low) none ≡ wrong_at low
+or-none None = refl
+or-none (Some low) = refl
+
+-- ---- a body against a directory, by what its walk and stage three answer
+module _ (file : List ℕ) (x : Extent) (part : SheetPart) (directory : List (List ℕ)) (e : Edition) where
+  pub refused-body : (r : Refusal) → sheet_said (Err r) ≡ body_sheet file x part → BodyAgainst file x part directory e (against_said (Err r))
+  refused-body r q = record { sheet_is = q; listing = λ z. absurd (not_zero r.reason z) }
+
+  pub against_fault : (r : Refusal) → WholeListed file x part.length directory e (layers_said (Err r)) → BodyAgainst file x part directory e (against_said (Err r))
+  unfolding judge
+  against_fault r b = refused-body r (rw (b.whole.fails (not_zero r.reason)))
+
+  pub against_body : (w : Walk.WalkedLayers) → WholeListed file x part.length directory e (layers_said (Ok w)) → (s : Declared.Sheet) → sheet_said (Ok s) ≡ body_sheet file x part → BodyAgainst file x part directory e (against_said (Ok (record { sheet = s; layers = w.layers; unlisted = w.unlisted; first_numbers = w.first_numbers })))
+  against_body w b s q = record { sheet_is = q; listing = λ z. b.listing refl }
 
 module _ (file : List ℕ) (x : Extent) (extent_of : ExtentOf file x) (part : SheetPart) (w : WalkedLayers) (b : WholeBody file x part.length w) where
   abbrev f : File
@@ -68,17 +85,6 @@ module _ (file : List ℕ) (x : Extent) (extent_of : ExtentOf file x) (part : Sh
 
   abbrev body : List View
   body = views_from file x part.length
-
-  pub answers-fault : (r : Sheet) → (w.number ≡ 0 → ⊥) → r ≡ refused_sheet w.number w.at → r ≡ body_sheet file x part
-  unfolding judge
-  answers-fault r ne e = e ∙ rw (b.fails ne)
-
-  module _ (directory : List (List ℕ)) (e : Edition) where
-    pub against_fault : (r : Against) → (w.number ≡ 0 → ⊥) → r.sheet ≡ refused_sheet w.number w.at → BodyAgainst file x part directory e r
-    against_fault r ne q = record { sheet_is = answers-fault r.sheet ne q; listing = λ z. absurd (ne (sym (ap (λ (s : Sheet). s.fault) q) ∙ z)) }
-
-    pub against_body : (s : Sheet) → s ≡ body_sheet file x part → Listing file x part.length directory e w.layers w.unlisted w.first_numbers → BodyAgainst file x part directory e (record { sheet = s; layers = w.layers; unlisted = w.unlisted; first_numbers = w.first_numbers })
-    against_body s q l = record { sheet_is = q; listing = λ z. l }
 
   module _ (z : w.number ≡ 0) where
     over : views_from file x x.records ≡ []
@@ -120,22 +126,18 @@ module _ (file : List ℕ) (x : Extent) (extent_of : ExtentOf file x) (part : Sh
     headers_found : w.seen.headers ≡ values 9 0 (header_before f x.before)
     headers_found = sym (ext_get_or 0 (values 9 0 (header_before f x.before)) w.seen.headers (sym (b.seen_then z).nine) (λ level h. get_or-values 9 0 (header_before f x.before) level h ∙ ap (header_before f x.before) (zero-add level) ∙ sym (header-found level (omega arith))))
 
-    module _ (sheet low : ℕ) (of : sheet ≡ wrong_sheet_of part w.seen.items (x.records - part.length)) (first_is : low ≡ first sheet w.low) where
+    module _ (sheet low : Option ℕ) (of : sheet ≡ wrong_sheet_of part w.seen.items (x.records - part.length)) (first_is : low ≡ option_or sheet w.low) where
       body-fault : body_fault f ≡ wrong_at low
       unfolding wrong_sheet_of
       body-fault =
           rw (no_fault, items_are, length_views file x extent_of part.length, wrong_is)
-          (ap (λ (f : Fault). or_else f (wrong_at w.low)) (wrong-sheet (eqb part.stated_elements w.seen.items && eqb part.stated_records (x.records - part.length)) ∙ ap wrong_at (sym of)) ∙ ap (or_else (wrong_at sheet)) (sym (or-none w.low)) ∙ wrong_first sheet w.low none ∙ or-none (first sheet w.low) ∙ ap wrong_at (sym first_is))
+          (ap (λ (f : Fault). or_else f (wrong_at w.low)) (wrong-sheet (eqb part.stated_elements w.seen.items && eqb part.stated_records (x.records - part.length)) ∙ ap wrong_at (sym of)) ∙ ap (or_else (wrong_at sheet)) (sym (or-none w.low)) ∙ wrong_first sheet w.low none ∙ or-none (option_or sheet w.low) ∙ ap wrong_at (sym first_is))
 
-      pub answers-count : (r : Sheet) → (low ≡ 0 → ⊥) → r ≡ refused_sheet 10 low → r ≡ body_sheet file x part
+      pub answers-count : (r : Refusal) (n : ℕ) → low ≡ Some n → r ≡ refusal_for Count n → sheet_said (Err r) ≡ body_sheet file x part
       unfolding judge
-      answers-count r ne e = e ∙ rw body-fault (there low ne)
-        where
-          there : (n : ℕ) → (n ≡ 0 → ⊥) → refused_sheet 10 n ≡ sheet_for (verdict (wrong_at n) (part.length + length body) (items (entries body))) part.unit part.corners f x.before
-          there zero l = absurd (l refl)
-          there (suc n) l = refl
+      answers-count r n is e = rw (e, body-fault, is)
 
-      module _ (inside : part.length ≤ x.records) (right : low ≡ 0) where
+      module _ (inside : part.length ≤ x.records) (right : low ≡ None) where
         judged : judge f ≡ accepted x.records w.seen.items
         unfolding judge
         judged =
@@ -145,5 +147,5 @@ module _ (file : List ℕ) (x : Extent) (extent_of : ExtentOf file x) (part : Sh
         pub stands : Stands file x part w.seen
         stands = record { judged = judged; start_is = start-found; headers_are = headers_found }
 
-        pub answers-sheet : (r : Sheet) → r ≡ standing_sheet file x part w.seen → r ≡ body_sheet file x part
-        answers-sheet r e = e ∙ rw judged
+        pub answers-sheet : (s : Declared.Sheet) → sheet_said (Ok s) ≡ standing_sheet file x part w.seen → sheet_said (Ok s) ≡ body_sheet file x part
+        answers-sheet s e = e ∙ rw judged

@@ -1,4 +1,6 @@
 -- The loop of `walk_body`: its invariant, and what it ensures at each way out. Assumes nothing.
+use Rattle.std.specs.Prelude.{Option, Some, None, Ok, Err}
+use Rattle.std.specs.Option.{option_or}
 use mathlib.Core.Path.{◌≡◌, refl, sym, ap, ◌∙◌}
 use mathlib.Core.Bool.{Bool, true, false, cond}
 use mathlib.Core.List.{List}
@@ -12,26 +14,26 @@ use borrow.Author.Tests.{eqb-true, eqb-false}
 use lib.Dec.{eqb}
 use lib.ListN.{length, get_or, set, replicate, length-set}
 use lib.Seq.{get_or-set_same, get_or-set_other}
-use Rattle.format.specs.Basics.{none, fault, first}
+use Rattle.format.specs.Basics.{none, fault}
+use Rattle.format.specs.Reasons.{refusal_number}
+use Rattle.format.specs.declared.Refusal.{Refusal}
 use Rattle.format.specs.Record.{view}
 use Rattle.format.specs.Judge.{count_under}
-use Rattle.format.proofs.Basics.{first_alone}
-use Rattle.records.specs.Entry.{to_data, entry_of}
-use Rattle.records.specs.declared.items.Entry.{Entry}
+use Rattle.records.specs.declared.items.Entry as Items
+use Rattle.records.specs.Entry.{to_data, entry_said}
 use Rattle.judge.specs.declared.body_records.Extent.{Extent}
 use Rattle.judge.specs.declared.walk.Seen.{Seen}
-use Rattle.judge.specs.declared.walk.Walked.{Walked}
-use Rattle.judge.specs.declared.walk.WalkedGroup.{WalkedGroup}
-use Rattle.judge.specs.declared.walk.WalkedBody.{WalkedBody}
-use Rattle.judge.specs.Walks.{record_at, views_from, fault_from, entries, ExtentOf, entry_fault, last_before, with_item, JoinsTo, SeesTo, SeenUpTo, Item, Child, Body, passed_body_of, item_as_group}
+use Rattle.judge.specs.declared.walk.WalkedGroup as Walk
+use Rattle.judge.specs.Walks.{record_at, views_from, fault_from, entries, ExtentOf, EntryDue, last_before, with_item, JoinsTo, SeesTo, SeenUpTo, Walked, WalkedGroup, Item, Child, Body, passed_body_of, group_said, body_said, walked_said, item_as_group}
 use Rattle.judge.proofs.Steps.{views_more, views_end, fault-here}
-use Rattle.judge.proofs.EntryLaws.{Sound, sound, fault_is}
+use Rattle.format.proofs.Reasons.{not_zero}
+use Rattle.judge.proofs.EntryLaws.{Sound, due-sound, due-wrong}
 use Rattle.judge.proofs.Ends.{ends_same, ends_uncounted}
 use Rattle.judge.proofs.ChildLaws.{item_child}
 use Rattle.judge.proofs.Joined.{joins-none, joins-more, sees_none, sees_more}
 
 -- the walk of a body that began at record k has come to record `at`
-pub record Going (file : List ℕ) (x : Extent) (k opened : ℕ) (s : Seen) (at : ℕ) (tally : List ℕ) (low : ℕ) (s' : Seen) : Type 0 where
+pub record Going (file : List ℕ) (x : Extent) (k opened : ℕ) (s : Seen) (at : ℕ) (tally : List ℕ) (low : Option ℕ) (s' : Seen) : Type 0 where
   pub extent_of : ExtentOf file x
   pub start : k ≤ at
   pub within : at ≤ x.records
@@ -47,7 +49,7 @@ zeros zero j = refl
 zeros (suc m) zero = refl
 zeros (suc m) (suc j) = zeros m j
 
-pub going : (file : List ℕ) (x : Extent) (k opened : ℕ) (s : Seen) → ExtentOf file x → k ≤ x.records → SeenUpTo k s → Going file x k opened s k (replicate 10 0) 0 s
+pub going : (file : List ℕ) (x : Extent) (k opened : ℕ) (s : Seen) → ExtentOf file x → k ≤ x.records → SeenUpTo k s → Going file x k opened s k (replicate 10 0) None s
 going file x k opened s extent_of h u = record {
   extent_of = extent_of;
   start = omega arith;
@@ -72,24 +74,24 @@ one_more tally kind j h = go (eqb kind j) refl
     go true e = rw (e, ← eqb-true kind j e, get_or-set_same tally kind (get_or tally kind 0 + 1) 0 h) (omega arith)
     go false e = rw (e, get_or-set_other tally kind j (get_or tally kind 0 + 1) 0 (λ q. eqb-false kind j e (sym q))) (sym (zero-add _))
 
-module _ (file : List ℕ) (x : Extent) (k opened : ℕ) (s : Seen) (at : ℕ) (tally : List ℕ) (low : ℕ) (s' : Seen) (g : Going file x k opened s at tally low s') where
+module _ (file : List ℕ) (x : Extent) (k opened : ℕ) (s : Seen) (at : ℕ) (tally : List ℕ) (low : Option ℕ) (s' : Seen) (g : Going file x k opened s at tally low s') where
   extent_of : ExtentOf file x
   extent_of = g.extent_of
 
-  fails-at : (w : WalkedBody) → (w.number ≡ 0 → ⊥) → fault_from opened (suc at) (views_from file x at) ≡ fault w.number w.at → Body file x k opened s w
-  fails-at w ne e = record {
+  fails-at : (r : Refusal) → fault_from opened (suc at) (views_from file x at) ≡ fault (refusal_number r.reason) r.at → Body file x k opened s (body_said (Err r))
+  fails-at r e = record {
     fails = λ h. g.joins.same ∙ e;
-    passes = λ z. absurd (ne z);
-    sees = λ z. absurd (ne z);
-    seen_then = λ z. absurd (ne z);
-    onward = λ z. absurd (ne z);
-    within = λ z. absurd (ne z);
-    counts = λ z. absurd (ne z);
+    passes = λ z. absurd (not_zero r.reason z);
+    sees = λ z. absurd (not_zero r.reason z);
+    seen_then = λ z. absurd (not_zero r.reason z);
+    onward = λ z. absurd (not_zero r.reason z);
+    within = λ z. absurd (not_zero r.reason z);
+    counts = λ z. absurd (not_zero r.reason z);
   }
 
-  -- the record at hand has a fault, number and entry as the code has them
-  pub body-fault : (w : WalkedBody) (e : Entry) (number : ℕ) → at < x.records → e ≡ entry_of (record_at file x at) → number ≡ entry_fault e opened → (number ≡ 0 → ⊥) → w.number ≡ number → w.at ≡ at + 1 → Body file x k opened s w
-  body-fault w e number h is of ne p q = fails-at w (λ z. ne (sym p ∙ z)) (ap (fault_from opened (suc at)) (views_more file x extent_of at h) ∙ fault-here opened (suc at) (view (record_at file x at)) (views_from file x (at + 1)) number (fault_is file x at opened e number extent_of h is of) ne ∙ rw (p, q, add-one at))
+  -- the record at hand has a fault
+  pub body-fault : (r : Refusal) → at < x.records → EntryDue file x at opened (Err r) → Body file x k opened s (body_said (Err r))
+  body-fault r h due = fails-at r (ap (fault_from opened (suc at)) (views_more file x extent_of at h) ∙ fault-here opened (suc at) (view (record_at file x at)) (views_from file x (at + 1)) (refusal_number r.reason) (due-wrong file x at opened extent_of h r due) (not_zero r.reason) ∙ rw (due.1, add-one at))
 
   stopped : fault_from opened (suc at) (views_from file x at) ≡ fault_from (opened - 1) (suc at) (views_from file x at) → (fault_from (opened - 1) (suc at) (views_from file x at) ≡ none → (kind : ℕ) → count_under opened kind (entries (views_from file x at)) ≡ 0) → Body file x k opened s (passed_body_of at low tally s')
   stopped same silent = record {
@@ -102,8 +104,8 @@ module _ (file : List ℕ) (x : Extent) (k opened : ℕ) (s : Seen) (at : ℕ) (
     counts = λ z e kind. omega (arith, g.counts kind, silent e kind);
   }
 
-  pub body_ends : (w : WalkedBody) → x.records ≤ at → w ≡ passed_body_of at low tally s' → Body file x k opened s w
-  body_ends w h e = rw e (stopped (rw (views_end file x extent_of at h)) (λ q kind. rw (views_end file x extent_of at h)))
+  pub body_ends : x.records ≤ at → Body file x k opened s (passed_body_of at low tally s')
+  body_ends h = stopped (rw (views_end file x extent_of at h)) (λ q kind. rw (views_end file x extent_of at h))
 
   -- there is room for one more of a kind in the tally, and for one more item
   module _ (here : at < x.records) (wide : length file < 2 ^ 64) where
@@ -115,31 +117,37 @@ module _ (file : List ℕ) (x : Extent) (k opened : ℕ) (s : Seen) (at : ℕ) (
 
   -- the header or item at hand, with all that belongs to it
   module _ (c : WalkedGroup) (child : Child file x at opened s' c) where
-    pub group_stops : (w : WalkedBody) → (c.number ≡ 0 → ⊥) → w.number ≡ c.number → w.at ≡ c.at → Body file x k opened s w
-    group_stops w ne p q = fails-at w (λ z. ne (sym p ∙ z)) (child.fails ne ∙ rw (p, q))
+    child_stops : (r : Refusal) → c.number ≡ refusal_number r.reason → c.at ≡ r.at → Body file x k opened s (body_said (Err r))
+    child_stops r p q = fails-at r (child.fails (λ z. not_zero r.reason (sym p ∙ z)) ∙ rw (p, q))
 
-    pub group_further : c.number ≡ 0 → x.records - c.next < x.records - at
-    group_further z = omega (arith, child.further z, child.within z)
+    child_further : c.number ≡ 0 → x.records - c.next < x.records - at
+    child_further z = omega (arith, child.further z, child.within z)
 
-  -- ---- the record at hand passes: its entry and fault are what the code has
-  module _ (e : Entry) (number : ℕ) (here : at < x.records) (is : e ≡ entry_of (record_at file x at)) (of : number ≡ entry_fault e opened) (fine : number ≡ 0) where
-    d : Sound file x at opened e
-    d = sound file x at opened e number extent_of here is of fine
+  pub group_stops : (r : Refusal) → Child file x at opened s' (group_said (Err r)) → Body file x k opened s (body_said (Err r))
+  group_stops r child = child_stops (group_said (Err r)) child r refl refl
 
-    pub body_stops : (w : WalkedBody) → e.level ≤ opened → w ≡ passed_body_of at low tally s' → Body file x k opened s w
-    body_stops w le same =
+  pub group_further : (c : Walk.WalkedGroup) → Child file x at opened s' (group_said (Ok c)) → x.records - c.next < x.records - at
+  group_further c child = child_further (group_said (Ok c)) child refl
+
+  -- ---- the record at hand passes
+  module _ (e : Items.Entry) (here : at < x.records) (due : EntryDue file x at opened (Ok e)) where
+    d : Sound file x at opened (entry_said (Ok e))
+    d = due-sound file x at opened extent_of here e due
+
+    pub body_stops : e.level ≤ opened → Body file x k opened s (passed_body_of at low tally s')
+    body_stops le =
         let rest = views_from file x (at + 1) in
         let r = view (record_at file x at) in
         let shallow : r.level ≤ opened = omega (arith, d.level_is) in
-        rw same (stopped (rw (views_more file x extent_of at here) (ends_same opened (suc at) r rest d.well shallow))
-        (λ q kind. rw (views_more file x extent_of at here) (ends_uncounted opened (suc at) r rest d.well shallow (rw (views_more file x extent_of at here) at q) kind)))
+        stopped (rw (views_more file x extent_of at here) (ends_same opened (suc at) r rest d.well shallow))
+        (λ q kind. rw (views_more file x extent_of at here) (ends_uncounted opened (suc at) r rest d.well shallow (rw (views_more file x extent_of at here) at q) kind))
 
     -- one more of its kind
-    pub group_goes : (c : WalkedGroup) → Child file x at opened s' c → c.number ≡ 0 → (low' : ℕ) → low' ≡ first low c.low → Going file x k opened s c.next (set tally e.kind (get_or tally e.kind 0 + 1)) low' c.seen
-    group_goes c child z low' first_is =
+    child_goes : (c : WalkedGroup) → Child file x at opened s' c → c.number ≡ 0 → Going file x k opened s c.next (set tally e.kind (get_or tally e.kind 0 + 1)) (option_or low c.low) c.seen
+    child_goes c child z =
         let f = child.further z in
         let in-it : e.kind < length tally = omega (arith, g.ten, d.kind-small) in
-        rw first_is (record {
+        record {
           extent_of = extent_of;
           start = omega (arith, g.start);
           within = child.within z;
@@ -149,19 +157,26 @@ module _ (file : List ℕ) (x : Extent) (k opened : ℕ) (s : Seen) (at : ℕ) (
           sees = sees_more x.before (suc k) _ s (suc at) _ s' _ _ _ g.sees (child.sees z);
           seen_then = child.seen_then z;
           counts = λ j. omega (arith, g.counts j, one_more tally e.kind j in-it, rw (← d.kind_is) at (child.counts z j));
-        })
+        }
+
+    pub group_goes : (c : Walk.WalkedGroup) → Child file x at opened s' (group_said (Ok c)) → (low' : Option ℕ) → low' ≡ option_or low c.low → Going file x k opened s c.next (set tally e.kind (get_or tally e.kind 0 + 1)) low' c.seen
+    group_goes c child low' first_is = rw first_is (child_goes (group_said (Ok c)) child refl)
 
     -- an item one level below the open one
-    module _ (deep : opened < e.level) (i : Walked) (item : Item file x at e.data_records (to_data e.held) i) (no : e.kind ≡ 0 → ⊥) where
-      own : Child file x at opened s' (item_as_group i (with_item s' at x.before))
-      own = item_child file x extent_of at here opened e d deep no s' g.seen_then i item
+    module _ (deep : opened < e.level) (no : e.kind ≡ 0 → ⊥) where
+      own : (i : Walked) → Item file x at e.data_records (to_data e.held) i → Child file x at opened s' (item_as_group i (with_item s' at x.before))
+      own i item = item_child file x extent_of at here opened (entry_said (Ok e)) d deep no s' g.seen_then i item
 
-      pub item_stops : (w : WalkedBody) → (i.number ≡ 0 → ⊥) → w.number ≡ i.number → w.at ≡ i.at → Body file x k opened s w
-      item_stops w ne p q = group_stops _ own w ne p q
+      pub item_stops : (r : Refusal) → Item file x at e.data_records (to_data e.held) (walked_said (Err r)) → Body file x k opened s (body_said (Err r))
+      item_stops r item = child_stops _ (own (walked_said (Err r)) item) r refl refl
 
-      module _ (z : i.number ≡ 0) where
-        pub item_further : x.records - i.next < x.records - at
-        item_further = group_further _ own z
+      module _ (behind : ℕ) (item : Item file x at e.data_records (to_data e.held) (walked_said (Ok behind))) where
+        pub item_further : x.records - behind < x.records - at
+        item_further = child_further _ (own (walked_said (Ok behind)) item) refl
 
-        pub item_goes : (start : ℕ) → start ≡ last_before at x.before s'.start → Going file x k opened s i.next (set tally e.kind (get_or tally e.kind 0 + 1)) low (record { items = s'.items + 1; start = start; headers = s'.headers })
-        item_goes start of-start = rw of-start (group_goes _ own z low (sym (first_alone low)))
+        pub item_goes : (start : ℕ) → start ≡ last_before at x.before s'.start → Going file x k opened s behind (set tally e.kind (get_or tally e.kind 0 + 1)) low (record { items = s'.items + 1; start = start; headers = s'.headers })
+        item_goes start of-start = rw (of-start, ← no_more low) (child_goes _ (own (walked_said (Ok behind)) item) refl)
+          where
+            no_more : (low : Option ℕ) → option_or low None ≡ low
+            no_more None = refl
+            no_more (Some n) = refl

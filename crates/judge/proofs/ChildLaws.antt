@@ -1,5 +1,7 @@
 -- A header or an item, one level below the open one, with all that belongs to it. Assumes nothing.
+use Rattle.std.specs.Prelude.{Option, Some, Ok, Err}
 use mathlib.Core.Path.{◌≡◌, refl, sym, ap, subst, ◌∙◌}
+use mathlib.Core.Logic.{◌⊎◌, inl, inr}
 use mathlib.Core.Bool.{Bool, true, false}
 use mathlib.Core.List.{List, ◌∷◌}
 use Prim.Native.Nat.{ℕ, suc, pred, ◌+◌, ◌-◌, ◌≤◌, ◌<◌}
@@ -7,17 +9,18 @@ use native.Mathlib.Omega.{arith}
 use native.Mathlib.Numerals.{add-one}
 use lib.ListN.{get_or, length-set}
 use Rattle.format.specs.Basics.{none}
+use Rattle.format.specs.Reasons.{refusal_number}
+use Rattle.format.specs.declared.Refusal.{Refusal}
 use Rattle.format.specs.Record.{Kind, head, item, neither, is_head, count_index, nothing, View, view}
 use Rattle.format.specs.Judge.{lowest_level, count_under, counts_agree}
 use Rattle.judge.specs.declared.body_records.Extent.{Extent}
 use Rattle.judge.specs.declared.walk.Seen.{Seen}
-use Rattle.judge.specs.declared.walk.Walked.{Walked}
-use Rattle.judge.specs.declared.walk.WalkedGroup.{WalkedGroup}
-use Rattle.judge.specs.declared.walk.WalkedBody.{WalkedBody}
-use Rattle.judge.specs.Walks.{ExtentOf, record_at, views_from, fault_from, entries, with_item, with_header, SeenUpTo, Joins, Sees, Item, HeaderAt, Child, Body, passed_group_of, item_as_group}
+use Rattle.judge.specs.declared.walk.WalkedBody as Walk
+use Rattle.judge.specs.Walks.{ExtentOf, record_at, views_from, fault_from, entries, with_item, with_header, SeenUpTo, Joins, Sees, Walked, WalkedBody, Item, HeaderAt, Child, Body, passed_group_of, group_said, body_said, item_as_group}
+use Rattle.format.proofs.Reasons.{not_zero}
 use Rattle.format.proofs.JudgeWalks.{good}
 use Rattle.records.specs.Entry.{to_data, states_counts}
-use Rattle.records.specs.declared.items.Entry.{Entry}
+use Rattle.records.specs.Entry.{Entry}
 use Rattle.records.proofs.Laws.{counts_agree_at}
 use Rattle.judge.proofs.Steps.{views_more, wide_at}
 use Rattle.judge.proofs.EntryLaws.{Sound}
@@ -84,20 +87,6 @@ module _ (file : List ℕ) (x : Extent) (extent_of : ExtentOf file x) (k : ℕ) 
     header-step : fault_from opened (suc k) (views_from file x k) ≡ fault_from (opened + 1) (suc (k + 1)) rest
     header-step = ap (fault_from opened (suc k)) more ∙ step-header opened (suc k) one rest s.well s.deep header_is ∙ rw (add-one k, add-one opened)
 
-    pub group_fails : (r : WalkedGroup) → (w.number ≡ 0 → ⊥) → r.number ≡ w.number → r.at ≡ w.at → Child file x k opened seen r
-    group_fails r ne p q =
-        let nz : r.number ≡ 0 → ⊥ = λ z. ne (sym p ∙ z) in
-        record {
-          fails = λ h. header-step ∙ b.fails ne ∙ rw (p, q);
-          passes = λ z. absurd (nz z);
-          sees = λ z. absurd (nz z);
-          seen_then = λ z. absurd (nz z);
-          further = λ z. absurd (nz z);
-          within = λ z. absurd (nz z);
-          counts = λ z. absurd (nz z);
-          layers = λ z. absurd (nz z);
-        }
-
     module _ (z : w.number ≡ 0) where
       back : opened + 1 - 1 ≡ opened
       back = omega arith
@@ -111,7 +100,7 @@ module _ (file : List ℕ) (x : Extent) (extent_of : ExtentOf file x) (k : ℕ) 
           ap_number : Sees x.before (suc (k + 1)) rest (with_header seen k x.before (opened + 1)) (suc w.next) (views_from file x w.next) w.seen → Sees x.before (suc (suc k)) rest (with_header seen k x.before (opened + 1)) (suc w.next) (views_from file x w.next) w.seen
           ap_number = subst (λ (n : ℕ). Sees x.before (suc n) rest (with_header seen k x.before (opened + 1)) (suc w.next) (views_from file x w.next) w.seen) (add-one k)
 
-      passes_on : (low : ℕ) → Joins opened (suc k) (one ∷ rest) opened (suc w.next) (views_from file x w.next) low → Child file x k opened seen (passed_group_of w.next low w.seen)
+      passes_on : (low : Option ℕ) → Joins opened (suc k) (one ∷ rest) opened (suc w.next) (views_from file x w.next) low → Child file x k opened seen (passed_group_of w.next low w.seen)
       passes_on low j =
           record {
             fails = λ h. absurd (h refl);
@@ -128,12 +117,33 @@ module _ (file : List ℕ) (x : Extent) (extent_of : ExtentOf file x) (k : ℕ) 
       counted : fault_from opened (suc w.next) (views_from file x w.next) ≡ none → (kind : ℕ) → count_under one.level kind (entries rest) ≡ get_or w.tally kind 0
       counted e kind = rw s.deep (rw (add-one opened) at (b.counts z (rw back e) kind))
 
-      module _ (r : WalkedGroup) (agreed : Bool) (of : agreed ≡ states_counts (record_at file x k) w.tally) where
+      module _ (agreed : Bool) (of : agreed ≡ states_counts (record_at file x k) w.tally) where
         by_header : fault_from opened (suc w.next) (views_from file x w.next) ≡ none → counts_agree one (entries rest) ≡ agreed
         by_header q = sym (of ∙ counts_agree_at (record_at file x k) s.header w.tally (entries rest) (wide_at file x extent_of k here) (λ kind h. sym (counted q kind)))
 
-        pub group_agrees : agreed ≡ true → r ≡ passed_group_of w.next w.low w.seen → Child file x k opened seen r
-        group_agrees t e = rw e (passes_on w.low (joins_agreed opened (suc k) one rest s.well s.deep header_is _ _ _ inner (λ q. by_header q ∙ t)))
+        group_agrees : agreed ≡ true → Child file x k opened seen (passed_group_of w.next w.low w.seen)
+        group_agrees t = passes_on w.low (joins_agreed opened (suc k) one rest s.well s.deep header_is _ _ _ inner (λ q. by_header q ∙ t))
 
-        pub group_differs : agreed ≡ false → r ≡ passed_group_of w.next (k + 1) w.seen → Child file x k opened seen r
-        group_differs t e = rw (e, add-one k) (passes_on (suc k) (joins_differing opened (suc k) one rest s.well s.deep header_is _ _ _ inner (omega arith) (λ q. by_header q ∙ t)))
+        group_differs : agreed ≡ false → Child file x k opened seen (passed_group_of w.next (Some (k + 1)) w.seen)
+        group_differs t = rw (add-one k) (passes_on (Some (suc k)) (joins_differing opened (suc k) one rest s.well s.deep header_is _ _ _ inner (λ q. by_header q ∙ t)))
+
+  -- as the code has it
+  module _ (opened : ℕ) (s : HeaderAt file x k opened) (seen : Seen) (upto : SeenUpTo k seen) (seen' : Seen) (of-seen : seen' ≡ with_header seen k x.before (opened + 1)) where
+    pub group_fails : (r : Refusal) → Body file x (k + 1) (opened + 1) seen' (body_said (Err r)) → Child file x k opened seen (group_said (Err r))
+    group_fails r walked =
+        let nz : refusal_number r.reason ≡ 0 → ⊥ = not_zero r.reason in
+        record {
+          fails = λ h. header-step opened s seen upto seen' of-seen (body_said (Err r)) walked ∙ (b opened s seen upto seen' of-seen (body_said (Err r)) walked).fails nz;
+          passes = λ z. absurd (nz z);
+          sees = λ z. absurd (nz z);
+          seen_then = λ z. absurd (nz z);
+          further = λ z. absurd (nz z);
+          within = λ z. absurd (nz z);
+          counts = λ z. absurd (nz z);
+          layers = λ z. absurd (nz z);
+        }
+
+    -- its own number where it states other counts, else the first below it
+    pub group_answers : (w : Walk.WalkedBody) → Body file x (k + 1) (opened + 1) seen' (body_said (Ok w)) → (agreed : Bool) → agreed ≡ states_counts (record_at file x k) w.tally → (low : Option ℕ) → ((agreed ≡ true) × (low ≡ w.low)) ⊎ ((agreed ≡ false) × (low ≡ Some (k + 1))) → Child file x k opened seen (passed_group_of w.next low w.seen)
+    group_answers w walked agreed of low (inl p) = rw p.1 (group_agrees opened s seen upto seen' of-seen (body_said (Ok w)) walked refl agreed of p.0)
+    group_answers w walked agreed of low (inr p) = rw p.1 (group_differs opened s seen upto seen' of-seen (body_said (Ok w)) walked refl agreed of p.0)

@@ -7,11 +7,15 @@ use mir.Syntax.{w64}
 use mir.Val.{Fits}
 use native.Mathlib.Omega.{arith}
 use native.Mathlib.Numerals.{add-one}
-use borrow.Author.Tests.{not-true, not-false, le-leb, lt-leb, ne_eqb}
-use lib.Dec.{leb}
+use borrow.Author.Tests.{not-true, not-false, ne_eqb}
 use lib.ListN.{length}
 use Rattle.format.specs.Basics.{first, unless}
-use Rattle.records.specs.declared.items.Entry.{Entry}
+use Rattle.std.specs.Prelude.{Ok, Err}
+use Rattle.format.specs.Reasons.{refusal_number, refusal_for}
+use Rattle.format.specs.declared.Refusal.{Refusal}
+use Rattle.format.specs.declared.Reason.{Reason}
+use Rattle.records.specs.declared.items.Entry as Items
+use Rattle.records.specs.Entry.{Entry, entry_said, refused_entry}
 use Rattle.format.specs.Record.{nothing, Kind, head, item, neither, is_head, count_index, view}
 use Rattle.format.specs.Judge.{lowest_level, highest_level, level_ok, fault_at}
 use Rattle.format.proofs.Basics.{first_zero, first_some}
@@ -19,38 +23,29 @@ use Rattle.format.proofs.JudgeWalks.{good}
 use Rattle.records.proofs.Laws.{entry-kind, entry-level, entry_data_records, entry_held, entry_rule, fault-at}
 use Rattle.records.specs.Entry.{to_data, entry_of}
 use Rattle.judge.specs.declared.body_records.Extent.{Extent}
+use Rattle.format.proofs.Reasons.{not_zero}
 use Rattle.judge.proofs.Steps.{wide_at}
-use Rattle.judge.specs.Walks.{ExtentOf, record_at, lowest_of, highest_of, level_fits, entry_fault, HeaderAt}
+use Rattle.judge.specs.Walks.{ExtentOf, record_at, lowest_of, highest_of, level_fits, entry_fault, EntryDue, HeaderAt}
 
--- ---- the level
-module _ (kind level opened : ℕ) where
-  pub too_low : (lowest : ℕ) → lowest ≡ lowest_of kind → level < lowest → false ≡ level_fits kind level opened
-  unfolding level_fits
-  too_low lowest e h = rw (← e, lt-leb lowest level h)
-
-  module _ (lowest : ℕ) (of : lowest ≡ lowest_of kind) (low : lowest ≤ level) (highest : ℕ) (of' : highest ≡ highest_of kind) where
-    pub too_high : highest < level → false ≡ level_fits kind level opened
-    unfolding level_fits
-    too_high h = rw (← of, ← of', le-leb lowest level low, lt-leb level highest h)
-
-    pub near_enough : level ≤ highest → leb level (opened + 1) ≡ level_fits kind level opened
-    unfolding level_fits
-    near_enough h = rw (← of, ← of', le-leb lowest level low, le-leb level highest h)
-
--- ---- the first fault
-module _ (e : Entry) (opened : ℕ) where
-  pub fault-own : (e.fault ≡ 0 → ⊥) → e.fault ≡ entry_fault e opened
+-- ---- the first fault of an entry that has none of its own
+module _ (e : Items.Entry) (opened : ℕ) (fits : Bool) (of : fits ≡ level_fits e.kind e.level opened) where
+  pub entry-level_wrong : fits ≡ false → 7 ≡ entry_fault (entry_said (Ok e)) opened
   unfolding entry_fault
-  fault-own ne = first_some e.fault _ ne
+  entry-level_wrong h = rw (← of, h)
 
-  module _ (fine : e.fault ≡ 0) (fits : Bool) (of : fits ≡ level_fits e.kind e.level opened) where
-    pub fault-level : not fits ≡ true → 7 ≡ entry_fault e opened
+  module _ (near : fits ≡ true) where
+    pub entry-rule_broken : not e.rule_kept ≡ true → 8 ≡ entry_fault (entry_said (Ok e)) opened
     unfolding entry_fault
-    fault-level h = rw (fine, ← of, not-true fits h)
+    entry-rule_broken h = rw (← of, near, not-true e.rule_kept h)
 
-    pub fault_rule : not fits ≡ false → e.rule_fault ≡ entry_fault e opened
+    pub entry-passes : not e.rule_kept ≡ false → 0 ≡ entry_fault (entry_said (Ok e)) opened
     unfolding entry_fault
-    fault_rule h = rw (fine, ← of, not-false fits h)
+    entry-passes h = rw (← of, near, not-false e.rule_kept h)
+
+-- ---- `entry_due`: a fault of its own comes first
+pub due-own : (l : List ℕ) (k opened : ℕ) (r : Refusal) (reason : Reason) → r ≡ refusal_for reason (k + 1) → refused_entry (refusal_number reason) ≡ entry_of l → (refusal_number r.reason ≡ entry_fault (entry_of l) opened) × (r.at ≡ k + 1)
+unfolding entry_fault
+due-own l k opened r reason of is = rw (of, ← is) (first_some (refusal_number reason) _ (not_zero reason), refl)
 
 -- ---- what an entry says of a record
 lowest_is : (k : Kind) → lowest_of (count_index k) ≡ lowest_level k
@@ -140,10 +135,18 @@ module _ (file : List ℕ) (x : Extent) (k opened : ℕ) (e : Entry) (fault : �
         held_is = rw is (entry_held one whole fine);
       }
 
-  module _ (z : fault ≡ 0) where
+-- what `entry_due` answers, at a record of the file
+module _ (file : List ℕ) (x : Extent) (k opened : ℕ) (extent_of : ExtentOf file x) (here : k < x.records) where
+  pub due-wrong : (r : Refusal) → EntryDue file x k opened (Err r) → refusal_number r.reason ≡ fault_at opened 0 nothing (view (record_at file x k))
+  due-wrong r due = fault_is file x k opened (entry_of (record_at file x k)) (refusal_number r.reason) extent_of here refl due.0
+
+  module _ (e : Items.Entry) (due : EntryDue file x k opened (Ok e)) where
+    pub due-sound : Sound file x k opened (entry_said (Ok e))
+    due-sound = sound file x k opened (entry_said (Ok e)) (entry_fault (entry_said (Ok e)) opened) extent_of here due.0 refl due.1
+
     -- its kind has a place in a tally
     pub kind-small : e.kind < 10
-    kind-small = omega (arith, (sound z).kind-small)
+    kind-small = omega (arith, due-sound.kind-small)
 
     pub kind_fits : Fits w64 (e.kind * 8)
     kind_fits = omega (arith, kind-small)
@@ -151,10 +154,10 @@ module _ (file : List ℕ) (x : Extent) (k opened : ℕ) (e : Entry) (fault : �
     -- a header one level below the open one: by the measures of the walks fewer levels are left to its group
     module _ (deep : opened < e.level) (no_item : e.kind ≡ 0) where
       pub header-level : opened < 8
-      header-level = omega (arith, (sound z).header-high no_item)
+      header-level = omega (arith, due-sound.header-high no_item)
 
       pub header_falls : (t : ℕ) → 2 * (9 - opened) ≡ t → 2 * (8 - opened) + 1 < t
       header_falls t p = omega (arith, header-level)
 
       pub header_at : HeaderAt file x k opened
-      header_at = record { well = (sound z).well; header = (sound z).header no_item; deep = omega (arith, (sound z).level_is, (sound z).near) }
+      header_at = record { well = due-sound.well; header = due-sound.header no_item; deep = omega (arith, due-sound.level_is, due-sound.near) }

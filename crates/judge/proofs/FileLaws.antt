@@ -1,17 +1,21 @@
 -- A whole file: stage one, the sheet part or the index, and the body behind it. Assumes nothing.
+use Rattle.std.specs.Prelude.{Result, Ok, Err}
+use Rattle.std.specs.Result.{result_and}
 use mathlib.Core.Path.{◌≡◌, refl, sym, ap, ap₂, ◌∙◌}
-use mathlib.Core.Bool.{Bool, true, false, not}
+use mathlib.Core.Bool.{Bool, true, false}
 use mathlib.Core.List.{List, [], ◌++◌, map}
 use Prim.Native.Nat.{ℕ, suc, ◌*◌, ◌/◌, ◌≤◌, ◌<◌}
 use native.Mathlib.Omega.{arith}
-use borrow.Author.Tests.{not-true, not-false}
 use lib.ListN.{length, take, drop}
 use lib.Seq.{length-take-le}
 use Rattle.format.specs.Basics.{Answer, given, refused, chunks, flat, stage_one_ok}
 use Rattle.format.specs.Record.{view}
 use Rattle.format.specs.Judge.{Counts, File, file_of, accepted, judge, judge_records, judge_index_records, judge_sheet, judge_index, after_stage_one}
 use Rattle.format.specs.Answers.{judged_answer}
-use Rattle.format.specs.declared.Judged.TheVariants.{Accepted, Refused}
+use Rattle.format.specs.Reasons.{refusal_number, refusal_for}
+use Rattle.format.specs.declared.Reason.TheVariants.{Length}
+use Rattle.format.specs.declared.Counts as Judged
+use Rattle.format.specs.declared.Refusal.{Refusal}
 use Rattle.format.proofs.JudgeStages.{WholeOf, length_ok_lem, stage_one_lem}
 use Rattle.format.proofs.JudgeRecords.{sheet_by}
 use Rattle.format.proofs.AcceptedSheet.{counted_are}
@@ -23,29 +27,37 @@ use Rattle.files.specs.declared.Stride.TheVariants.{Plain, Lines}
 use Rattle.files.specs.Records.{stride_of, records_of, length_ok}
 use Rattle.files.proofs.Records.{length-records, wide_records, front-records}
 use Rattle.files.proofs.StageOne.{plain-length}
-use Rattle.part_and_index.specs.Result.{sheet_part_of, index_fault_of}
-use Rattle.part_and_index.specs.declared.SheetPart.{SheetPart}
-use Rattle.part_and_index.specs.declared.Fault.{Fault}
+use Rattle.part_and_index.specs.declared.SheetPart as Part
+use Rattle.part_and_index.specs.Result.{SheetPart, sheet_part_of, part_said, index_fault_of, index_said}
 use Rattle.part_and_index.proofs.Laws.{SoundPart, sound-part, refused-part, sound-index, refused-index}
 use Rattle.judge.specs.declared.body_records.Extent.{Extent}
-use Rattle.judge.specs.declared.Sheet.{Sheet}
-use Rattle.judge.specs.declared.opening.Against.{Against}
+use Rattle.judge.specs.Sheet.{Sheet}
+use Rattle.judge.specs.declared.Sheet as Declared
 use Rattle.judge.specs.Listed.{first_unlisted, first_numbers, kept_layers}
-use Rattle.judge.specs.Walks.{ExtentOf, views_from, body_of, body_sheet, layers_at, BodyAgainst, OpenedAgainst}
-use Rattle.judge.specs.Sheet.{refused_sheet, sheet_for, opened_sheet, records_sheet, opened_in, judge_by}
+use Rattle.judge.specs.Walks.{ExtentOf, views_from, body_of, body_sheet, layers_at, Against, BodyAgainst, OpenedAgainst, against_said}
+use Rattle.judge.specs.Sheet.{sheet_for, opened_sheet, records_sheet, opened_in, judge_by, sheet_said}
+use Rattle.format.proofs.Reasons.{not_zero}
 
 -- ---- behind stage one: the sheet part, then the body
-module _ (stride : Stride) (file : List ℕ) (part : SheetPart) (found : part ≡ sheet_part_of (records_of stride file)) where
+module _ (stride : Stride) (file : List ℕ) where
   abbrev rs : List (List ℕ)
   rs = records_of stride file
 
-  pub part-refused : (before : ℕ) (r : Sheet) → (part.fault ≡ 0 → ⊥) → r ≡ refused_sheet part.fault part.at → r ≡ records_sheet rs before
+  pub part_against : (before : ℕ) (directory : List (List ℕ)) (e : Edition) (r : Refusal) → part_said (Err r) ≡ sheet_part_of (records_of stride file) → OpenedAgainst (records_of stride file) before directory e (against_said (Err r))
   unfolding judge_records
-  part-refused before r ne e = e ∙ rw (refused-part rs part found ne)
+  part_against before directory e r found = record {
+    sheet_is = rw (refused-part rs (part_said (Err r)) found (not_zero r.reason));
+    count = λ z. absurd (not_zero r.reason z);
+    first_is = λ z. absurd (not_zero r.reason z);
+    kept = λ z. absurd (not_zero r.reason z);
+  }
 
-  module _ (fine : part.fault ≡ 0) (n before : ℕ) (counted : n ≡ length (records_of stride file)) where
+  module _ (p : Part.SheetPart) (found : part_said (Ok p) ≡ sheet_part_of (records_of stride file)) (n before : ℕ) (counted : n ≡ length (records_of stride file)) where
+    abbrev part : SheetPart
+    part = part_said (Ok p)
+
     sound : SoundPart rs part
-    sound = sound-part rs part found fine
+    sound = sound-part rs part found refl
 
     abbrev x : Extent
     x = record { stride = stride; records = n; before = before }
@@ -58,7 +70,7 @@ module _ (stride : Stride) (file : List ℕ) (part : SheetPart) (found : part �
         go Plain = let e : length (records_of Plain file) ≡ length file / 84 = length-records Plain file in omega arith
         go Lines = let e : length (records_of Lines file) ≡ length file / 86 = length-records Lines file in omega arith
 
-    pub file-start : part.length ≤ n
+    pub file-start : p.length ≤ n
     file-start = omega (arith, counted, sound.inside)
 
     file_is : body_of file x part ≡ file_of rs
@@ -85,78 +97,72 @@ module _ (stride : Stride) (file : List ℕ) (part : SheetPart) (found : part �
       kept = λ z. (b.listing z).kept ∙ ap (first_numbers e (kept_layers e)) layers_are;
     }
 
-  pub part_against : (before : ℕ) (directory : List (List ℕ)) (e : Edition) (r : Against) → (part.fault ≡ 0 → ⊥) → r.sheet ≡ refused_sheet part.fault part.at → OpenedAgainst rs before directory e r
-  part_against before directory e r ne q =
-      let no : r.sheet.fault ≡ 0 → ⊥ = λ z. ne (sym (ap (λ (s : Sheet). s.fault) q) ∙ z) in
-      record { sheet_is = part-refused before r.sheet ne q; count = λ z. absurd (no z); first_is = λ z. absurd (no z); kept = λ z. absurd (no z) }
-
--- ---- stage one, where `ok` is what its test came to
-module _ (stride : Stride) (used : ℕ) (buffer : List ℕ) (ok : Bool) (of : ok ≡ length_ok stride used buffer) where
-  pub wrong-length : (of_records : List (List ℕ) → Answer Counts) → not ok ≡ true → judged_answer (Refused 1 0) ≡ judge_by of_records stride used buffer
+-- ---- stage one
+module _ (stride : Stride) (used : ℕ) (buffer : List ℕ) where
+  pub wrong-length : (of_records : List (List ℕ) → Answer Counts) (r : Refusal) → length_ok stride used buffer ≡ false → r ≡ refusal_for Length 0 → judged_answer (Err r) ≡ judge_by of_records stride used buffer
   unfolding judged_answer judge_by
-  wrong-length of_records h = rw (← of, not-true ok h)
+  wrong-length of_records r h e = rw (e, h)
 
-  module _ (h : not ok ≡ false) where
+  module _ (h : length_ok stride used buffer ≡ true) where
     whole : WholeOf (stride_of stride) used buffer
     unfolding length_ok
-    whole = length_ok_lem (stride_of stride) used buffer (sym of ∙ not-false ok h)
+    whole = length_ok_lem (stride_of stride) used buffer h
 
     pub used-length : used ≡ length (take used buffer)
     used-length = sym (length-take-le used buffer whole.inside)
 
-    -- the records that are judged
-    abbrev file : List (List ℕ)
-    file = records_of stride (take used buffer)
+    -- the file
+    module _ (f : List ℕ) (f-is : f ≡ take used buffer) where
+      -- the records that are judged
+      abbrev file : List (List ℕ)
+      file = records_of stride f
 
-    by_records : (of_records : List (List ℕ) → Answer Counts) → judge_by of_records stride used buffer ≡ of_records file
-    unfolding judge_by
-    by_records of_records = ap (λ (t : Bool). after_stage_one t (of_records file)) (sym of ∙ not-false ok h)
+      by_records : (of_records : List (List ℕ) → Answer Counts) → judge_by of_records stride used buffer ≡ of_records file
+      unfolding judge_by
+      by_records of_records = ap (λ (t : Bool). after_stage_one t (of_records (records_of stride (take used buffer)))) h ∙ ap (λ (bytes : List ℕ). of_records (records_of stride bytes)) (sym f-is)
 
-    how_many : length file ≡ used / stride_of stride
-    how_many = length-records stride (take used buffer) ∙ ap (λ (n : ℕ). n / stride_of stride) (sym used-length)
+      how_many : length file ≡ used / stride_of stride
+      how_many = length-records stride f ∙ ap (λ (n : ℕ). n / stride_of stride) (ap length f-is ∙ sym used-length)
 
-    -- not none, and not above 200,000
-    counted : (stride : Stride) (used : ℕ) (buffer : List ℕ) → WholeOf (stride_of stride) used buffer → (0 < used / stride_of stride) × (used / stride_of stride ≤ 200000)
-    unfolding stride_of
-    counted Plain used buffer w = (omega (arith, w.some, w.even), omega (arith, w.few))
-    counted Lines used buffer w = (omega (arith, w.some, w.even), omega (arith, w.few))
+      -- not none, and not above 200,000
+      counted : (stride : Stride) (used : ℕ) (buffer : List ℕ) → WholeOf (stride_of stride) used buffer → (0 < used / stride_of stride) × (used / stride_of stride ≤ 200000)
+      unfolding stride_of
+      counted Plain used buffer w = (omega (arith, w.some, w.even), omega (arith, w.few))
+      counted Lines used buffer w = (omega (arith, w.some, w.even), omega (arith, w.few))
 
-    -- so they are judged as a plain file of their own
-    plain : judge_sheet (84 * length file) (flat file ++ []) ≡ judge_records file
-    plain = let c = counted stride used buffer whole in sheet_by file (length file) [] (wide_records stride (take used buffer)) refl (omega (arith, how_many, c.0)) (omega (arith, how_many, c.1))
+      -- so they are judged as a plain file of their own
+      plain : judge_sheet (84 * length file) (flat file ++ []) ≡ judge_records file
+      plain = let c = counted stride used buffer whole in sheet_by file (length file) [] (wide_records stride f) refl (omega (arith, how_many, c.0)) (omega (arith, how_many, c.1))
 
-    module _ (s : Sheet) (is : s ≡ records_sheet file 0) where
-      by : (answer : Answer Counts) → judge_records file ≡ answer → s ≡ opened_sheet answer file 0
-      by answer e = is ∙ ap (λ (a : Answer Counts). opened_sheet a file 0) e
+      -- an opened sheet, as the code has it
+      module _ (s : Result Declared.Sheet Refusal) (is : sheet_said s ≡ records_sheet file 0) where
+        by : (answer : Answer Counts) → judge_records file ≡ answer → sheet_said s ≡ opened_sheet answer file 0
+        by answer e = is ∙ ap (λ (a : Answer Counts). opened_sheet a file 0) e
 
-      pub sheet-fault : (s.fault ≡ 0 → ⊥) → judged_answer (Refused s.fault s.at) ≡ judge_by judge_records stride used buffer
+      pub sheet-fault : (r : Refusal) → sheet_said (Err r) ≡ records_sheet file 0 → judged_answer (Err r) ≡ judge_by judge_records stride used buffer
       unfolding judged_answer
-      sheet-fault ne = go (judge_records file) refl
+      sheet-fault r is = go (judge_records file) refl
         where
-          go : (answer : Answer Counts) → judge_records file ≡ answer → refused s.fault s.at ≡ judge_by judge_records stride used buffer
-          go (given counts) e = absurd (ne (ap (λ (r : Sheet). r.fault) (by (given counts) e)))
-          go (refused number at) e = ap₂ refused (ap (λ (r : Sheet). r.fault) (by (refused number at) e)) (ap (λ (r : Sheet). r.at) (by (refused number at) e)) ∙ sym (by_records judge_records ∙ e)
+          go : (answer : Answer Counts) → judge_records file ≡ answer → refused (refusal_number r.reason) r.at ≡ judge_by judge_records stride used buffer
+          go (given counts) e = absurd (not_zero r.reason (ap (λ (r : Sheet). r.fault) (by (Err r) is (given counts) e)))
+          go (refused number at) e = ap₂ refused (ap (λ (r : Sheet). r.fault) (by (Err r) is (refused number at) e)) (ap (λ (r : Sheet). r.at) (by (Err r) is (refused number at) e)) ∙ sym (by_records judge_records ∙ e)
 
-      pub sheet-counts : s.fault ≡ 0 → (n : ℕ) → n ≡ length file → judged_answer (Accepted n s.items) ≡ judge_by judge_records stride used buffer
+      pub sheet-counts : (s : Declared.Sheet) → sheet_said (Ok s) ≡ records_sheet file 0 → (n : ℕ) → n ≡ length file → judged_answer (Ok (record { records = n; items = s.items })) ≡ judge_by judge_records stride used buffer
       unfolding judged_answer
-      sheet-counts z n many = go (judge_records file) refl
+      sheet-counts s is n many = go (judge_records file) refl
         where
           go : (answer : Answer Counts) → judge_records file ≡ answer → accepted n s.items ≡ judge_by judge_records stride used buffer
-          go (given counts) e = ap₂ accepted all (ap (λ (r : Sheet). r.items) (by (given counts) e)) ∙ sym (by_records judge_records ∙ e)
+          go (given counts) e = ap₂ accepted all (ap (λ (r : Sheet). r.items) (by (Ok s) is (given counts) e)) ∙ sym (by_records judge_records ∙ e)
             where
               all : n ≡ counts.records
               all = many ∙ (let q : length file ≡ 84 * length file / 84 = omega arith in q) ∙ counted_are (record { counts = counts; judged = plain ∙ e })
-          go (refused number at) e = absurd (omega (arith, z, ap (λ (r : Sheet). r.fault) (by (refused number at) e), sheet_numbered (84 * length file) (flat file ++ []) number at (plain ∙ e)))
+          go (refused number at) e = absurd (omega (arith, ap (λ (r : Sheet). r.fault) (by (Ok s) is (refused number at) e), sheet_numbered (84 * length file) (flat file ++ []) number at (plain ∙ e)))
 
-    -- an index
-    module _ (answer : Fault) (found : answer ≡ index_fault_of file) where
-      pub index-part : (answer.number ≡ 0 → ⊥) → judged_answer (Refused answer.number answer.at) ≡ judge_by judge_index_records stride used buffer
+      -- an index, by its verdict
+      pub index-judged : (checked : Result (Unit {0}) Refusal) → index_said checked ≡ index_fault_of file → (n : ℕ) → n ≡ length file → (answer : Result Judged.Counts Refusal) → answer ≡ result_and checked (Ok (record { records = n; items = 0 })) → judged_answer answer ≡ judge_by judge_index_records stride used buffer
       unfolding judged_answer judge_index_records
-      index-part ne = sym (by_records judge_index_records ∙ rw (refused-index file answer found ne))
-
-      pub index-accepted : answer.number ≡ 0 → (n : ℕ) → n ≡ length file → judged_answer (Accepted n 0) ≡ judge_by judge_index_records stride used buffer
-      unfolding judged_answer judge_index_records
-      index-accepted z n many = sym (by_records judge_index_records ∙ rw (sound-index file answer found z, many))
+      index-judged (Err r) found n many answer is = ap judged_answer is ∙ sym (by_records judge_index_records ∙ rw (refused-index file (index_said {A = Unit {0}} (Err r)) found (not_zero r.reason)))
+      index-judged (Ok u) found n many answer is = ap judged_answer is ∙ sym (by_records judge_index_records ∙ rw (sound-index file (index_said (Ok u)) found refl, many))
 
 -- ---- a plain file
 module _ (used : ℕ) (buffer : List ℕ) where
@@ -178,16 +184,15 @@ module _ (used : ℕ) (buffer : List ℕ) where
   plain-index answer e = e ∙ plain_by judge_index_records
 
   -- opening one
-  module _ (ok : Bool) (of : ok ≡ length_ok Plain used buffer) where
-    stage : stage_one_ok used buffer ≡ ok
-    stage = sym (of ∙ plain-length used buffer)
+  stage : stage_one_ok used buffer ≡ length_ok Plain used buffer
+  stage = sym (plain-length used buffer)
 
-    pub sheet-length : (before : ℕ) (r : Sheet) → not ok ≡ true → r ≡ refused_sheet 1 0 → r ≡ opened_in used buffer before
-    unfolding opened_in judge_sheet
-    sheet-length before r h e = e ∙ rw (stage, not-true ok h)
+  pub sheet-length : (before : ℕ) (r : Refusal) → length_ok Plain used buffer ≡ false → r ≡ refusal_for Length 0 → sheet_said (Err r) ≡ opened_in used buffer before
+  unfolding opened_in judge_sheet
+  sheet-length before r h e = rw (e, stage, h)
 
-    pub sheet-opened : not ok ≡ false → (before : ℕ) (r : Sheet) → r ≡ records_sheet (records_of Plain (take used buffer)) before → r ≡ opened_in used buffer before
-    unfolding opened_in judge_sheet
-    sheet-opened h before r e =
-        let passes : stage_one_ok used buffer ≡ true = stage ∙ not-false ok h in
-        e ∙ ap (λ (rs : List (List ℕ)). records_sheet rs before) (front-records used buffer (stage_one_lem used buffer passes).inside) ∙ rw passes
+  pub sheet-opened : length_ok Plain used buffer ≡ true → (before : ℕ) (r : Sheet) → r ≡ records_sheet (records_of Plain (take used buffer)) before → r ≡ opened_in used buffer before
+  unfolding opened_in judge_sheet
+  sheet-opened h before r e =
+      let passes : stage_one_ok used buffer ≡ true = stage ∙ h in
+      e ∙ ap (λ (rs : List (List ℕ)). records_sheet rs before) (front-records used buffer (stage_one_lem used buffer passes).inside) ∙ rw passes

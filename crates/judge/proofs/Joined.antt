@@ -1,14 +1,16 @@
 -- How the parts of a walk join. Assumes nothing.
+use Rattle.std.specs.Prelude.{Option, Some, None}
+use Rattle.std.specs.Option.{option_or}
 use mathlib.Core.Path.{◌≡◌, refl, ap, ◌∙◌}
 use mathlib.Core.Bool.{Bool, true, false, cond}
 use mathlib.Core.List.{List, ◌∷◌}
-use Prim.Native.Nat.{ℕ, zero, suc, pred, ◌+◌, ◌<◌}
+use Prim.Native.Nat.{ℕ, suc, pred, ◌+◌, ◌<◌}
 use native.Mathlib.Omega.{arith}
 use native.Mathlib.Nat.{zero-add}
 use borrow.Author.Tests.{eq-eqb, ne_eqb}
 use lib.Dec.{eqb}
 use lib.ListN.{length, get_or}
-use Rattle.format.specs.Basics.{Fault, none, fault, or_else, to_fault, unless, first}
+use Rattle.format.specs.Basics.{Fault, none, or_else, to_fault, unless}
 use Rattle.format.specs.Record.{nothing, head, item, is_head, count_index, View}
 use Rattle.format.specs.Judge.{walk, fault_at, headers_and_items, items, count_under, counts_agree, count_fault, open_after, due_after}
 use Rattle.format.proofs.JudgeSteps.{walk_step}
@@ -18,15 +20,15 @@ use Rattle.judge.specs.Walks.{fault_from, entries, wrong_at, last_before, with_i
 use Rattle.judge.proofs.Steps.{any_owner}
 use Rattle.judge.proofs.SeenLaws.{start-step, header-step, header-set}
 
-pub joins-none : (opened i : ℕ) (rs : List View) → Joins opened i rs opened i rs 0
+pub joins-none : (opened i : ℕ) (rs : List View) → Joins opened i rs opened i rs None
 joins-none opened i rs = record { same = refl; wrong = λ h. refl; deeper = λ level kind h. refl; layers = λ h. refl }
 
 -- the first of two wrong counts
-pub wrong_first : (a b : ℕ) (f : Fault) → or_else (wrong_at a) (or_else (wrong_at b) f) ≡ or_else (wrong_at (first a b)) f
-wrong_first zero b f = refl
-wrong_first (suc a) b f = refl
+pub wrong_first : (a b : Option ℕ) (f : Fault) → or_else (wrong_at a) (or_else (wrong_at b) f) ≡ or_else (wrong_at (option_or a b)) f
+wrong_first None b f = refl
+wrong_first (Some a) b f = refl
 
-pub joins-more : (opened i : ℕ) (rs : List View) (j : ℕ) (ss : List View) (after k : ℕ) (ts : List View) (low low' : ℕ) → Joins opened i rs opened j ss low → Joins opened j ss after k ts low' → Joins opened i rs after k ts (first low low')
+pub joins-more : (opened i : ℕ) (rs : List View) (j : ℕ) (ss : List View) (after k : ℕ) (ts : List View) (low low' : Option ℕ) → Joins opened i rs opened j ss low → Joins opened j ss after k ts low' → Joins opened i rs after k ts (option_or low low')
 joins-more opened i rs j ss after k ts low low' f g = record {
   same = f.same ∙ g.same;
   wrong = λ h. f.wrong (g.same ∙ h) ∙ ap (or_else (wrong_at low)) (g.wrong h) ∙ wrong_first low low' _;
@@ -102,7 +104,7 @@ module _ (opened i : ℕ) (r : View) (rs : List View) (well : fault_at opened 0 
       behind-item : headers_and_items (due_after 0 r) rs ≡ entries rs'
       behind-item = ap (λ (x : ℕ). headers_and_items x rs) due_item ∙ t.behind
 
-      pub joins-item : Joins opened i (r ∷ rs) opened i' rs' 0
+      pub joins-item : Joins opened i (r ∷ rs) opened i' rs' None
       joins-item = record {
         same = step-item ∙ t.same opened ∙ any_owner opened r.data_held nothing i 0 i' rs';
         wrong = λ h. rw is t.wrong;
@@ -124,8 +126,8 @@ module _ (opened i : ℕ) (r : View) (rs : List View) (well : fault_at opened 0 
     counts-header : count_fault 0 i (r ∷ rs) ≡ or_else (to_fault (unless (counts_agree r (entries rs)) 10) i) (count_fault 0 (suc i) rs)
     counts-header = rw is
 
-    module _ (i' : ℕ) (rs' : List View) (low : ℕ) (b : Joins (suc opened) (suc i) rs opened i' rs' low) where
-      joined : (low' : ℕ) → (fault_from opened i' rs' ≡ none → count_fault 0 i (r ∷ rs) ≡ or_else (wrong_at low') (count_fault 0 i' rs')) → Joins opened i (r ∷ rs) opened i' rs' low'
+    module _ (i' : ℕ) (rs' : List View) (low : Option ℕ) (b : Joins (suc opened) (suc i) rs opened i' rs' low) where
+      joined : (low' : Option ℕ) → (fault_from opened i' rs' ≡ none → count_fault 0 i (r ∷ rs) ≡ or_else (wrong_at low') (count_fault 0 i' rs')) → Joins opened i (r ∷ rs) opened i' rs' low'
       joined low' wrong = record {
         same = step-header ∙ b.same;
         wrong = wrong;
@@ -136,12 +138,8 @@ module _ (opened i : ℕ) (r : View) (rs : List View) (well : fault_at opened 0 
       pub joins_agreed : (fault_from opened i' rs' ≡ none → counts_agree r (entries rs) ≡ true) → Joins opened i (r ∷ rs) opened i' rs' low
       joins_agreed agree = joined low (λ h. counts-header ∙ rw (agree h) (b.wrong h))
 
-      pub joins_differing : 0 < i → (fault_from opened i' rs' ≡ none → counts_agree r (entries rs) ≡ false) → Joins opened i (r ∷ rs) opened i' rs' i
-      joins_differing some differ = joined i (λ h. counts-header ∙ rw (differ h) (there i some))
-        where
-          there : (x : ℕ) → 0 < x → fault 10 x ≡ or_else (wrong_at x) (count_fault 0 i' rs')
-          there zero l = absurd (omega arith)
-          there (suc x) l = refl
+      pub joins_differing : (fault_from opened i' rs' ≡ none → counts_agree r (entries rs) ≡ false) → Joins opened i (r ∷ rs) opened i' rs' (Some i)
+      joins_differing differ = joined (Some i) (λ h. counts-header ∙ rw (differ h))
 
       -- at open level 0 it is the header of a layer
       pub header-layers : opened ≡ 0 → layers_from 0 i (r ∷ rs) ≡ record { header = i; body = layer_body 0 rs } ∷ layers_from 0 i' rs'

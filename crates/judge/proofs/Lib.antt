@@ -8,7 +8,6 @@ mod ChildLaws
 mod BodyLaws
 mod LayersLaws
 mod ItemLaws
-mod SheetLaws
 pub mod PlaceLaws
 mod AnswerLaws
 mod FileLaws

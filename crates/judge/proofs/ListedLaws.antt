@@ -1,12 +1,15 @@
 -- A sheet opened against the records of a directory, in the code's own words, and what callers cite of it. Assumes nothing.
+use Rattle.std.specs.Prelude.{Ok, Err}
 use mathlib.Core.Path.{◌≡◌, refl, ap, sym, ◌∙◌}
-use mathlib.Core.Bool.{Bool, true, false, not}
+use mathlib.Core.Bool.{true, false}
 use mathlib.Core.List.{List}
 use Prim.Native.Nat.{ℕ, ◌/◌}
 use native.Mathlib.Omega.{arith}
-use borrow.Author.Tests.{not-true, not-false}
 use lib.ListN.{length, take}
 use Rattle.format.specs.Basics.{Answer, given, refused, chunks, stage_one_ok}
+use Rattle.format.specs.Reasons.{refusal_number, refusal_for}
+use Rattle.format.specs.declared.Reason.TheVariants.{Length}
+use Rattle.format.specs.declared.Refusal.{Refusal}
 use Rattle.format.specs.Sheet.{part_length}
 use Rattle.format.specs.Judge.{Counts, judge_sheet}
 use Rattle.format.proofs.JudgeStages.{stage_one_lem}
@@ -18,12 +21,12 @@ use Rattle.files.proofs.Records.{front-records}
 use Rattle.files.proofs.StageOne.{plain-length}
 use Rattle.format_directory.specs.declared.Edition.{Edition}
 use Rattle.format_directory.specs.Directory.{layers_of}
-use Rattle.judge.specs.declared.Sheet.{Sheet}
-use Rattle.judge.specs.declared.ListedSheet.{ListedSheet}
-use Rattle.judge.specs.declared.opening.Against.{Against}
-use Rattle.judge.specs.Walks.{OpenedAgainst}
-use Rattle.judge.specs.Sheet.{opened_in}
-use Rattle.judge.specs.Listed.{first_unlisted, first_numbers, kept_layers, refused_listed, listed_sheet, listed_in}
+use Rattle.judge.specs.Listed.{ListedSheet}
+use Rattle.judge.specs.declared.opening.Against as Opening
+use Rattle.judge.specs.Walks.{OpenedAgainst, against_said}
+use Rattle.judge.specs.Sheet.{sheet_said}
+use Rattle.format.proofs.Reasons.{not_zero}
+use Rattle.judge.specs.Listed.{first_unlisted, first_numbers, kept_layers, listed_sheet, listed_in, listed_said, unlisted_said}
 use Rattle.judge.proofs.FileLaws.{sheet-opened}
 use Rattle.judge.proofs.Opened.{Opened, opened-sheet, sheet_refused_is}
 
@@ -42,43 +45,36 @@ module _ (used : ℕ) (buffer : List ℕ) (directory : List (List ℕ)) (e : Edi
   unfolding listed_in
   by answer q = ap (λ (a : Answer Counts). listed_sheet e a (chunks (used / 84) buffer) directory) q
 
-  module _ (ok : Bool) (of : ok ≡ length_ok Plain used buffer) where
-    stage : stage_one_ok used buffer ≡ ok
-    stage = sym (of ∙ plain-length used buffer)
+  stage : stage_one_ok used buffer ≡ length_ok Plain used buffer
+  stage = sym (plain-length used buffer)
 
-    pub listed-length : (r : ListedSheet) → not ok ≡ true → r ≡ refused_listed 1 0 → r ≡ listed_in e used buffer directory
-    unfolding judge_sheet
-    listed-length r h q = q ∙ sym (by (refused 1 0) (rw (stage, not-true ok h)))
+  pub listed-length : (r : Refusal) → length_ok Plain used buffer ≡ false → r ≡ refusal_for Length 0 → listed_said (Err r) ≡ listed_in e used buffer directory
+  unfolding judge_sheet
+  listed-length r h q = rw q (sym (by (refused 1 0) (rw (stage, h))))
 
-    module _ (h : not ok ≡ false) (a : Against) (opened : OpenedAgainst (records_of Plain (take used buffer)) 0 directory e a) where
-      abbrev s : Sheet
-      s = a.sheet
+  module _ (h : length_ok Plain used buffer ≡ true) where
+    pub listed-refused : (r : Refusal) → OpenedAgainst (records_of Plain (take used buffer)) 0 directory e (against_said (Err r)) → listed_said (Err r) ≡ listed_in e used buffer directory
+    listed-refused r opened = sym (by (refused (refusal_number r.reason) r.at) (sheet_refused_is used buffer 0 (sheet_said (Err r)) (sheet-opened used buffer h 0 (sheet_said (Err r)) opened.sheet_is) (not_zero r.reason)))
 
-      is : s ≡ opened_in used buffer 0
-      is = sheet-opened used buffer ok of h 0 s opened.sheet_is
+    pub listed-given : (a : Opening.Against) → OpenedAgainst (records_of Plain (take used buffer)) 0 directory e (against_said (Ok a)) → listed_said (Ok (record { items = a.sheet.items; part = a.sheet.part; layers = a.layers; unlisted = a.unlisted; first_numbers = a.first_numbers })) ≡ listed_in e used buffer directory
+    listed-given a opened = same ∙ sym (by (given o.accepted.counts) o.accepted.judged)
+      where
+        o : Opened used buffer 0 (sheet_said (Ok a.sheet))
+        o = opened-sheet used buffer 0 (sheet_said (Ok a.sheet)) (sheet-opened used buffer h 0 (sheet_said (Ok a.sheet)) opened.sheet_is) refl
 
-      same-records : records_of Plain (take used buffer) ≡ chunks (used / 84) buffer
-      same-records = front-records used buffer (stage_one_lem used buffer (stage ∙ not-false ok h)).inside
+        same-records : records_of Plain (take used buffer) ≡ chunks (used / 84) buffer
+        same-records = front-records used buffer (stage_one_lem used buffer (stage ∙ h)).inside
 
-      pub listed-refused : (r : ListedSheet) → (s.fault ≡ 0 → ⊥) → r ≡ refused_listed s.fault s.at → r ≡ listed_in e used buffer directory
-      listed-refused r ne q = q ∙ sym (by (refused s.fault s.at) (sheet_refused_is used buffer 0 s is ne))
-
-      pub listed-given : s.fault ≡ 0 → record { fault = 0; at = 0; items = s.items; part = s.part; layers = a.layers; unlisted = a.unlisted; first_numbers = a.first_numbers } ≡ listed_in e used buffer directory
-      listed-given z = same ∙ sym (by (given o.accepted.counts) o.accepted.judged)
-        where
-          o : Opened used buffer 0 s
-          o = opened-sheet used buffer 0 s is z
-
-          same : record { fault = 0; at = 0; items = s.items; part = s.part; layers = a.layers; unlisted = a.unlisted; first_numbers = a.first_numbers } ≡ listed_sheet e (given o.accepted.counts) (chunks (used / 84) buffer) directory
-          same = λ i. record {
-            fault = 0;
-            at = 0;
-            items = (o.items_are ∙ elements_are o.accepted) i;
-            part = o.part_is i;
-            layers = (opened.count z ∙ ap (λ (rs : List (List ℕ)). length (layers_of rs)) same-records) i;
-            unlisted = (opened.first_is z ∙ ap (λ (rs : List (List ℕ)). first_unlisted e directory 0 (layers_of rs)) same-records) i;
-            first_numbers = (opened.kept z ∙ ap (λ (rs : List (List ℕ)). first_numbers e (kept_layers e) (layers_of rs)) same-records) i;
-          }
+        same : record { fault = 0; at = 0; items = a.sheet.items; part = a.sheet.part; layers = a.layers; unlisted = unlisted_said a.unlisted; first_numbers = a.first_numbers } ≡ listed_sheet e (given o.accepted.counts) (chunks (used / 84) buffer) directory
+        same = λ i. record {
+          fault = 0;
+          at = 0;
+          items = (o.items_are ∙ elements_are o.accepted) i;
+          part = o.part_is i;
+          layers = (opened.count refl ∙ ap (λ (rs : List (List ℕ)). length (layers_of rs)) same-records) i;
+          unlisted = (opened.first_is refl ∙ ap (λ (rs : List (List ℕ)). first_unlisted e directory 0 (layers_of rs)) same-records) i;
+          first_numbers = (opened.kept refl ∙ ap (λ (rs : List (List ℕ)). first_numbers e (kept_layers e) (layers_of rs)) same-records) i;
+        }
 
   -- ---- what callers cite
   module _ (r : ListedSheet) (is : r ≡ listed_in e used buffer directory) where

@@ -12,7 +12,7 @@ use Rattle.format.specs.Judge.{Counts, File, judge_sheet, sheet_in, AcceptedShee
 use Rattle.format.specs.Edit.{due_behind, open_behind, body_place}
 use Rattle.format.proofs.AcceptedSheet.{elements_are}
 use Rattle.format.proofs.ChecksJudging.{sheet_numbered}
-use Rattle.judge.specs.declared.Sheet.{Sheet}
+use Rattle.judge.specs.Sheet.{Sheet}
 use Rattle.judge.specs.Sheet.{body_before, start_before, header_before, opened_sheet, opened_in}
 use Rattle.judge.proofs.AnswerLaws.{get_or-values}
 

@@ -17,13 +17,16 @@ use Rattle.format.proofs.JudgeWalks.{Good, due_behind-append, open_behind-append
 use Rattle.format.proofs.JudgeAccepted.{accepted_ok}
 use Rattle.format.proofs.AboveWayUp.{Owner, owner, r_good}
 use Rattle.files.specs.Records.{records_of}
-use Rattle.records.specs.declared.items.Entry.{Entry}
-use Rattle.records.specs.Entry.{view_fault, entry_of}
+use Rattle.records.specs.Entry.{Entry}
+use Rattle.records.specs.Entry.{view_fault, refused_entry, entry_of}
+use Rattle.format.specs.Reasons.{refusal_number}
+use Rattle.format.specs.declared.Reason.{Reason}
+use Rattle.format.proofs.Reasons.{not_zero}
 use Rattle.records.proofs.Laws.{entry-fault, entry-kind, entry-level, entry_data_records, view_data_records_most}
-use Rattle.part_and_index.specs.declared.SheetPart.{SheetPart}
+use Rattle.part_and_index.specs.Result.{SheetPart}
 use Rattle.judge.specs.declared.body_records.Extent.{Extent}
 use Rattle.judge.specs.declared.walk.Seen.{Seen}
-use Rattle.judge.specs.declared.Sheet.{Sheet}
+use Rattle.judge.specs.Sheet.{Sheet}
 use Rattle.judge.specs.Walks.{ExtentOf, record_at, views_from, body_of, due_of_entry, open_of_entry, place_in, sheet_with, Stands, standing_sheet}
 use Rattle.judge.specs.Sheet.{body_before}
 use Rattle.judge.proofs.Steps.{wide_at}
@@ -149,6 +152,10 @@ module _ (file : List ℕ) (x : Extent) (extent_of : ExtentOf file x) (part : Sh
 
       reads : (entry_of own).fault ≡ 0
       reads = entry-fault own wide ∙ ap view_fault view_is ∙ good_reads (open_behind 0 0 w.front) w.it well
+
+      -- so it is a header or an item
+      pub is_entry_lem : (reason : Reason) → e ≡ refused_entry (refusal_number reason) → ⊥
+      is_entry_lem reason q = not_zero reason (ap (λ (p : Entry). p.fault) (sym q ∙ own_is) ∙ reads)
 
       kind_is : e.kind ≡ count_index w.it.kind
       kind_is = ap (λ (q : Entry). q.kind) own_is ∙ entry-kind own wide reads ∙ ap (λ (v : View). count_index v.kind) view_is

@@ -9,7 +9,7 @@ use Rattle.format.specs.Layout.{column, find, integer_at, number_at, all_formed,
 use Rattle.format.specs.Record.{type_of, count_name, data_columns, direction_ok, data_fault, element_records, element_rule, grid_states, grid_needs, net_needs, header_view, element_view, grid_view, net_view, other_view, view}
 use Rattle.format.specs.Sheet.{wholes_of, fractions_of, part_length, sheet_fault, corners, stated_elements, stated_records}
 use Rattle.format.specs.Judge.{judge, judge_records, judge_sheet}
-use Rattle.judge.specs.declared.Sheet.{Sheet}
+use Rattle.judge.specs.Sheet.{Sheet}
 use Rattle.judge.specs.Sheet.{refused_sheet, opened_in}
 
 -- records 1 to 5: of level 2500, so of unit 10 and with fractions in centimetres; the counts (I6, I7)

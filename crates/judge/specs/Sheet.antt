@@ -1,6 +1,6 @@
 -- An opened sheet: the verdict of judging, and of an accepted sheet the length of its sheet part, its unit and corners, and what stands before a place of
 -- it. Assumes nothing.
-use Rattle.std.specs.Prelude.{List, [], ◌∷◌, ℕ, zero, suc, ◌+◌, ◌-◌, ◌/◌, ℤ, pos, take, get_or, replicate}
+use Rattle.std.specs.Prelude.{Result, Ok, Err, List, [], ◌∷◌, ℕ, zero, suc, ◌+◌, ◌-◌, ◌/◌, ℤ, pos, take, get_or, replicate}
 use Rattle.format.specs.Basics.{Answer, given, refused, chunks}
 use Rattle.format.specs.Record.{View}
 use Rattle.format.specs.Layout.{number_at, sheet_b}
@@ -10,7 +10,22 @@ use Rattle.format.specs.Edit.{due_behind, open_behind, last_header}
 use Rattle.format.specs.Above.{last_start}
 use Rattle.files.specs.declared.Stride.{Stride}
 use Rattle.files.specs.Records.{records_of, length_ok}
-use Rattle.judge.specs.declared.Sheet.{Sheet}
+use Rattle.format.specs.Reasons.{refusal_number}
+use Rattle.format.specs.declared.Refusal.{Refusal}
+use Rattle.judge.specs.declared.Sheet as Declared
+
+-- what opening a sheet comes to: number and record of the refusal, 0 and 0 for none; and its values
+pub record Sheet : Type 0 where
+  pub fault : ℕ
+  pub at : ℕ
+  pub items : ℕ
+  pub part : ℕ
+  pub unit : ℕ
+  pub corners : List ℤ
+  pub due : ℕ
+  pub open_level : ℕ
+  pub start : ℕ
+  pub headers : List ℕ
 
 -- the values of a function, `count` of them from a number on
 abbrev pub values : (count from : ℕ) → (ℕ → ℕ) → List ℕ
@@ -31,6 +46,22 @@ header_before f before level = f.part_length + last_header level 0 1 0 (body_bef
 -- "A refusal returns number and record only": no values
 abbrev pub refused_sheet : (number at : ℕ) → Sheet
 refused_sheet number at = record { fault = number; at = at; items = 0; part = 0; unit = 0; corners = replicate 8 (pos 0); due = 0; open_level = 0; start = 0; headers = values 9 0 (λ level. 0) }
+
+-- the same as the code has it
+abbrev pub sheet_said : Result Declared.Sheet Refusal → Sheet
+sheet_said (Ok s) = record {
+  fault = 0;
+  at = 0;
+  items = s.items;
+  part = s.part;
+  unit = s.unit;
+  corners = s.corners;
+  due = s.due;
+  open_level = s.open_level;
+  start = s.start;
+  headers = s.headers;
+}
+sheet_said (Err r) = refused_sheet (refusal_number r.reason) r.at
 
 abbrev pub accepted_sheet : (items unit : ℕ) → (corners : List ℤ) → File → (before : ℕ) → Sheet
 accepted_sheet items unit corners f before = record {

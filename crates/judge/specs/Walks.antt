@@ -1,6 +1,6 @@
 -- What the private functions of the walk ensure, over the flat walk of format's Judge and the folds of its Edit and Above. Public functions cite nothing
 -- of this. Assumes nothing.
-use Rattle.std.specs.Prelude.{◌≡◌, Bool, true, cond, ◌&&◌, List, [], ◌∷◌, map, ℕ, zero, suc, ◌+◌, ◌-◌, ◌*◌, ◌≤◌, ◌<◌, leb, ltb, eqb, length, take, drop, get_or, set, replicate}
+use Rattle.std.specs.Prelude.{◌≡◌, Option, Some, None, Result, Ok, Err, Bool, true, cond, ◌&&◌, List, [], ◌∷◌, map, ℕ, suc, ◌+◌, ◌-◌, ◌*◌, ◌≤◌, ◌<◌, leb, ltb, eqb, length, take, drop, get_or, set, replicate}
 use Rattle.format.specs.Basics.{Fault, none, fault, or_else, first, unless}
 use Rattle.format.specs.Record.{Data, nothing, View, view, is_head, count_index}
 use Rattle.format.specs.Judge.{walk, fault_at, headers_and_items, items, count_under, count_fault, File, accepted, judge}
@@ -9,18 +9,18 @@ use Rattle.format.specs.Above.{last_start}
 use Rattle.format_directory.specs.declared.Edition.{Edition}
 use Rattle.format_directory.specs.Directory.{Layer, layer_body, layers_from, layers_of, per_layer}
 use Rattle.files.specs.Records.{records_of}
-use Rattle.records.specs.declared.items.Entry.{Entry}
-use Rattle.part_and_index.specs.declared.SheetPart.{SheetPart}
+use Rattle.format.specs.Reasons.{refusal_number}
+use Rattle.format.specs.declared.Refusal.{Refusal}
+use Rattle.records.specs.declared.items.Entry as Items
+use Rattle.records.specs.Entry.{Entry, entry_said, entry_of}
+use Rattle.part_and_index.specs.Result.{SheetPart}
 use Rattle.judge.specs.declared.body_records.Extent.{Extent}
 use Rattle.judge.specs.declared.walk.Seen.{Seen}
-use Rattle.judge.specs.declared.walk.Walked.{Walked}
-use Rattle.judge.specs.declared.walk.WalkedGroup.{WalkedGroup}
-use Rattle.judge.specs.declared.walk.WalkedBody.{WalkedBody}
-use Rattle.judge.specs.declared.walk.WalkedLayers.{WalkedLayers}
-use Rattle.judge.specs.declared.opening.Against.{Against}
-use Rattle.judge.specs.declared.Sheet.{Sheet}
-use Rattle.judge.specs.Sheet.{values, start_before, header_before, accepted_sheet, sheet_for, records_sheet}
-use Rattle.judge.specs.Listed.{first_unlisted, first_numbers, kept_layers}
+use Rattle.judge.specs.declared.walk as Declared
+use Rattle.judge.specs.declared.opening as Opening
+use Rattle.judge.specs.Sheet.{Sheet}
+use Rattle.judge.specs.Sheet.{values, start_before, header_before, refused_sheet, sheet_said, accepted_sheet, sheet_for, records_sheet}
+use Rattle.judge.specs.Listed.{first_unlisted, first_numbers, kept_layers, unlisted_said}
 
 -- ---- The records of a file, which count from 0 here; record k has number k + 1
 -- the file has as many records as the walk is told
@@ -43,10 +43,10 @@ fault_from open_level i rs = walk open_level 0 nothing 0 i rs
 abbrev pub entries : List View → List View
 entries rs = headers_and_items 0 rs
 
--- a header with a wrong count, by its number; 0 is none
-abbrev pub wrong_at : ℕ → Fault
-wrong_at zero = none
-wrong_at (suc i) = fault 10 (suc i)
+-- a header with a wrong count, by its number
+abbrev pub wrong_at : Option ℕ → Fault
+wrong_at None = none
+wrong_at (Some i) = fault 10 i
 
 -- ---- One record where a header or an item is due, by its entry: kind 0 is a header
 unfoldable pub lowest_of : (kind : ℕ) → ℕ
@@ -61,6 +61,11 @@ level_fits kind level open_level = leb (lowest_of kind) level && leb level (high
 -- the first of its fault, of 7, and of the fault of its data rule
 unfoldable pub entry_fault : Entry → (open_level : ℕ) → ℕ
 entry_fault e open_level = first e.fault (first (unless (level_fits e.kind e.level open_level) 7) e.rule_fault)
+
+-- what `entry_due` ensures: the header or item, which passes at this open level, or its first fault, at its own number
+abbrev pub EntryDue : List ℕ → Extent → (k open_level : ℕ) → Result Items.Entry Refusal → Type 0
+EntryDue file x k open_level (Ok e) = (entry_said (Ok e) ≡ entry_of (record_at file x k)) × (entry_fault (entry_said (Ok e)) open_level ≡ 0)
+EntryDue file x k open_level (Err r) = (refusal_number r.reason ≡ entry_fault (entry_of (record_at file x k)) open_level) × (r.at ≡ k + 1)
 
 -- ---- What stands before a place, behind `before` records of the file: those of a list whose first record has number i
 abbrev pub up_to : (before i : ℕ) → List View → List View
@@ -95,10 +100,9 @@ pub record Through (held : Data) (owner due i : ℕ) (rs : List View) (left i' :
   pub header : (before level latest : ℕ) → last_header level due i latest (up_to before i rs) ≡ last_header level left i' latest (up_to before i' rs')
   pub layers : layers_from due i rs ≡ layers_from left i' rs'
 
--- ---- Headers and items: from rs at one open level to rs' at another nothing is wrong; `low` is the first header between them whose counts differ, 0 for
--- none. Counts are those of a file in which stage two finds nothing: that is the premise of `wrong`. What stands between counts for no header of a level
+-- ---- Headers and items: from rs at one open level to rs' at another nothing is wrong; `low` is the first header between them whose counts differ. Counts are those of a file in which stage two finds nothing: that is the premise of `wrong`. What stands between counts for no header of a level
 -- lower than the open one, and in a layer no other begins
-pub record Joins (open_level i : ℕ) (rs : List View) (open_level' i' : ℕ) (rs' : List View) (low : ℕ) : Type 0 where
+pub record Joins (open_level i : ℕ) (rs : List View) (open_level' i' : ℕ) (rs' : List View) (low : Option ℕ) : Type 0 where
   pub same : fault_from open_level i rs ≡ fault_from open_level' i' rs'
   pub wrong : fault_from open_level' i' rs' ≡ none → count_fault 0 i rs ≡ or_else (wrong_at low) (count_fault 0 i' rs')
   pub deeper : (level kind : ℕ) → level < open_level → count_under level kind (entries rs) ≡ count_under level kind (entries rs')
@@ -111,23 +115,77 @@ pub record Sees (before i : ℕ) (rs : List View) (s : Seen) (i' : ℕ) (rs' : L
   pub last : last_start 0 i s.start (up_to before i rs) ≡ last_start 0 i' s'.start (up_to before i' rs')
   pub above : (level : ℕ) → level ≤ 8 → last_header level 0 i (get_or s.headers level 0) (up_to before i rs) ≡ last_header level 0 i' (get_or s'.headers level 0) (up_to before i' rs')
 
--- ---- Contracts
+-- ---- What the walks come to: number and record of the fault, 0 and 0 for none; else the record past the walk and what it found
+pub record Walked : Type 0 where
+  pub number : ℕ
+  pub at : ℕ
+  pub next : ℕ
+
+-- `low` is the first header with a wrong count
+pub record WalkedGroup : Type 0 where
+  pub number : ℕ
+  pub at : ℕ
+  pub next : ℕ
+  pub low : Option ℕ
+  pub seen : Seen
+
+-- `tally` counts, by kind, what stands one level below the open one
+pub record WalkedBody : Type 0 where
+  pub number : ℕ
+  pub at : ℕ
+  pub next : ℕ
+  pub low : Option ℕ
+  pub tally : List ℕ
+  pub seen : Seen
+
+-- `layers` counts them; `unlisted` is the first of them, counted from 1, that a directory does not list, or 0; `first_numbers` is what one of its edition
+-- lists of the first ones
+pub record WalkedLayers : Type 0 where
+  pub number : ℕ
+  pub at : ℕ
+  pub low : Option ℕ
+  pub seen : Seen
+  pub layers : ℕ
+  pub unlisted : ℕ
+  pub first_numbers : List ℕ
+
 -- a walk that came to the record `next` without a fault
 abbrev pub passed_of : (next : ℕ) → Walked
 passed_of next = record { number = 0; at = 0; next = next }
 
-abbrev pub passed_group_of : (next low : ℕ) → Seen → WalkedGroup
+abbrev pub passed_group_of : (next : ℕ) (low : Option ℕ) → Seen → WalkedGroup
 passed_group_of next low seen = record { number = 0; at = 0; next = next; low = low; seen = seen }
 
-abbrev pub passed_body_of : (next low : ℕ) → (tally : List ℕ) → Seen → WalkedBody
+abbrev pub passed_body_of : (next : ℕ) (low : Option ℕ) → (tally : List ℕ) → Seen → WalkedBody
 passed_body_of next low tally seen = record { number = 0; at = 0; next = next; low = low; tally = tally; seen = seen }
+
+abbrev pub passed_layers_of : (low : Option ℕ) → Seen → (layers unlisted : ℕ) → List ℕ → WalkedLayers
+passed_layers_of low seen layers unlisted first-numbers = record { number = 0; at = 0; low = low; seen = seen; layers = layers; unlisted = unlisted; first_numbers = first-numbers }
+
+-- the same as the code has them; a refusal has no values
+abbrev pub walked_said : Result ℕ Refusal → Walked
+walked_said (Ok next) = passed_of next
+walked_said (Err r) = record { number = refusal_number r.reason; at = r.at; next = 0 }
+
+abbrev pub group_said : Result Declared.WalkedGroup.WalkedGroup Refusal → WalkedGroup
+group_said (Ok w) = passed_group_of w.next w.low w.seen
+group_said (Err r) = record { number = refusal_number r.reason; at = r.at; next = 0; low = None; seen = seen_none 0 }
+
+abbrev pub body_said : Result Declared.WalkedBody.WalkedBody Refusal → WalkedBody
+body_said (Ok w) = passed_body_of w.next w.low w.tally w.seen
+body_said (Err r) = record { number = refusal_number r.reason; at = r.at; next = 0; low = None; tally = []; seen = seen_none 0 }
+
+abbrev pub layers_said : Result Declared.WalkedLayers.WalkedLayers Refusal → WalkedLayers
+layers_said (Ok w) = passed_layers_of w.low w.seen w.layers (unlisted_said w.unlisted) w.first_numbers
+layers_said (Err r) = record { number = refusal_number r.reason; at = r.at; low = None; seen = seen_none 0; layers = 0; unlisted = 0; first_numbers = [] }
 
 -- the walk of an item, as that of a group
 abbrev pub item_as_group : Walked → Seen → WalkedGroup
-item_as_group w seen = record { number = w.number; at = w.at; next = w.next; low = 0; seen = seen }
+item_as_group w seen = record { number = w.number; at = w.at; next = w.next; low = None; seen = seen }
 
+-- ---- Contracts
 -- the walk from record k at an open level, to record `next` at another
-abbrev pub JoinsTo : List ℕ → Extent → (k open_level next after low : ℕ) → Type 0
+abbrev pub JoinsTo : List ℕ → Extent → (k open_level next after : ℕ) (low : Option ℕ) → Type 0
 JoinsTo file x k open_level next after low = Joins open_level (suc k) (views_from file x k) after (suc next) (views_from file x next) low
 
 abbrev pub SeesTo : List ℕ → Extent → (k : ℕ) → Seen → (next : ℕ) → Seen → Type 0
@@ -197,16 +255,18 @@ pub record Listing (file : List ℕ) (x : Extent) (k : ℕ) (directory : List (L
   pub first_is : unlisted ≡ first_unlisted e directory 0 (layers_at file x k)
   pub kept : first-numbers ≡ first_numbers e (kept_layers e) (layers_at file x k)
 
-abbrev pub passed_layers_of : (low : ℕ) → Seen → (layers unlisted : ℕ) → List ℕ → WalkedLayers
-passed_layers_of low seen layers unlisted first-numbers = record { number = 0; at = 0; low = low; seen = seen; layers = layers; unlisted = unlisted; first_numbers = first-numbers }
+-- what `walk_layers` ensures, too, of the layers against the records of a directory
+pub record WholeListed (file : List ℕ) (x : Extent) (k : ℕ) (directory : List (List ℕ)) (e : Edition) (w : WalkedLayers) : Type 0 where
+  pub whole : WholeBody file x k w
+  pub listing : w.number ≡ 0 → Listing file x k directory e w.layers w.unlisted w.first_numbers
 
 -- a sheet, by what its sheet part came to
 abbrev pub body_of : List ℕ → Extent → SheetPart → File
 body_of file x part = record { part_length = part.length; stated_elements = part.stated_elements; stated_records = part.stated_records; body = views_from file x part.length }
 
--- the record of its two counts where they differ, else 0
-unfoldable pub wrong_sheet_of : SheetPart → (found records : ℕ) → ℕ
-wrong_sheet_of part found records = cond (eqb part.stated_elements found && eqb part.stated_records records) 0 2
+-- the record of its two counts where they differ
+unfoldable pub wrong_sheet_of : SheetPart → (found records : ℕ) → Option ℕ
+wrong_sheet_of part found records = cond (eqb part.stated_elements found && eqb part.stated_records records) None (Some 2)
 
 -- ---- What stands before the place, by the last header or item there: that it has so many data records, and what it opens
 unfoldable pub due_of_entry : Entry → ℕ
@@ -234,6 +294,18 @@ standing_sheet file x part s = accepted_sheet s.items part.unit part.corners (bo
 -- what opening answers of a body
 abbrev pub body_sheet : List ℕ → Extent → SheetPart → Sheet
 body_sheet file x part = sheet_for (judge (body_of file x part)) part.unit part.corners (body_of file x part) x.before
+
+-- a sheet that is opened against a directory: how many layers it has, the first of them, counted from 1, that the directory does not list, or 0, and what one
+-- of its edition lists of the first ones
+pub record Against : Type 0 where
+  pub sheet : Sheet
+  pub layers : ℕ
+  pub unlisted : ℕ
+  pub first_numbers : List ℕ
+
+abbrev pub against_said : Result Opening.Against.Against Refusal → Against
+against_said (Ok a) = record { sheet = sheet_said (Ok a.sheet); layers = a.layers; unlisted = unlisted_said a.unlisted; first_numbers = a.first_numbers }
+against_said (Err r) = record { sheet = refused_sheet (refusal_number r.reason) r.at; layers = 0; unlisted = 0; first_numbers = [] }
 
 -- the same against the records of a directory
 pub record BodyAgainst (file : List ℕ) (x : Extent) (part : SheetPart) (directory : List (List ℕ)) (e : Edition) (r : Against) : Type 0 where

@@ -2,58 +2,36 @@
 ghost use Rattle.std.specs.Prelude.{◌≡◌, ◌-◌, ◌≤◌};
 ghost use Rattle.files.specs.declared.Stride.TheVariants.{Plain};
 ghost use Rattle.files.specs.Records.{records_of};
-ghost use Rattle.judge.specs.Sheet.{refused_sheet, records_sheet};
+ghost use Rattle.records.specs.Entry.{entry_said};
+ghost use Rattle.part_and_index.specs.Result.{part_said};
+ghost use Rattle.judge.specs.Sheet.{records_sheet, sheet_said};
 ghost use Rattle.judge.specs.Walks.{ExtentOf, due_of_entry, open_of_entry, place_in, sheet_with, Stands, standing_sheet};
-ghost use Rattle.judge.specs.Walks.{WholeBody, wrong_sheet_of, body_sheet, BodyAgainst, OpenedAgainst};
+ghost use Rattle.judge.specs.Walks.{WholeBody, wrong_sheet_of, body_sheet, layers_said, against_said, BodyAgainst, OpenedAgainst};
 
-use super::body_records::Extent;
-use super::walk::{Seen, WalkedLayers};
-use super::{FirstNumbers, Sheet, body_records, walk};
+use super::body_records::{Extent, Walk};
+use super::walk::{Directory, Seen, WalkedLayers};
+use super::{FirstNumbers, Sheet, walk};
 use files::Stride;
+use format::{Reason, Refusal};
 use format_directory::Edition;
 use part_and_index::SheetPart;
 use records::Entry;
 
-// Record 2 where the sheet's two counts differ from those found, else 0.
-fn wrong_sheet(part: SheetPart, items: usize, records: usize) -> usize
-    ensures { result ≡ wrong_sheet_of part items records }
+// Record 2 where the sheet's two counts differ from those found.
+#[tactic(auto, unfolding(crate::specs::Walks::wrong_sheet_of))]
+fn wrong_sheet(part: SheetPart, items: usize, records: usize) -> Option<usize>
+    ensures { result ≡ wrong_sheet_of (part_said (Ok part)) items records }
 {
-    if part.stated_elements != items {
-        return 2;
-    }
-    if part.stated_records != records {
-        return 2;
-    }
-    0
-}
-
-// A sheet that is refused: no values.
-pub(crate) fn refused(fault: u8, at: usize) -> Sheet
-    ensures { result ≡ refused_sheet fault at }
-{
-    Sheet {
-        fault,
-        at,
-        items: 0,
-        part: 0,
-        unit: 0,
-        corners: [0; 8],
-        due: 0,
-        open_level: 0,
-        start: 0,
-        headers: [0; 9],
-    }
+    (part.stated_elements != items || part.stated_records != records).then_some(2)
 }
 
 // A sheet that is accepted.
 fn accepted(part: SheetPart, due: usize, open_level: usize, seen: Seen) -> Sheet
-    ensures { result ≡ sheet_with part due open_level seen }
+    ensures { sheet_said (Ok result) ≡ sheet_with (part_said (Ok part)) due open_level seen }
 {
     let corners = part.corners;
     let headers = seen.headers;
     Sheet {
-        fault: 0,
-        at: 0,
         items: seen.items,
         part: part.length,
         unit: part.unit,
@@ -66,8 +44,9 @@ fn accepted(part: SheetPart, due: usize, open_level: usize, seen: Seen) -> Sheet
 }
 
 // The data records of a header or an item: a header has none.
+#[tactic(auto, unfolding(crate::specs::Walks::due_of_entry))]
 fn due_of(entry: Entry) -> usize
-    ensures { result ≡ due_of_entry entry }
+    ensures { result ≡ due_of_entry (entry_said (Ok entry)) }
 {
     if entry.kind == 0 {
         0
@@ -77,9 +56,10 @@ fn due_of(entry: Entry) -> usize
 }
 
 // The open level behind it.
+#[tactic(auto, unfolding(crate::specs::Walks::open_of_entry))]
 fn open_of(entry: Entry) -> usize
     requires { 1 ≤ entry.level }
-    ensures { result ≡ open_of_entry entry }
+    ensures { result ≡ open_of_entry (entry_said (Ok entry)) }
 {
     if entry.kind == 0 {
         entry.level
@@ -88,96 +68,66 @@ fn open_of(entry: Entry) -> usize
     }
 }
 
-// How many records stand before the place, or before the end where that comes first.
-fn place_of(extent: Extent) -> usize
-    ensures { result ≡ place_in extent }
-{
-    if extent.before < extent.records {
-        extent.before
-    } else {
-        extent.records
-    }
-}
-
-// How many of the records up to `end` stand behind the place.
+// How many of the records up to `end` stand behind the place, or behind the end of the file where that comes first.
+#[tactic(auto, unfolding(crate::specs::Walks::place_in))]
 fn due_beyond(end: usize, extent: Extent) -> usize
     ensures { result ≡ end - place_in extent }
 {
-    let place = place_of(extent);
-    if end <= place { 0 } else { end - place }
+    end.saturating_sub(extent.before.min(extent.records))
 }
 
 // The sheet that is accepted, with what its last header or item before the place says of it.
-fn at_place(file: &[u8], extent: Extent, part: SheetPart, seen: Seen) -> Sheet
-    requires { (ExtentOf file.now extent) × (part.length ≤ extent.records) × (Stands file.now extent part seen) }
-    ensures { result ≡ standing_sheet file.now extent part seen }
+fn at_place(walk: &Walk, part: SheetPart, seen: Seen) -> Sheet
+    requires { (ExtentOf walk.now.file.now walk.now.extent) × (part.length ≤ walk.now.extent.records) × (Stands walk.now.file.now walk.now.extent (part_said (Ok part)) seen) }
+    ensures { sheet_said (Ok result) ≡ standing_sheet walk.now.file.now walk.now.extent (part_said (Ok part)) seen }
 {
     if seen.start <= part.length {
         return accepted(part, 0, 0, seen);
     }
-    let entry = body_records::entry_at(file, extent, seen.start - 1);
-    let due = due_beyond(seen.start + due_of(entry), extent);
+    let Ok(entry) = walk.entry_at(seen.start - 1) else {
+        unreachable!();
+    };
+    let due = due_beyond(seen.start + due_of(entry), walk.extent);
     accepted(part, due, open_of(entry), seen)
 }
 
-// A sheet that is opened against a directory: how many layers it has, the first of them, counted from 1, that the directory does not list, or 0, and
-// what one of its edition lists of the first ones.
-#[derive(Clone, Copy)]
+// A sheet that is opened against a directory: how many layers it has, the first of them, counted from 0, that the directory does not list, and what one of its
+// edition lists of the first ones.
+#[derive(Clone, Copy, PartialEq, Eq, Debug)]
 pub(crate) struct Against {
     pub sheet: Sheet,
     pub layers: usize,
-    pub unlisted: usize,
+    pub unlisted: Option<usize>,
     pub first_numbers: FirstNumbers,
 }
 
-// The same of a sheet that is refused.
-fn refused_against(fault: u8, at: usize) -> Against
-    ensures { result.sheet ≡ refused_sheet fault at }
-{
-    Against {
-        sheet: refused(fault, at),
-        layers: 0,
-        unlisted: 0,
-        first_numbers: [0; 33],
-    }
-}
-
 // Stage three of a body that passes stage two: the sheet's own counts, then those of its headers, lowest record first.
-fn stage_three(file: &[u8], extent: Extent, part: SheetPart, body: WalkedLayers) -> Sheet
-    requires { (ExtentOf file.now extent) × (part.length ≤ extent.records) × (body.number ≡ 0) × (WholeBody file.now extent part.length body) }
-    ensures { result ≡ body_sheet file.now extent part }
+fn stage_three(walk: &Walk, part: SheetPart, body: WalkedLayers) -> Result<Sheet, Refusal>
+    requires { (ExtentOf walk.now.file.now walk.now.extent) × (part.length ≤ walk.now.extent.records) × (WholeBody walk.now.file.now walk.now.extent part.length (layers_said (Ok body))) }
+    ensures { sheet_said result ≡ body_sheet walk.now.file.now walk.now.extent (part_said (Ok part)) }
 {
     let seen = body.seen;
-    let sheet = wrong_sheet(part, seen.items, extent.records - part.length);
-    let low = walk::first_of(sheet, body.low);
-    if low != 0 {
-        return refused(10, low);
+    let sheet = wrong_sheet(part, seen.items, walk.extent.records - part.length);
+    if let Some(low) = sheet.or(body.low) {
+        return Err(Reason::Count.at(low));
     }
-    at_place(file, extent, part, seen)
+    Ok(at_place(walk, part, seen))
 }
 
 // The body of a sheet, behind its sheet part: stage two, then stage three.
-fn open_body(
-    file: &[u8],
-    extent: Extent,
-    part: SheetPart,
-    directory: &[u8],
-    edition: Edition,
-) -> Against
-    requires { (ExtentOf file.now extent) × (part.length ≤ extent.records) }
-    ensures { BodyAgainst file.now extent part (records_of Plain directory.now) edition result }
+fn open_body(walk: &Walk, part: SheetPart, directory: Directory) -> Result<Against, Refusal>
+    requires { (ExtentOf walk.now.file.now walk.now.extent) × (part.length ≤ walk.now.extent.records) }
+    ensures { BodyAgainst walk.now.file.now walk.now.extent (part_said (Ok part)) (records_of Plain directory.entry.records.now) directory.entry.edition (against_said result) }
 {
-    let body = walk::walk_whole(file, extent, part.length, directory, edition);
-    if body.number != 0 {
-        return refused_against(body.number, body.at);
-    }
+    let body = walk::walk_whole(walk, part.length, directory)?;
+    let sheet = stage_three(walk, part, body)?;
     let first_numbers = body.first_numbers;
-    Against {
-        sheet: stage_three(file, extent, part, body),
+    Ok(Against {
+        sheet,
         layers: body.layers,
         unlisted: body.unlisted,
         first_numbers,
-    }
+    })
 }
 
 // A file of records at a stride, behind stage one, against the records of a directory: its sheet part, then its body.
@@ -185,27 +135,27 @@ pub(crate) fn open_against(
     file: &[u8],
     stride: Stride,
     before: usize,
-    directory: &[u8],
-    edition: Edition,
-) -> Against
-    ensures { OpenedAgainst (records_of stride file.now) before (records_of Plain directory.now) edition result }
+    directory: Directory,
+) -> Result<Against, Refusal>
+    ensures { OpenedAgainst (records_of stride file.now) before (records_of Plain directory.entry.records.now) directory.entry.edition (against_said result) }
 {
-    let part = part_and_index::sheet_part(file, stride);
-    if part.fault != 0 {
-        return refused_against(part.fault, part.at);
-    }
+    let part = part_and_index::sheet_part(file, stride)?;
     let extent = Extent {
         stride,
         records: files::count(file, stride),
         before,
     };
-    open_body(file, extent, part, directory, edition)
+    open_body(&Walk { file, extent }, part, directory)
 }
 
 // The same with no directory.
-pub(crate) fn open_file(file: &[u8], stride: Stride, before: usize) -> Sheet
-    ensures { result ≡ records_sheet (records_of stride file.now) before }
+pub(crate) fn open_file(file: &[u8], stride: Stride, before: usize) -> Result<Sheet, Refusal>
+    ensures { sheet_said result ≡ records_sheet (records_of stride file.now) before }
 {
-    let opened = open_against(file, stride, before, &file[..0], Edition::One);
-    opened.sheet
+    let none = Directory {
+        records: &file[..0],
+        edition: Edition::One,
+    };
+    let opened = open_against(file, stride, before, none)?;
+    Ok(opened.sheet)
 }

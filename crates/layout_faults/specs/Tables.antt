@@ -1,69 +1,62 @@
--- The columns of a record against tables of their starts, widths, forms, least and greatest numbers, as the code asks them. Private functions
--- cite it; that it ends in the record's fault is shown in proofs/Tables. Assumes nothing.
-use Rattle.std.specs.Prelude.{◌≡◌, Bool, true, cond, ◌&&◌, ◌||◌, List, [], ◌∷◌, ℕ, eqb, ℤ, pos, length, get_or}
+-- The columns of a record against the rows of a table, as the code asks them, and what is asked of a layout beside its table. Private functions cite it;
+-- that it ends in the record's fault is shown in proofs/Tables. Assumes nothing.
+use Rattle.std.specs.Prelude.{Bool, true, cond, ◌&&◌, ◌||◌, List, [], ◌∷◌, ℕ, ℤ, Option, Some, None}
 use Rattle.std.specs.Int.Signed.{le_z}
-use Rattle.format.specs.Basics.{first, unless}
 use Rattle.format.specs.Column.{formed, integer}
-use Rattle.format.specs.Layout.{is_one}
+use Rattle.format.specs.Layout.{is_one, Col}
 use Rattle.columns.specs.InRecord.{column_at, spaces_at}
-use Rattle.layouts.specs.Tables.{integer_form, integer_or_spaces_form}
+use Rattle.layouts.specs.declared.Form.{Form}
+use Rattle.layouts.specs.declared.Form.TheVariants.{Integer, IntegerOrSpaces, Blank}
+use Rattle.layouts.specs.declared.TableColumn.{TableColumn}
+use Rattle.layouts.specs.Tables.{listed, rule_of}
 
--- a column is well formed, by its form: an integer; an integer or spaces; of another, a blank, nothing is asked
-unfoldable pub formed_as : (form : ℕ) → List ℕ → (start width : ℕ) → Bool
-formed_as form l start width =
-    cond (eqb form integer_form)
-    (formed (column_at l start width))
-    (cond (eqb form integer_or_spaces_form) (spaces_at l start width || formed (column_at l start width)) true)
+-- an integer or spaces
+unfoldable pub integer_or_spaces : List ℕ → TableColumn → Bool
+integer_or_spaces l c = formed (column_at l c.start c.width) || spaces_at l c.start c.width
 
--- a number lies between the least and the greatest; only of an integer is it asked
+-- a number lies between the least and the greatest
 abbrev pub between : ℤ → ℤ → ℤ → Bool
 between low high z = le_z low z && le_z z high
 
-unfoldable pub between_as : (form : ℕ) → List ℕ → (start width : ℕ) → (low high : ℤ) → Bool
-between_as form l start width low high = cond (eqb form integer_form) (between low high (integer (column_at l start width))) true
+-- a column is well formed, by what stands in it: an integer; an integer or spaces; of a blank nothing is asked
+abbrev pub formed_by : Form → List ℕ → TableColumn → Bool
+formed_by Integer l c = formed (column_at l c.start c.width)
+formed_by IntegerOrSpaces l c = integer_or_spaces l c
+formed_by Blank l c = true
 
--- one column: 5 before 6
-unfoldable pub fault_as : List ℕ → (start width form : ℕ) → (low high : ℤ) → ℕ
-fault_as l start width form low high = first (unless (formed_as form l start width) 5) (unless (between_as form l start width low high) 6)
+-- its number lies between its ends; only of an integer is it asked
+abbrev pub between_by : Form → List ℕ → TableColumn → Bool
+between_by Integer l c = between c.low c.high (integer (column_at l c.start c.width))
+between_by IntegerOrSpaces l c = true
+between_by Blank l c = true
 
--- an integer or spaces, by the fault that an integer has there
-unfoldable pub unless_spaces : List ℕ → (start width fault : ℕ) → ℕ
-unless_spaces l start width fault = cond (eqb fault 5) (unless (spaces_at l start width) 5) 0
+-- whether a number is inside, or none where it is malformed: 5 before 6
+abbrev pub inside_if : (formed inside : Bool) → Option Bool
+inside_if formed inside = cond formed (Some inside) None
 
--- tables of one length
-abbrev pub Alike : (starts widths forms : List ℕ) → (lows highs : List ℤ) → Type 0
-Alike starts widths forms lows highs =
-    (length widths ≡ length starts) × (length forms ≡ length starts) × (length lows ≡ length starts) × (length highs ≡ length starts)
+unfoldable pub integer_told : List ℕ → TableColumn → Option Bool
+integer_told l c = inside_if (formed_by Integer l c) (between_by Integer l c)
 
--- column i of the tables
-unfoldable pub fault_of : List ℕ → (i : ℕ) → (starts widths forms : List ℕ) → (lows highs : List ℤ) → ℕ
-fault_of l i starts widths forms lows highs =
-    fault_as l (get_or starts i 0) (get_or widths i 0) (get_or forms i 0) (get_or lows i (pos 0)) (get_or highs i (pos 0))
+unfoldable pub told : List ℕ → TableColumn → Option Bool
+told l c = inside_if (formed_by c.form l c) (between_by c.form l c)
 
--- every column is well formed
-unfoldable pub formed_at : List ℕ → (starts widths forms : List ℕ) → Bool
-formed_at l [] widths forms = true
-formed_at l (s ∷ starts) [] forms = true
-formed_at l (s ∷ starts) (w ∷ widths) [] = true
-formed_at l (s ∷ starts) (w ∷ widths) (f ∷ forms) = formed_as f l s w && formed_at l starts widths forms
+-- every column of a table
+unfoldable pub formed_at : List ℕ → List TableColumn → Bool
+formed_at l [] = true
+formed_at l (c ∷ cs) = formed_by c.form l c && formed_at l cs
 
--- the number of every column lies between its ends
-unfoldable pub between_at : List ℕ → (starts widths forms : List ℕ) → (lows highs : List ℤ) → Bool
-between_at l [] widths forms lows highs = true
-between_at l (s ∷ starts) [] forms lows highs = true
-between_at l (s ∷ starts) (w ∷ widths) [] lows highs = true
-between_at l (s ∷ starts) (w ∷ widths) (f ∷ forms) [] highs = true
-between_at l (s ∷ starts) (w ∷ widths) (f ∷ forms) (a ∷ lows) [] = true
-between_at l (s ∷ starts) (w ∷ widths) (f ∷ forms) (a ∷ lows) (b ∷ highs) = between_as f l s w a b && between_at l starts widths forms lows highs
+unfoldable pub between_at : List ℕ → List TableColumn → Bool
+between_at l [] = true
+between_at l (c ∷ cs) = between_by c.form l c && between_at l cs
 
--- 5 before 6, and 5 for bytes that are no record
-abbrev pub answer : Bool → Bool → Bool → ℕ
-answer whole formed inside = cond whole (first (unless formed 5) (unless inside 6)) 5
-
-unfoldable pub table_fault : List ℕ → (starts widths forms : List ℕ) → (lows highs : List ℤ) → ℕ
-table_fault l starts widths forms lows highs =
-    answer (eqb (length l) 84) (formed_at l starts widths forms) (between_at l starts widths forms lows highs)
+unfoldable pub table_told : List ℕ → List TableColumn → Option Bool
+table_told l table = inside_if (formed_at l table) (between_at l table)
 
 -- the number of a column, 0 where it has none, is one of a list
 unfoldable pub listed_at : List ℕ → ℕ → ℕ → List ℕ → Bool
 listed_at l start width numbers = is_one (integer (column_at l start width)) numbers
+
+-- what lists ask beside their ends
+unfoldable pub all_listed : List Col → List ℕ → Bool
+all_listed [] l = true
+all_listed (c ∷ cs) l = listed (rule_of c.what) (integer (column_at l c.start c.width)) && all_listed cs l

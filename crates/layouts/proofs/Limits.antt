@@ -1,7 +1,7 @@
--- The numbers of a layout's tables are the least and the greatest that its columns may hold, where they may hold a number. Assumes nothing.
+-- The numbers of a layout's table are the least and the greatest that its columns may hold, where they may hold a number. Assumes nothing.
 use mathlib.Core.Path.{◌≡◌, sym, ◌∙◌}
 use mathlib.Core.Bool.{Bool, true, false, cond, ◌&&◌, false≢true}
-use mathlib.Core.List.{List, [], ◌∷◌}
+use mathlib.Core.List.{List, [], ◌∷◌, map}
 use Prim.Native.Nat.{ℕ, zero, suc, ◌-◌, ◌^◌, ◌≤◌}
 use native.Mathlib.Omega.{arith}
 use borrow.Author.Tests.{leb-true}
@@ -13,7 +13,8 @@ use Rattle.format.specs.Column.{fits}
 use Rattle.format.specs.Layout.{Rule, any_sign, at_least, range, within, one_of, is_one, inside, Col}
 use Rattle.format.proofs.Basics.{and-true}
 use Rattle.format.proofs.ColumnFits.{fits-range, size-range}
-use Rattle.layouts.specs.Tables.{tabled, is_numeric, low, high, rule_of, lows_of, highs_of, Least, Greatest, LeastEach, least-none, least_more, GreatestEach, greatest-none, greatest-more, Lows, Highs}
+use Rattle.layouts.specs.declared.TableColumn.{TableColumn}
+use Rattle.layouts.specs.Tables.{tabled, is_numeric, low, high, rule_of, Least, Greatest, LeastEach, least-none, least_more, GreatestEach, greatest-none, greatest-more, table_of, Table}
 use Rattle.layouts.proofs.Ranges.{list-between}
 
 -- what a width of 1 to 18 holds lies between two numbers
@@ -54,43 +55,39 @@ holds_by c z h =
     let b = and-true (leb 1 c.width) (leb c.width 18) a.0 in
     ((leb-true 1 c.width b.0, leb-true c.width 18 b.1), and-true (fits c.width z) (inside (rule_of c.what) z) a.1)
 
-abbrev pub hold_lows : List Col → Bool
-hold_lows [] = true
-hold_lows (c ∷ cs) = cond (is_numeric c.what) (holds c (low (rule_of c.what) c.width)) true && hold_lows cs
+abbrev pub hold_limits : List Col → Bool
+hold_limits [] = true
+hold_limits (c ∷ cs) = cond (is_numeric c.what) (holds c (low (rule_of c.what) c.width) && holds c (high (rule_of c.what) c.width)) true && hold_limits cs
 
-abbrev pub hold_highs : List Col → Bool
-hold_highs [] = true
-hold_highs (c ∷ cs) = cond (is_numeric c.what) (holds c (high (rule_of c.what) c.width)) true && hold_highs cs
+-- of one column: it may hold both of its limits, and no number that it may hold lies outside them
+module _ (c : Col) where
+  least : (t : Bool) → cond t (holds c (low (rule_of c.what) c.width) && holds c (high (rule_of c.what) c.width)) true ≡ true → t ≡ true → Least (rule_of c.what) c.width (cond t (low (rule_of c.what) c.width) (pos 0))
+  least true h e =
+      let a = and-true (holds c (low (rule_of c.what) c.width)) (holds c (high (rule_of c.what) c.width)) h in
+      let b = holds_by c (low (rule_of c.what) c.width) a.0 in
+      record { fits_width = b.1.0; allowed = b.1.1; none_less = λ z e i. not-below c.width z b.0.0 b.0.1 e (rule_of c.what) i }
+  least false h e = absurd (false≢true e)
 
-least_each : (cs : List Col) → hold_lows cs ≡ true → LeastEach cs (lows_of cs)
-unfolding lows_of
+  greatest : (t : Bool) → cond t (holds c (low (rule_of c.what) c.width) && holds c (high (rule_of c.what) c.width)) true ≡ true → t ≡ true → Greatest (rule_of c.what) c.width (cond t (high (rule_of c.what) c.width) (pos 0))
+  greatest true h e =
+      let a = and-true (holds c (low (rule_of c.what) c.width)) (holds c (high (rule_of c.what) c.width)) h in
+      let b = holds_by c (high (rule_of c.what) c.width) a.1 in
+      record { fits_width = b.1.0; allowed = b.1.1; none_greater = λ z e i. not_above c.width z b.0.0 b.0.1 e (rule_of c.what) i }
+  greatest false h e = absurd (false≢true e)
+
+abbrev one : Col → Bool
+one c = cond (is_numeric c.what) (holds c (low (rule_of c.what) c.width) && holds c (high (rule_of c.what) c.width)) true
+
+least_each : (cs : List Col) → hold_limits cs ≡ true → LeastEach cs (map (λ (c : TableColumn). c.low) (table_of cs))
+unfolding table_of
 least_each [] h = least-none
-least_each (c ∷ cs) h =
-    let a = and-true (cond (is_numeric c.what) (holds c (low (rule_of c.what) c.width)) true) (hold_lows cs) h in
-    least_more (go (is_numeric c.what) a.0) (least_each cs a.1)
-  where
-    go : (t : Bool) → cond t (holds c (low (rule_of c.what) c.width)) true ≡ true → t ≡ true → Least (rule_of c.what) c.width (cond t (low (rule_of c.what) c.width) (pos 0))
-    go true h e =
-        let b = holds_by c (low (rule_of c.what) c.width) h in
-        record { fits_width = b.1.0; allowed = b.1.1; none_less = λ z e i. not-below c.width z b.0.0 b.0.1 e (rule_of c.what) i }
-    go false h e = absurd (false≢true e)
+least_each (c ∷ cs) h = let a = and-true (one c) (hold_limits cs) h in least_more (least c (is_numeric c.what) a.0) (least_each cs a.1)
 
-greatest_each : (cs : List Col) → hold_highs cs ≡ true → GreatestEach cs (highs_of cs)
-unfolding highs_of
+greatest_each : (cs : List Col) → hold_limits cs ≡ true → GreatestEach cs (map (λ (c : TableColumn). c.high) (table_of cs))
+unfolding table_of
 greatest_each [] h = greatest-none
-greatest_each (c ∷ cs) h =
-    let a = and-true (cond (is_numeric c.what) (holds c (high (rule_of c.what) c.width)) true) (hold_highs cs) h in
-    greatest-more (go (is_numeric c.what) a.0) (greatest_each cs a.1)
-  where
-    go : (t : Bool) → cond t (holds c (high (rule_of c.what) c.width)) true ≡ true → t ≡ true → Greatest (rule_of c.what) c.width (cond t (high (rule_of c.what) c.width) (pos 0))
-    go true h e =
-        let b = holds_by c (high (rule_of c.what) c.width) h in
-        record { fits_width = b.1.0; allowed = b.1.1; none_greater = λ z e i. not_above c.width z b.0.0 b.0.1 e (rule_of c.what) i }
-    go false h e = absurd (false≢true e)
+greatest_each (c ∷ cs) h = let a = and-true (one c) (hold_limits cs) h in greatest-more (greatest c (is_numeric c.what) a.0) (greatest_each cs a.1)
 
--- a layout's tables; that each number is one that its column may hold is computed
-pub lows : (layout : List Col) (l : List ℤ) → l ≡ lows_of (tabled layout) → hold_lows (tabled layout) ≡ true → Lows layout l
-lows layout l e h = record { are = e; least = rw e (least_each (tabled layout) h) }
-
-pub highs : (layout : List Col) (l : List ℤ) → l ≡ highs_of (tabled layout) → hold_highs (tabled layout) ≡ true → Highs layout l
-highs layout l e h = record { are = e; greatest = rw e (greatest_each (tabled layout) h) }
+-- a layout's table; that each of its numbers is one that its column may hold is computed
+pub table : (layout : List Col) (l : List TableColumn) → l ≡ table_of (tabled layout) → hold_limits (tabled layout) ≡ true → Table layout l
+table layout l e h = record { are = e; least = rw e (least_each (tabled layout) h); greatest = rw e (greatest_each (tabled layout) h) }

@@ -18,6 +18,7 @@ use Rattle.format.specs.Column.{strip, is_digit, all_digits, value_of, is_number
 use Rattle.format.specs.Layout.{Rule, any_sign, at_least, range, within, one_of, is_one, inside}
 use Rattle.format.proofs.Columns.{number-below, strip-short}
 use Rattle.format.proofs.ColumnFits.{minus_pos, size-range}
+pub use Rattle.layouts.specs.Tables.{listed}
 use Rattle.layouts.specs.Tables.{low, high}
 
 -- ---- what a width holds
@@ -103,14 +104,6 @@ list-between (pos k) top ns = go (member k ns) refl
     go : (t : Bool) → member k ns ≡ t → member k ns ≡ leb (foldr min top ns) k && (leb k (foldr max 0 ns) && member k ns)
     go true e = simp (e, le-leb _ _ (from-least k top ns e), le-leb _ _ (to-greatest k ns e))
     go false e = simp (e, and-false)
-
--- what a list asks beside its ends
-abbrev pub listed : Rule → ℤ → Bool
-listed any_sign z = true
-listed (at_least n) z = true
-listed (range n m) z = true
-listed (within n) z = true
-listed (one_of ns) z = is_one z ns
 
 pub inside-between : (rule : Rule) (l : List ℕ) → inside rule (integer (column_of l)) ≡ le_z (low rule (length l)) (integer (column_of l)) && (le_z (integer (column_of l)) (high rule (length l)) && listed rule (integer (column_of l)))
 inside-between any_sign l = simp (at-least l, at_most l)

@@ -1,8 +1,7 @@
-ghost use Rattle.std.specs.Prelude.{◌≡◌};
 ghost use Rattle.format.specs.Layout.{data_2d};
-ghost use Rattle.layouts.specs.Tables.{spans_of};
+ghost use Rattle.layouts.specs.Lies.{lie_data_2d};
 
-use super::{Span, Spans12};
+use super::{Form, Layout, Span, TableColumn, column};
 
 // Data 2D: six points of two I7 (any sign).
 #[derive(Clone, Copy)]
@@ -58,17 +57,20 @@ impl Data2D {
     pub const Y_6_START: usize = Self::X_6_START + Self::X_6_WIDTH;
 
     pub const END: usize = Self::Y_6_START + Self::Y_6_WIDTH;
+}
 
-    pub fn end() -> usize
-        ensures { result ≡ 84 }
-    {
+impl Layout for Data2D {
+    ghost columns = { data_2d };
+
+    ghost lie = { lie_data_2d };
+
+    fn end() -> usize {
         Self::END
     }
 
-    pub fn columns() -> Spans12
-        ensures { result ≡ spans_of data_2d }
-    {
-        [
+    #[tactic(auto, unfolding(crate::specs::Tables::spans_of, format::specs::Layout::data_2d))]
+    fn spans() -> &'static [Span] {
+        &[
             Span(Self::X_1_START, Self::X_1_WIDTH),
             Span(Self::Y_1_START, Self::Y_1_WIDTH),
             Span(Self::X_2_START, Self::X_2_WIDTH),
@@ -81,6 +83,23 @@ impl Data2D {
             Span(Self::Y_5_START, Self::Y_5_WIDTH),
             Span(Self::X_6_START, Self::X_6_WIDTH),
             Span(Self::Y_6_START, Self::Y_6_WIDTH),
+        ]
+    }
+
+    fn table() -> &'static [TableColumn] {
+        &[
+            column!(Self::X_1_START, Self::X_1_WIDTH => Integer, -999999, 9999999),
+            column!(Self::Y_1_START, Self::Y_1_WIDTH => Integer, -999999, 9999999),
+            column!(Self::X_2_START, Self::X_2_WIDTH => Integer, -999999, 9999999),
+            column!(Self::Y_2_START, Self::Y_2_WIDTH => Integer, -999999, 9999999),
+            column!(Self::X_3_START, Self::X_3_WIDTH => Integer, -999999, 9999999),
+            column!(Self::Y_3_START, Self::Y_3_WIDTH => Integer, -999999, 9999999),
+            column!(Self::X_4_START, Self::X_4_WIDTH => Integer, -999999, 9999999),
+            column!(Self::Y_4_START, Self::Y_4_WIDTH => Integer, -999999, 9999999),
+            column!(Self::X_5_START, Self::X_5_WIDTH => Integer, -999999, 9999999),
+            column!(Self::Y_5_START, Self::Y_5_WIDTH => Integer, -999999, 9999999),
+            column!(Self::X_6_START, Self::X_6_WIDTH => Integer, -999999, 9999999),
+            column!(Self::Y_6_START, Self::Y_6_WIDTH => Integer, -999999, 9999999),
         ]
     }
 }

@@ -1,8 +1,7 @@
-ghost use Rattle.std.specs.Prelude.{◌≡◌};
 ghost use Rattle.format.specs.Layout.{data_attribute};
-ghost use Rattle.layouts.specs.Tables.{spans_of};
+ghost use Rattle.layouts.specs.Lies.{lie_data_attribute};
 
-use super::{Span, Spans1};
+use super::{Layout, Span, TableColumn};
 
 // Data attribute: 84 free.
 #[derive(Clone, Copy)]
@@ -14,16 +13,23 @@ impl DataAttribute {
     pub const FREE_START: usize = 0;
 
     pub const END: usize = Self::FREE_START + Self::FREE_WIDTH;
+}
 
-    pub fn end() -> usize
-        ensures { result ≡ 84 }
-    {
+impl Layout for DataAttribute {
+    ghost columns = { data_attribute };
+
+    ghost lie = { lie_data_attribute };
+
+    fn end() -> usize {
         Self::END
     }
 
-    pub fn columns() -> Spans1
-        ensures { result ≡ spans_of data_attribute }
-    {
-        [Span(Self::FREE_START, Self::FREE_WIDTH)]
+    #[tactic(auto, unfolding(crate::specs::Tables::spans_of, format::specs::Layout::data_attribute))]
+    fn spans() -> &'static [Span] {
+        &[Span(Self::FREE_START, Self::FREE_WIDTH)]
+    }
+
+    fn table() -> &'static [TableColumn] {
+        &[]
     }
 }

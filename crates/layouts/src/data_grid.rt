@@ -1,8 +1,7 @@
-ghost use Rattle.std.specs.Prelude.{◌≡◌};
 ghost use Rattle.format.specs.Layout.{data_grid};
-ghost use Rattle.layouts.specs.Tables.{spans_of, starts_of, widths_of, forms_of, tabled};
+ghost use Rattle.layouts.specs.Lies.{lie_data_grid};
 
-use super::{Bytes12, INTEGER, Span, Spans12};
+use super::{Form, Layout, Span, TableColumn, column};
 
 // Data grid: twelve I7 (any sign).
 #[derive(Clone, Copy)]
@@ -58,17 +57,20 @@ impl DataGrid {
     pub const HEIGHT_12_START: usize = Self::HEIGHT_11_START + Self::HEIGHT_11_WIDTH;
 
     pub const END: usize = Self::HEIGHT_12_START + Self::HEIGHT_12_WIDTH;
+}
 
-    pub fn end() -> usize
-        ensures { result ≡ 84 }
-    {
+impl Layout for DataGrid {
+    ghost columns = { data_grid };
+
+    ghost lie = { lie_data_grid };
+
+    fn end() -> usize {
         Self::END
     }
 
-    pub fn columns() -> Spans12
-        ensures { result ≡ spans_of data_grid }
-    {
-        [
+    #[tactic(auto, unfolding(crate::specs::Tables::spans_of, format::specs::Layout::data_grid))]
+    fn spans() -> &'static [Span] {
+        &[
             Span(Self::HEIGHT_1_START, Self::HEIGHT_1_WIDTH),
             Span(Self::HEIGHT_2_START, Self::HEIGHT_2_WIDTH),
             Span(Self::HEIGHT_3_START, Self::HEIGHT_3_WIDTH),
@@ -84,21 +86,20 @@ impl DataGrid {
         ]
     }
 
-    pub fn starts() -> Bytes12
-        ensures { result ≡ starts_of (tabled data_grid) }
-    {
-        [0, 7, 14, 21, 28, 35, 42, 49, 56, 63, 70, 77]
-    }
-
-    pub fn widths() -> Bytes12
-        ensures { result ≡ widths_of (tabled data_grid) }
-    {
-        [7; 12]
-    }
-
-    pub fn forms() -> Bytes12
-        ensures { result ≡ forms_of (tabled data_grid) }
-    {
-        [INTEGER; 12]
+    fn table() -> &'static [TableColumn] {
+        &[
+            column!(Self::HEIGHT_1_START, Self::HEIGHT_1_WIDTH => Integer, -999999, 9999999),
+            column!(Self::HEIGHT_2_START, Self::HEIGHT_2_WIDTH => Integer, -999999, 9999999),
+            column!(Self::HEIGHT_3_START, Self::HEIGHT_3_WIDTH => Integer, -999999, 9999999),
+            column!(Self::HEIGHT_4_START, Self::HEIGHT_4_WIDTH => Integer, -999999, 9999999),
+            column!(Self::HEIGHT_5_START, Self::HEIGHT_5_WIDTH => Integer, -999999, 9999999),
+            column!(Self::HEIGHT_6_START, Self::HEIGHT_6_WIDTH => Integer, -999999, 9999999),
+            column!(Self::HEIGHT_7_START, Self::HEIGHT_7_WIDTH => Integer, -999999, 9999999),
+            column!(Self::HEIGHT_8_START, Self::HEIGHT_8_WIDTH => Integer, -999999, 9999999),
+            column!(Self::HEIGHT_9_START, Self::HEIGHT_9_WIDTH => Integer, -999999, 9999999),
+            column!(Self::HEIGHT_10_START, Self::HEIGHT_10_WIDTH => Integer, -999999, 9999999),
+            column!(Self::HEIGHT_11_START, Self::HEIGHT_11_WIDTH => Integer, -999999, 9999999),
+            column!(Self::HEIGHT_12_START, Self::HEIGHT_12_WIDTH => Integer, -999999, 9999999),
+        ]
     }
 }

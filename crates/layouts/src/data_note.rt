@@ -1,8 +1,7 @@
-ghost use Rattle.std.specs.Prelude.{◌≡◌};
 ghost use Rattle.format.specs.Layout.{data_note};
-ghost use Rattle.layouts.specs.Tables.{spans_of, starts_of, widths_of, forms_of, tabled, Lows, Highs};
+ghost use Rattle.layouts.specs.Lies.{lie_data_note};
 
-use super::{Bytes5, INTEGER, Limits5, Span, Spans6};
+use super::{Form, Layout, Span, TableColumn, column};
 
 // Data note: I1 (0,1), direction I7, I5, I5, I2, A64.
 #[derive(Clone, Copy)]
@@ -35,17 +34,20 @@ impl DataNote {
     pub const TEXT_START: usize = Self::LINE_WEIGHT_START + Self::LINE_WEIGHT_WIDTH;
 
     pub const END: usize = Self::TEXT_START + Self::TEXT_WIDTH;
+}
 
-    pub fn end() -> usize
-        ensures { result ≡ 84 }
-    {
+impl Layout for DataNote {
+    ghost columns = { data_note };
+
+    ghost lie = { lie_data_note };
+
+    fn end() -> usize {
         Self::END
     }
 
-    pub fn columns() -> Spans6
-        ensures { result ≡ spans_of data_note }
-    {
-        [
+    #[tactic(auto, unfolding(crate::specs::Tables::spans_of, format::specs::Layout::data_note))]
+    fn spans() -> &'static [Span] {
+        &[
             Span(Self::WRITING_DIRECTION_START, Self::WRITING_DIRECTION_WIDTH),
             Span(Self::DIRECTION_START, Self::DIRECTION_WIDTH),
             Span(Self::LETTER_SIZE_START, Self::LETTER_SIZE_WIDTH),
@@ -55,33 +57,13 @@ impl DataNote {
         ]
     }
 
-    pub fn starts() -> Bytes5
-        ensures { result ≡ starts_of (tabled data_note) }
-    {
-        [0, 1, 8, 13, 18]
-    }
-
-    pub fn widths() -> Bytes5
-        ensures { result ≡ widths_of (tabled data_note) }
-    {
-        [1, 7, 5, 5, 2]
-    }
-
-    pub fn forms() -> Bytes5
-        ensures { result ≡ forms_of (tabled data_note) }
-    {
-        [INTEGER; 5]
-    }
-
-    pub fn lows() -> Limits5
-        ensures { Lows data_note result }
-    {
-        [0, -999999, 0, 0, 0]
-    }
-
-    pub fn highs() -> Limits5
-        ensures { Highs data_note result }
-    {
-        [1, 9999999, 99999, 99999, 99]
+    fn table() -> &'static [TableColumn] {
+        &[
+            column!(Self::WRITING_DIRECTION_START, Self::WRITING_DIRECTION_WIDTH => Integer, 0, 1),
+            column!(Self::DIRECTION_START, Self::DIRECTION_WIDTH => Integer, -999999, 9999999),
+            column!(Self::LETTER_SIZE_START, Self::LETTER_SIZE_WIDTH => Integer, 0, 99999),
+            column!(Self::LETTER_SPACING_START, Self::LETTER_SPACING_WIDTH => Integer, 0, 99999),
+            column!(Self::LINE_WEIGHT_START, Self::LINE_WEIGHT_WIDTH => Integer, 0, 99),
+        ]
     }
 }

@@ -1,8 +1,7 @@
-ghost use Rattle.std.specs.Prelude.{◌≡◌};
 ghost use Rattle.format.specs.Layout.{element};
-ghost use Rattle.layouts.specs.Tables.{spans_of, starts_of, widths_of, forms_of, tabled, Lows, Highs};
+ghost use Rattle.layouts.specs.Lies.{lie_element};
 
-use super::{BLANK, Bytes19, INTEGER, INTEGER_OR_SPACES, Limits19, Span, Spans24};
+use super::{Form, Layout, Span, TableColumn, column};
 
 // Element: A2 "E1" to "E8", I4, I2, I4, number I4, level I2, figure I2, data kind I1 (0..6), accuracy I2, note kind I1
 // (0..2), shift I2 (-9..9), break I1, data count I4, records I4, X I7, Y I7 (any sign), value I7 (any sign) or seven
@@ -109,17 +108,20 @@ impl Element {
     pub const REPEAT_START: usize = Self::BLANK_START + Self::BLANK_WIDTH;
 
     pub const END: usize = Self::REPEAT_START + Self::REPEAT_WIDTH;
+}
 
-    pub fn end() -> usize
-        ensures { result ≡ 84 }
-    {
+impl Layout for Element {
+    ghost columns = { element };
+
+    ghost lie = { lie_element };
+
+    fn end() -> usize {
         Self::END
     }
 
-    pub fn columns() -> Spans24
-        ensures { result ≡ spans_of element }
-    {
-        [
+    #[tactic(auto, unfolding(crate::specs::Tables::spans_of, format::specs::Layout::element))]
+    fn spans() -> &'static [Span] {
+        &[
             Span(Self::TYPE_START, Self::TYPE_WIDTH),
             Span(Self::CLASS_START, Self::CLASS_WIDTH),
             Span(Self::AREA_CODE_START, Self::AREA_CODE_WIDTH),
@@ -147,113 +149,27 @@ impl Element {
         ]
     }
 
-    pub fn starts() -> Bytes19
-        ensures { result ≡ starts_of (tabled element) }
-    {
-        [
-            2, // class
-            6, // area code
-            8, // information
-            12, // number
-            16, // level
-            18, // figure
-            20, // data kind
-            21, // accuracy
-            23, // note kind
-            24, // shift
-            26, // break
-            27, // data count
-            31, // records
-            35, // X
-            42, // Y
-            49, // value
-            56, // attribute class
-            77, // blank
-            83, // repeat
-        ]
-    }
-
-    pub fn widths() -> Bytes19
-        ensures { result ≡ widths_of (tabled element) }
-    {
-        [4, 2, 4, 4, 2, 2, 1, 2, 1, 2, 1, 4, 4, 7, 7, 7, 2, 6, 1]
-    }
-
-    pub fn forms() -> Bytes19
-        ensures { result ≡ forms_of (tabled element) }
-    {
-        [
-            INTEGER, // class
-            INTEGER, // area code
-            INTEGER, // information
-            INTEGER, // number
-            INTEGER, // level
-            INTEGER, // figure
-            INTEGER, // data kind
-            INTEGER, // accuracy
-            INTEGER, // note kind
-            INTEGER, // shift
-            INTEGER, // break
-            INTEGER, // data count
-            INTEGER, // records
-            INTEGER, // X
-            INTEGER, // Y
-            INTEGER_OR_SPACES, // value
-            INTEGER, // attribute class
-            BLANK, // blank
-            INTEGER, // repeat
-        ]
-    }
-
-    pub fn lows() -> Limits19
-        ensures { Lows element result }
-    {
-        [
-            0, // class
-            0, // area code
-            0, // information
-            0, // number
-            0, // level
-            0, // figure
-            0, // data kind
-            0, // accuracy
-            0, // note kind
-            -9, // shift
-            0, // break
-            0, // data count
-            0, // records
-            -999999, // X
-            -999999, // Y
-            -999999, // value
-            0, // attribute class
-            0, // blank
-            1, // repeat
-        ]
-    }
-
-    pub fn highs() -> Limits19
-        ensures { Highs element result }
-    {
-        [
-            9999, // class
-            99, // area code
-            9999, // information
-            9999, // number
-            99, // level
-            99, // figure
-            6, // data kind
-            99, // accuracy
-            2, // note kind
-            9, // shift
-            9, // break
-            9999, // data count
-            9999, // records
-            9999999, // X
-            9999999, // Y
-            9999999, // value
-            99, // attribute class
-            0, // blank
-            9, // repeat
+    fn table() -> &'static [TableColumn] {
+        &[
+            column!(Self::CLASS_START, Self::CLASS_WIDTH => Integer, 0, 9999),
+            column!(Self::AREA_CODE_START, Self::AREA_CODE_WIDTH => Integer, 0, 99),
+            column!(Self::INFORMATION_START, Self::INFORMATION_WIDTH => Integer, 0, 9999),
+            column!(Self::NUMBER_START, Self::NUMBER_WIDTH => Integer, 0, 9999),
+            column!(Self::LEVEL_START, Self::LEVEL_WIDTH => Integer, 0, 99),
+            column!(Self::FIGURE_START, Self::FIGURE_WIDTH => Integer, 0, 99),
+            column!(Self::DATA_KIND_START, Self::DATA_KIND_WIDTH => Integer, 0, 6),
+            column!(Self::ACCURACY_START, Self::ACCURACY_WIDTH => Integer, 0, 99),
+            column!(Self::NOTE_KIND_START, Self::NOTE_KIND_WIDTH => Integer, 0, 2),
+            column!(Self::SHIFT_START, Self::SHIFT_WIDTH => Integer, -9, 9),
+            column!(Self::BREAK_START, Self::BREAK_WIDTH => Integer, 0, 9),
+            column!(Self::DATA_COUNT_START, Self::DATA_COUNT_WIDTH => Integer, 0, 9999),
+            column!(Self::RECORDS_START, Self::RECORDS_WIDTH => Integer, 0, 9999),
+            column!(Self::X_START, Self::X_WIDTH => Integer, -999999, 9999999),
+            column!(Self::Y_START, Self::Y_WIDTH => Integer, -999999, 9999999),
+            column!(Self::VALUE_START, Self::VALUE_WIDTH => IntegerOrSpaces, -999999, 9999999),
+            column!(Self::ATTRIBUTE_CLASS_START, Self::ATTRIBUTE_CLASS_WIDTH => Integer, 0, 99),
+            column!(Self::BLANK_START, Self::BLANK_WIDTH => Blank, 0, 0),
+            column!(Self::REPEAT_START, Self::REPEAT_WIDTH => Integer, 1, 9),
         ]
     }
 }

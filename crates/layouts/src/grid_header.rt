@@ -1,8 +1,7 @@
-ghost use Rattle.std.specs.Prelude.{◌≡◌};
 ghost use Rattle.format.specs.Layout.{grid_header};
-ghost use Rattle.layouts.specs.Tables.{spans_of, starts_of, widths_of, forms_of, tabled, Lows, Highs};
+ghost use Rattle.layouts.specs.Lies.{lie_grid_header};
 
-use super::{BLANK, Bytes16, INTEGER, Limits16, Span, Spans20};
+use super::{Form, Layout, Span, TableColumn, column};
 
 // Grid header: A2 "G ", I4, I2, I4, I4, level I2, rows I4, columns I4 (both at least 1), records I4, cell sizes I7, I7
 // (at least 1), origin I7, I7 (any sign), A4, A4, A4, I2, I2, 9X, repeat I1 (1..9).
@@ -91,17 +90,20 @@ impl GridHeader {
     pub const REPEAT_START: usize = Self::BLANK_START + Self::BLANK_WIDTH;
 
     pub const END: usize = Self::REPEAT_START + Self::REPEAT_WIDTH;
+}
 
-    pub fn end() -> usize
-        ensures { result ≡ 84 }
-    {
+impl Layout for GridHeader {
+    ghost columns = { grid_header };
+
+    ghost lie = { lie_grid_header };
+
+    fn end() -> usize {
         Self::END
     }
 
-    pub fn columns() -> Spans20
-        ensures { result ≡ spans_of grid_header }
-    {
-        [
+    #[tactic(auto, unfolding(crate::specs::Tables::spans_of, format::specs::Layout::grid_header))]
+    fn spans() -> &'static [Span] {
+        &[
             Span(Self::TYPE_START, Self::TYPE_WIDTH),
             Span(Self::CLASS_START, Self::CLASS_WIDTH),
             Span(Self::AREA_CODE_START, Self::AREA_CODE_WIDTH),
@@ -125,84 +127,24 @@ impl GridHeader {
         ]
     }
 
-    pub fn starts() -> Bytes16
-        ensures { result ≡ starts_of (tabled grid_header) }
-    {
-        [
-            2, // class
-            6, // area code
-            8, // information
-            12, // number
-            16, // level
-            18, // rows
-            22, // columns
-            26, // records
-            30, // cell rows
-            37, // cell columns
-            44, // origin X
-            51, // origin Y
-            70, // figure
-            72, // accuracy
-            74, // blank
-            83, // repeat
-        ]
-    }
-
-    pub fn widths() -> Bytes16
-        ensures { result ≡ widths_of (tabled grid_header) }
-    {
-        [4, 2, 4, 4, 2, 4, 4, 4, 7, 7, 7, 7, 2, 2, 9, 1]
-    }
-
-    pub fn forms() -> Bytes16
-        ensures { result ≡ forms_of (tabled grid_header) }
-    {
-        [
-            INTEGER, // class
-            INTEGER, // area code
-            INTEGER, // information
-            INTEGER, // number
-            INTEGER, // level
-            INTEGER, // rows
-            INTEGER, // columns
-            INTEGER, // records
-            INTEGER, // cell rows
-            INTEGER, // cell columns
-            INTEGER, // origin X
-            INTEGER, // origin Y
-            INTEGER, // figure
-            INTEGER, // accuracy
-            BLANK, // blank
-            INTEGER, // repeat
-        ]
-    }
-
-    pub fn lows() -> Limits16
-        ensures { Lows grid_header result }
-    {
-        [0, 0, 0, 0, 0, 1, 1, 0, 1, 1, -999999, -999999, 0, 0, 0, 1]
-    }
-
-    pub fn highs() -> Limits16
-        ensures { Highs grid_header result }
-    {
-        [
-            9999, // class
-            99, // area code
-            9999, // information
-            9999, // number
-            99, // level
-            9999, // rows
-            9999, // columns
-            9999, // records
-            9999999, // cell rows
-            9999999, // cell columns
-            9999999, // origin X
-            9999999, // origin Y
-            99, // figure
-            99, // accuracy
-            0, // blank
-            9, // repeat
+    fn table() -> &'static [TableColumn] {
+        &[
+            column!(Self::CLASS_START, Self::CLASS_WIDTH => Integer, 0, 9999),
+            column!(Self::AREA_CODE_START, Self::AREA_CODE_WIDTH => Integer, 0, 99),
+            column!(Self::INFORMATION_START, Self::INFORMATION_WIDTH => Integer, 0, 9999),
+            column!(Self::NUMBER_START, Self::NUMBER_WIDTH => Integer, 0, 9999),
+            column!(Self::LEVEL_START, Self::LEVEL_WIDTH => Integer, 0, 99),
+            column!(Self::ROWS_START, Self::ROWS_WIDTH => Integer, 1, 9999),
+            column!(Self::COLUMNS_START, Self::COLUMNS_WIDTH => Integer, 1, 9999),
+            column!(Self::RECORDS_START, Self::RECORDS_WIDTH => Integer, 0, 9999),
+            column!(Self::CELL_ROWS_START, Self::CELL_ROWS_WIDTH => Integer, 1, 9999999),
+            column!(Self::CELL_COLUMNS_START, Self::CELL_COLUMNS_WIDTH => Integer, 1, 9999999),
+            column!(Self::ORIGIN_X_START, Self::ORIGIN_X_WIDTH => Integer, -999999, 9999999),
+            column!(Self::ORIGIN_Y_START, Self::ORIGIN_Y_WIDTH => Integer, -999999, 9999999),
+            column!(Self::FIGURE_START, Self::FIGURE_WIDTH => Integer, 0, 99),
+            column!(Self::ACCURACY_START, Self::ACCURACY_WIDTH => Integer, 0, 99),
+            column!(Self::BLANK_START, Self::BLANK_WIDTH => Blank, 0, 0),
+            column!(Self::REPEAT_START, Self::REPEAT_WIDTH => Integer, 1, 9),
         ]
     }
 }

@@ -1,8 +1,7 @@
-ghost use Rattle.std.specs.Prelude.{◌≡◌};
 ghost use Rattle.format.specs.Layout.{header};
-ghost use Rattle.layouts.specs.Tables.{spans_of, starts_of, widths_of, forms_of, tabled, Lows, Highs};
+ghost use Rattle.layouts.specs.Lies.{lie_header};
 
-use super::{BLANK, Bytes18, INTEGER, Limits18, Span, Spans22};
+use super::{Form, Layout, Span, TableColumn, column};
 
 // Header: A2 "H ", class I4, area I2, information I4, number I4, level I2, then ten I5: total, groups, area, line,
 // circle, arc, point, direction, note, attribute; grid and net I1, A4, A4, A4, method I2, 1X.
@@ -99,17 +98,20 @@ impl Header {
     pub const BLANK_START: usize = Self::METHOD_START + Self::METHOD_WIDTH;
 
     pub const END: usize = Self::BLANK_START + Self::BLANK_WIDTH;
+}
 
-    pub fn end() -> usize
-        ensures { result ≡ 84 }
-    {
+impl Layout for Header {
+    ghost columns = { header };
+
+    ghost lie = { lie_header };
+
+    fn end() -> usize {
         Self::END
     }
 
-    pub fn columns() -> Spans22
-        ensures { result ≡ spans_of header }
-    {
-        [
+    #[tactic(auto, unfolding(crate::specs::Tables::spans_of, format::specs::Layout::header))]
+    fn spans() -> &'static [Span] {
+        &[
             Span(Self::TYPE_START, Self::TYPE_WIDTH),
             Span(Self::CLASS_START, Self::CLASS_WIDTH),
             Span(Self::AREA_CODE_START, Self::AREA_CODE_WIDTH),
@@ -135,90 +137,26 @@ impl Header {
         ]
     }
 
-    pub fn starts() -> Bytes18
-        ensures { result ≡ starts_of (tabled header) }
-    {
-        [
-            2, // class
-            6, // area code
-            8, // information
-            12, // number
-            16, // level
-            18, // total
-            23, // groups
-            28, // area
-            33, // line
-            38, // circle
-            43, // arc
-            48, // point
-            53, // direction
-            58, // note
-            63, // attribute
-            68, // grid and net
-            81, // method
-            83, // blank
-        ]
-    }
-
-    pub fn widths() -> Bytes18
-        ensures { result ≡ widths_of (tabled header) }
-    {
-        [4, 2, 4, 4, 2, 5, 5, 5, 5, 5, 5, 5, 5, 5, 5, 1, 2, 1]
-    }
-
-    pub fn forms() -> Bytes18
-        ensures { result ≡ forms_of (tabled header) }
-    {
-        [
-            INTEGER, // class
-            INTEGER, // area code
-            INTEGER, // information
-            INTEGER, // number
-            INTEGER, // level
-            INTEGER, // total
-            INTEGER, // groups
-            INTEGER, // area
-            INTEGER, // line
-            INTEGER, // circle
-            INTEGER, // arc
-            INTEGER, // point
-            INTEGER, // direction
-            INTEGER, // note
-            INTEGER, // attribute
-            INTEGER, // grid and net
-            INTEGER, // method
-            BLANK, // blank
-        ]
-    }
-
-    pub fn lows() -> Limits18
-        ensures { Lows header result }
-    {
-        [0; 18]
-    }
-
-    pub fn highs() -> Limits18
-        ensures { Highs header result }
-    {
-        [
-            9999, // class
-            99, // area code
-            9999, // information
-            9999, // number
-            99, // level
-            99999, // total
-            99999, // groups
-            99999, // area
-            99999, // line
-            99999, // circle
-            99999, // arc
-            99999, // point
-            99999, // direction
-            99999, // note
-            99999, // attribute
-            9, // grid and net
-            99, // method
-            0, // blank
+    fn table() -> &'static [TableColumn] {
+        &[
+            column!(Self::CLASS_START, Self::CLASS_WIDTH => Integer, 0, 9999),
+            column!(Self::AREA_CODE_START, Self::AREA_CODE_WIDTH => Integer, 0, 99),
+            column!(Self::INFORMATION_START, Self::INFORMATION_WIDTH => Integer, 0, 9999),
+            column!(Self::NUMBER_START, Self::NUMBER_WIDTH => Integer, 0, 9999),
+            column!(Self::LEVEL_START, Self::LEVEL_WIDTH => Integer, 0, 99),
+            column!(Self::TOTAL_START, Self::TOTAL_WIDTH => Integer, 0, 99999),
+            column!(Self::GROUPS_START, Self::GROUPS_WIDTH => Integer, 0, 99999),
+            column!(Self::AREA_START, Self::AREA_WIDTH => Integer, 0, 99999),
+            column!(Self::LINE_START, Self::LINE_WIDTH => Integer, 0, 99999),
+            column!(Self::CIRCLE_START, Self::CIRCLE_WIDTH => Integer, 0, 99999),
+            column!(Self::ARC_START, Self::ARC_WIDTH => Integer, 0, 99999),
+            column!(Self::POINT_START, Self::POINT_WIDTH => Integer, 0, 99999),
+            column!(Self::DIRECTION_START, Self::DIRECTION_WIDTH => Integer, 0, 99999),
+            column!(Self::NOTE_START, Self::NOTE_WIDTH => Integer, 0, 99999),
+            column!(Self::ATTRIBUTE_START, Self::ATTRIBUTE_WIDTH => Integer, 0, 99999),
+            column!(Self::GRID_AND_NET_START, Self::GRID_AND_NET_WIDTH => Integer, 0, 9),
+            column!(Self::METHOD_START, Self::METHOD_WIDTH => Integer, 0, 99),
+            column!(Self::BLANK_START, Self::BLANK_WIDTH => Blank, 0, 0),
         ]
     }
 }

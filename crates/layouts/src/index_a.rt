@@ -1,8 +1,7 @@
-ghost use Rattle.std.specs.Prelude.{◌≡◌};
 ghost use Rattle.format.specs.Layout.{index_a};
-ghost use Rattle.layouts.specs.Tables.{spans_of, starts_of, widths_of, forms_of, tabled, Lows, Highs};
+ghost use Rattle.layouts.specs.Lies.{lie_index_a};
 
-use super::{BLANK, Bytes10, INTEGER, Limits10, Span, Spans13};
+use super::{Form, Layout, Span, TableColumn, column};
 
 // Index a: A2 "I ", system I2 (1..19), A30, sheets I3, number of b records I2, number of c records I4, two flags I1
 // (0,1), year I4, A30, version I1 (1), blank use I1, 3X.
@@ -63,17 +62,20 @@ impl IndexA {
     pub const BLANK_START: usize = Self::BLANK_USE_START + Self::BLANK_USE_WIDTH;
 
     pub const END: usize = Self::BLANK_START + Self::BLANK_WIDTH;
+}
 
-    pub fn end() -> usize
-        ensures { result ≡ 84 }
-    {
+impl Layout for IndexA {
+    ghost columns = { index_a };
+
+    ghost lie = { lie_index_a };
+
+    fn end() -> usize {
         Self::END
     }
 
-    pub fn columns() -> Spans13
-        ensures { result ≡ spans_of index_a }
-    {
-        [
+    #[tactic(auto, unfolding(crate::specs::Tables::spans_of, format::specs::Layout::index_a))]
+    fn spans() -> &'static [Span] {
+        &[
             Span(Self::TYPE_START, Self::TYPE_WIDTH),
             Span(Self::SYSTEM_START, Self::SYSTEM_WIDTH),
             Span(Self::PLANNING_AGENCY_START, Self::PLANNING_AGENCY_WIDTH),
@@ -90,44 +92,18 @@ impl IndexA {
         ]
     }
 
-    pub fn starts() -> Bytes10
-        ensures { result ≡ starts_of (tabled index_a) }
-    {
-        [2, 34, 37, 39, 43, 44, 45, 79, 80, 81]
-    }
-
-    pub fn widths() -> Bytes10
-        ensures { result ≡ widths_of (tabled index_a) }
-    {
-        [2, 3, 2, 4, 1, 1, 4, 1, 1, 3]
-    }
-
-    pub fn forms() -> Bytes10
-        ensures { result ≡ forms_of (tabled index_a) }
-    {
-        [
-            INTEGER, // system
-            INTEGER, // sheets
-            INTEGER, // b records
-            INTEGER, // c records
-            INTEGER, // shift flag
-            INTEGER, // break flag
-            INTEGER, // year
-            INTEGER, // version
-            INTEGER, // blank use
-            BLANK, // blank
+    fn table() -> &'static [TableColumn] {
+        &[
+            column!(Self::SYSTEM_START, Self::SYSTEM_WIDTH => Integer, 1, 19),
+            column!(Self::SHEETS_START, Self::SHEETS_WIDTH => Integer, 0, 999),
+            column!(Self::B_RECORDS_START, Self::B_RECORDS_WIDTH => Integer, 0, 99),
+            column!(Self::C_RECORDS_START, Self::C_RECORDS_WIDTH => Integer, 0, 9999),
+            column!(Self::SHIFT_FLAG_START, Self::SHIFT_FLAG_WIDTH => Integer, 0, 1),
+            column!(Self::BREAK_FLAG_START, Self::BREAK_FLAG_WIDTH => Integer, 0, 1),
+            column!(Self::YEAR_START, Self::YEAR_WIDTH => Integer, 0, 9999),
+            column!(Self::VERSION_START, Self::VERSION_WIDTH => Integer, 1, 1),
+            column!(Self::BLANK_USE_START, Self::BLANK_USE_WIDTH => Integer, 0, 9),
+            column!(Self::BLANK_START, Self::BLANK_WIDTH => Blank, 0, 0),
         ]
-    }
-
-    pub fn lows() -> Limits10
-        ensures { Lows index_a result }
-    {
-        [1, 0, 0, 0, 0, 0, 0, 1, 0, 0]
-    }
-
-    pub fn highs() -> Limits10
-        ensures { Highs index_a result }
-    {
-        [19, 999, 99, 9999, 1, 1, 9999, 1, 9, 0]
     }
 }

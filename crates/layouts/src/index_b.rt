@@ -1,8 +1,7 @@
-ghost use Rattle.std.specs.Prelude.{◌≡◌};
 ghost use Rattle.format.specs.Layout.{index_b};
-ghost use Rattle.layouts.specs.Tables.{spans_of, starts_of, widths_of, forms_of, tabled, Lows, Highs};
+ghost use Rattle.layouts.specs.Lies.{lie_index_b};
 
-use super::{BLANK, Bytes1, Limits1, Span, Spans11};
+use super::{Form, Layout, Span, TableColumn, column};
 
 // Index b: ten A8, 4X.
 #[derive(Clone, Copy)]
@@ -54,17 +53,20 @@ impl IndexB {
     pub const BLANK_START: usize = Self::SHEET_10_START + Self::SHEET_10_WIDTH;
 
     pub const END: usize = Self::BLANK_START + Self::BLANK_WIDTH;
+}
 
-    pub fn end() -> usize
-        ensures { result ≡ 84 }
-    {
+impl Layout for IndexB {
+    ghost columns = { index_b };
+
+    ghost lie = { lie_index_b };
+
+    fn end() -> usize {
         Self::END
     }
 
-    pub fn columns() -> Spans11
-        ensures { result ≡ spans_of index_b }
-    {
-        [
+    #[tactic(auto, unfolding(crate::specs::Tables::spans_of, format::specs::Layout::index_b))]
+    fn spans() -> &'static [Span] {
+        &[
             Span(Self::SHEET_1_START, Self::SHEET_1_WIDTH),
             Span(Self::SHEET_2_START, Self::SHEET_2_WIDTH),
             Span(Self::SHEET_3_START, Self::SHEET_3_WIDTH),
@@ -79,33 +81,7 @@ impl IndexB {
         ]
     }
 
-    pub fn starts() -> Bytes1
-        ensures { result ≡ starts_of (tabled index_b) }
-    {
-        [80]
-    }
-
-    pub fn widths() -> Bytes1
-        ensures { result ≡ widths_of (tabled index_b) }
-    {
-        [4]
-    }
-
-    pub fn forms() -> Bytes1
-        ensures { result ≡ forms_of (tabled index_b) }
-    {
-        [BLANK]
-    }
-
-    pub fn lows() -> Limits1
-        ensures { Lows index_b result }
-    {
-        [0]
-    }
-
-    pub fn highs() -> Limits1
-        ensures { Highs index_b result }
-    {
-        [0]
+    fn table() -> &'static [TableColumn] {
+        &[column!(Self::BLANK_START, Self::BLANK_WIDTH => Blank, 0, 0)]
     }
 }

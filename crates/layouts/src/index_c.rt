@@ -1,8 +1,7 @@
-ghost use Rattle.std.specs.Prelude.{◌≡◌};
 ghost use Rattle.format.specs.Layout.{index_c};
-ghost use Rattle.layouts.specs.Tables.{spans_of, starts_of, widths_of, forms_of, tabled, Lows, Highs};
+ghost use Rattle.layouts.specs.Lies.{lie_index_c};
 
-use super::{Bytes13, INTEGER, Limits13, Span, Spans14};
+use super::{Form, Layout, Span, TableColumn, column};
 
 // Index c: I4, I4, nine flags I1 (0,1), direction I1 (0,1), dimension I1 (0,2,3), A65.
 #[derive(Clone, Copy)]
@@ -68,17 +67,20 @@ impl IndexC {
     pub const DESCRIPTION_START: usize = Self::DIMENSION_START + Self::DIMENSION_WIDTH;
 
     pub const END: usize = Self::DESCRIPTION_START + Self::DESCRIPTION_WIDTH;
+}
 
-    pub fn end() -> usize
-        ensures { result ≡ 84 }
-    {
+impl Layout for IndexC {
+    ghost columns = { index_c };
+
+    ghost lie = { lie_index_c };
+
+    fn end() -> usize {
         Self::END
     }
 
-    pub fn columns() -> Spans14
-        ensures { result ≡ spans_of index_c }
-    {
-        [
+    #[tactic(auto, unfolding(crate::specs::Tables::spans_of, format::specs::Layout::index_c))]
+    fn spans() -> &'static [Span] {
+        &[
             Span(Self::CLASS_USED_START, Self::CLASS_USED_WIDTH),
             Span(Self::STANDARD_CLASS_START, Self::STANDARD_CLASS_WIDTH),
             Span(Self::AREA_USED_START, Self::AREA_USED_WIDTH),
@@ -96,33 +98,21 @@ impl IndexC {
         ]
     }
 
-    pub fn starts() -> Bytes13
-        ensures { result ≡ starts_of (tabled index_c) }
-    {
-        [0, 4, 8, 9, 10, 11, 12, 13, 14, 15, 16, 17, 18]
-    }
-
-    pub fn widths() -> Bytes13
-        ensures { result ≡ widths_of (tabled index_c) }
-    {
-        [4, 4, 1, 1, 1, 1, 1, 1, 1, 1, 1, 1, 1]
-    }
-
-    pub fn forms() -> Bytes13
-        ensures { result ≡ forms_of (tabled index_c) }
-    {
-        [INTEGER; 13]
-    }
-
-    pub fn lows() -> Limits13
-        ensures { Lows index_c result }
-    {
-        [0; 13]
-    }
-
-    pub fn highs() -> Limits13
-        ensures { Highs index_c result }
-    {
-        [9999, 9999, 1, 1, 1, 1, 1, 1, 1, 1, 1, 1, 3]
+    fn table() -> &'static [TableColumn] {
+        &[
+            column!(Self::CLASS_USED_START, Self::CLASS_USED_WIDTH => Integer, 0, 9999),
+            column!(Self::STANDARD_CLASS_START, Self::STANDARD_CLASS_WIDTH => Integer, 0, 9999),
+            column!(Self::AREA_USED_START, Self::AREA_USED_WIDTH => Integer, 0, 1),
+            column!(Self::LINE_USED_START, Self::LINE_USED_WIDTH => Integer, 0, 1),
+            column!(Self::CIRCLE_USED_START, Self::CIRCLE_USED_WIDTH => Integer, 0, 1),
+            column!(Self::ARC_USED_START, Self::ARC_USED_WIDTH => Integer, 0, 1),
+            column!(Self::POINT_USED_START, Self::POINT_USED_WIDTH => Integer, 0, 1),
+            column!(Self::DIRECTION_USED_START, Self::DIRECTION_USED_WIDTH => Integer, 0, 1),
+            column!(Self::NOTE_USED_START, Self::NOTE_USED_WIDTH => Integer, 0, 1),
+            column!(Self::ATTRIBUTE_USED_START, Self::ATTRIBUTE_USED_WIDTH => Integer, 0, 1),
+            column!(Self::GRID_AND_NET_USED_START, Self::GRID_AND_NET_USED_WIDTH => Integer, 0, 1),
+            column!(Self::DIRECTION_START, Self::DIRECTION_WIDTH => Integer, 0, 1),
+            column!(Self::DIMENSION_START, Self::DIMENSION_WIDTH => Integer, 0, 3),
+        ]
     }
 }

@@ -1,8 +1,7 @@
-ghost use Rattle.std.specs.Prelude.{◌≡◌};
 ghost use Rattle.format.specs.Layout.{net_header};
-ghost use Rattle.layouts.specs.Tables.{spans_of, starts_of, widths_of, forms_of, tabled, Lows, Highs};
+ghost use Rattle.layouts.specs.Lies.{lie_net_header};
 
-use super::{BLANK, Bytes10, INTEGER, Limits10, Span, Spans14};
+use super::{Form, Layout, Span, TableColumn, column};
 
 // Net header: A2 "T ", I4, I2, I4, I4, level I2, I2, triangles I6 (at least 1), records I6, A4, A4, A4, I2, 38X.
 #[derive(Clone, Copy)]
@@ -66,17 +65,20 @@ impl NetHeader {
     pub const BLANK_START: usize = Self::ACCURACY_START + Self::ACCURACY_WIDTH;
 
     pub const END: usize = Self::BLANK_START + Self::BLANK_WIDTH;
+}
 
-    pub fn end() -> usize
-        ensures { result ≡ 84 }
-    {
+impl Layout for NetHeader {
+    ghost columns = { net_header };
+
+    ghost lie = { lie_net_header };
+
+    fn end() -> usize {
         Self::END
     }
 
-    pub fn columns() -> Spans14
-        ensures { result ≡ spans_of net_header }
-    {
-        [
+    #[tactic(auto, unfolding(crate::specs::Tables::spans_of, format::specs::Layout::net_header))]
+    fn spans() -> &'static [Span] {
+        &[
             Span(Self::TYPE_START, Self::TYPE_WIDTH),
             Span(Self::CLASS_START, Self::CLASS_WIDTH),
             Span(Self::AREA_CODE_START, Self::AREA_CODE_WIDTH),
@@ -94,44 +96,18 @@ impl NetHeader {
         ]
     }
 
-    pub fn starts() -> Bytes10
-        ensures { result ≡ starts_of (tabled net_header) }
-    {
-        [2, 6, 8, 12, 16, 18, 20, 26, 44, 46]
-    }
-
-    pub fn widths() -> Bytes10
-        ensures { result ≡ widths_of (tabled net_header) }
-    {
-        [4, 2, 4, 4, 2, 2, 6, 6, 2, 38]
-    }
-
-    pub fn forms() -> Bytes10
-        ensures { result ≡ forms_of (tabled net_header) }
-    {
-        [
-            INTEGER, // class
-            INTEGER, // area code
-            INTEGER, // information
-            INTEGER, // number
-            INTEGER, // level
-            INTEGER, // figure
-            INTEGER, // triangles
-            INTEGER, // records
-            INTEGER, // accuracy
-            BLANK, // blank
+    fn table() -> &'static [TableColumn] {
+        &[
+            column!(Self::CLASS_START, Self::CLASS_WIDTH => Integer, 0, 9999),
+            column!(Self::AREA_CODE_START, Self::AREA_CODE_WIDTH => Integer, 0, 99),
+            column!(Self::INFORMATION_START, Self::INFORMATION_WIDTH => Integer, 0, 9999),
+            column!(Self::NUMBER_START, Self::NUMBER_WIDTH => Integer, 0, 9999),
+            column!(Self::LEVEL_START, Self::LEVEL_WIDTH => Integer, 0, 99),
+            column!(Self::FIGURE_START, Self::FIGURE_WIDTH => Integer, 0, 99),
+            column!(Self::TRIANGLES_START, Self::TRIANGLES_WIDTH => Integer, 1, 999999),
+            column!(Self::RECORDS_START, Self::RECORDS_WIDTH => Integer, 0, 999999),
+            column!(Self::ACCURACY_START, Self::ACCURACY_WIDTH => Integer, 0, 99),
+            column!(Self::BLANK_START, Self::BLANK_WIDTH => Blank, 0, 0),
         ]
-    }
-
-    pub fn lows() -> Limits10
-        ensures { Lows net_header result }
-    {
-        [0, 0, 0, 0, 0, 0, 1, 0, 0, 0]
-    }
-
-    pub fn highs() -> Limits10
-        ensures { Highs net_header result }
-    {
-        [9999, 99, 9999, 9999, 99, 99, 999999, 999999, 99, 0]
     }
 }

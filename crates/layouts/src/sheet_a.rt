@@ -1,8 +1,7 @@
-ghost use Rattle.std.specs.Prelude.{◌≡◌};
 ghost use Rattle.format.specs.Layout.{sheet_a};
-ghost use Rattle.layouts.specs.Tables.{spans_of, starts_of, widths_of, forms_of, tabled, Lows, Highs};
+ghost use Rattle.layouts.specs.Lies.{lie_sheet_a};
 
-use super::{BLANK, Bytes5, INTEGER, Limits5, Span, Spans9};
+use super::{Form, Layout, Span, TableColumn, column};
 
 // Sheet a: A2 "M ", A8, A20, level I5, A30, revisions I2, version I1 (1), blank use I1, 15X.
 #[derive(Clone, Copy)]
@@ -46,17 +45,20 @@ impl SheetA {
     pub const BLANK_START: usize = Self::BLANK_USE_START + Self::BLANK_USE_WIDTH;
 
     pub const END: usize = Self::BLANK_START + Self::BLANK_WIDTH;
+}
 
-    pub fn end() -> usize
-        ensures { result ≡ 84 }
-    {
+impl Layout for SheetA {
+    ghost columns = { sheet_a };
+
+    ghost lie = { lie_sheet_a };
+
+    fn end() -> usize {
         Self::END
     }
 
-    pub fn columns() -> Spans9
-        ensures { result ≡ spans_of sheet_a }
-    {
-        [
+    #[tactic(auto, unfolding(crate::specs::Tables::spans_of, format::specs::Layout::sheet_a))]
+    fn spans() -> &'static [Span] {
+        &[
             Span(Self::TYPE_START, Self::TYPE_WIDTH),
             Span(Self::SHEET_START, Self::SHEET_WIDTH),
             Span(Self::SHEET_NAME_START, Self::SHEET_NAME_WIDTH),
@@ -69,33 +71,13 @@ impl SheetA {
         ]
     }
 
-    pub fn starts() -> Bytes5
-        ensures { result ≡ starts_of (tabled sheet_a) }
-    {
-        [30, 65, 67, 68, 69]
-    }
-
-    pub fn widths() -> Bytes5
-        ensures { result ≡ widths_of (tabled sheet_a) }
-    {
-        [5, 2, 1, 1, 15]
-    }
-
-    pub fn forms() -> Bytes5
-        ensures { result ≡ forms_of (tabled sheet_a) }
-    {
-        [INTEGER, INTEGER, INTEGER, INTEGER, BLANK]
-    }
-
-    pub fn lows() -> Limits5
-        ensures { Lows sheet_a result }
-    {
-        [500, 0, 1, 0, 0]
-    }
-
-    pub fn highs() -> Limits5
-        ensures { Highs sheet_a result }
-    {
-        [10000, 99, 1, 9, 0]
+    fn table() -> &'static [TableColumn] {
+        &[
+            column!(Self::LEVEL_START, Self::LEVEL_WIDTH => Integer, 500, 10000),
+            column!(Self::REVISIONS_START, Self::REVISIONS_WIDTH => Integer, 0, 99),
+            column!(Self::VERSION_START, Self::VERSION_WIDTH => Integer, 1, 1),
+            column!(Self::BLANK_USE_START, Self::BLANK_USE_WIDTH => Integer, 0, 9),
+            column!(Self::BLANK_START, Self::BLANK_WIDTH => Blank, 0, 0),
+        ]
     }
 }

@@ -1,8 +1,7 @@
-ghost use Rattle.std.specs.Prelude.{◌≡◌};
 ghost use Rattle.format.specs.Layout.{sheet_b};
-ghost use Rattle.layouts.specs.Tables.{spans_of, starts_of, widths_of, forms_of, tabled, Lows, Highs};
+ghost use Rattle.layouts.specs.Lies.{lie_sheet_b};
 
-use super::{BLANK, Bytes13, INTEGER, Limits13, Span, Spans13};
+use super::{Form, Layout, Span, TableColumn, column};
 
 // Sheet b: lower left X, Y, upper right X, Y (I7, any sign), 3 unjudged, element count I6, record count I7, unit I3,
 // upper left X, Y, lower right X, Y (I7, any sign), 9X.
@@ -63,17 +62,20 @@ impl SheetB {
     pub const BLANK_START: usize = Self::LOWER_RIGHT_Y_START + Self::LOWER_RIGHT_Y_WIDTH;
 
     pub const END: usize = Self::BLANK_START + Self::BLANK_WIDTH;
+}
 
-    pub fn end() -> usize
-        ensures { result ≡ 84 }
-    {
+impl Layout for SheetB {
+    ghost columns = { sheet_b };
+
+    ghost lie = { lie_sheet_b };
+
+    fn end() -> usize {
         Self::END
     }
 
-    pub fn columns() -> Spans13
-        ensures { result ≡ spans_of sheet_b }
-    {
-        [
+    #[tactic(auto, unfolding(crate::specs::Tables::spans_of, format::specs::Layout::sheet_b))]
+    fn spans() -> &'static [Span] {
+        &[
             Span(Self::LOWER_LEFT_X_START, Self::LOWER_LEFT_X_WIDTH),
             Span(Self::LOWER_LEFT_Y_START, Self::LOWER_LEFT_Y_WIDTH),
             Span(Self::UPPER_RIGHT_X_START, Self::UPPER_RIGHT_X_WIDTH),
@@ -90,75 +92,21 @@ impl SheetB {
         ]
     }
 
-    pub fn starts() -> Bytes13
-        ensures { result ≡ starts_of (tabled sheet_b) }
-    {
-        [0, 7, 14, 21, 28, 31, 37, 44, 47, 54, 61, 68, 75]
-    }
-
-    pub fn widths() -> Bytes13
-        ensures { result ≡ widths_of (tabled sheet_b) }
-    {
-        [7, 7, 7, 7, 3, 6, 7, 3, 7, 7, 7, 7, 9]
-    }
-
-    pub fn forms() -> Bytes13
-        ensures { result ≡ forms_of (tabled sheet_b) }
-    {
-        [
-            INTEGER, // lower left X
-            INTEGER, // lower left Y
-            INTEGER, // upper right X
-            INTEGER, // upper right Y
-            BLANK, // unjudged
-            INTEGER, // element count
-            INTEGER, // record count
-            INTEGER, // unit
-            INTEGER, // upper left X
-            INTEGER, // upper left Y
-            INTEGER, // lower right X
-            INTEGER, // lower right Y
-            BLANK, // blank
-        ]
-    }
-
-    pub fn lows() -> Limits13
-        ensures { Lows sheet_b result }
-    {
-        [
-            -999999, // lower left X
-            -999999, // lower left Y
-            -999999, // upper right X
-            -999999, // upper right Y
-            0, // unjudged
-            0, // element count
-            0, // record count
-            0, // unit
-            -999999, // upper left X
-            -999999, // upper left Y
-            -999999, // lower right X
-            -999999, // lower right Y
-            0, // blank
-        ]
-    }
-
-    pub fn highs() -> Limits13
-        ensures { Highs sheet_b result }
-    {
-        [
-            9999999, // lower left X
-            9999999, // lower left Y
-            9999999, // upper right X
-            9999999, // upper right Y
-            0, // unjudged
-            999999, // element count
-            9999999, // record count
-            999, // unit
-            9999999, // upper left X
-            9999999, // upper left Y
-            9999999, // lower right X
-            9999999, // lower right Y
-            0, // blank
+    fn table() -> &'static [TableColumn] {
+        &[
+            column!(Self::LOWER_LEFT_X_START, Self::LOWER_LEFT_X_WIDTH => Integer, -999999, 9999999),
+            column!(Self::LOWER_LEFT_Y_START, Self::LOWER_LEFT_Y_WIDTH => Integer, -999999, 9999999),
+            column!(Self::UPPER_RIGHT_X_START, Self::UPPER_RIGHT_X_WIDTH => Integer, -999999, 9999999),
+            column!(Self::UPPER_RIGHT_Y_START, Self::UPPER_RIGHT_Y_WIDTH => Integer, -999999, 9999999),
+            column!(Self::UNJUDGED_START, Self::UNJUDGED_WIDTH => Blank, 0, 0),
+            column!(Self::ELEMENT_COUNT_START, Self::ELEMENT_COUNT_WIDTH => Integer, 0, 999999),
+            column!(Self::RECORD_COUNT_START, Self::RECORD_COUNT_WIDTH => Integer, 0, 9999999),
+            column!(Self::UNIT_START, Self::UNIT_WIDTH => Integer, 0, 999),
+            column!(Self::UPPER_LEFT_X_START, Self::UPPER_LEFT_X_WIDTH => Integer, -999999, 9999999),
+            column!(Self::UPPER_LEFT_Y_START, Self::UPPER_LEFT_Y_WIDTH => Integer, -999999, 9999999),
+            column!(Self::LOWER_RIGHT_X_START, Self::LOWER_RIGHT_X_WIDTH => Integer, -999999, 9999999),
+            column!(Self::LOWER_RIGHT_Y_START, Self::LOWER_RIGHT_Y_WIDTH => Integer, -999999, 9999999),
+            column!(Self::BLANK_START, Self::BLANK_WIDTH => Blank, 0, 0),
         ]
     }
 }

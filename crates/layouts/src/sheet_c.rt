@@ -1,8 +1,7 @@
-ghost use Rattle.std.specs.Prelude.{◌≡◌};
 ghost use Rattle.format.specs.Layout.{sheet_c};
-ghost use Rattle.layouts.specs.Tables.{spans_of, starts_of, widths_of, forms_of, tabled, Lows, Highs};
+ghost use Rattle.layouts.specs.Lies.{lie_sheet_c};
 
-use super::{BLANK, Bytes1, Limits1, Span, Spans9};
+use super::{Form, Layout, Span, TableColumn, column};
 
 // Sheet c: eight A8, 20X.
 #[derive(Clone, Copy)]
@@ -46,17 +45,20 @@ impl SheetC {
     pub const BLANK_START: usize = Self::NEIGHBOUR_8_START + Self::NEIGHBOUR_8_WIDTH;
 
     pub const END: usize = Self::BLANK_START + Self::BLANK_WIDTH;
+}
 
-    pub fn end() -> usize
-        ensures { result ≡ 84 }
-    {
+impl Layout for SheetC {
+    ghost columns = { sheet_c };
+
+    ghost lie = { lie_sheet_c };
+
+    fn end() -> usize {
         Self::END
     }
 
-    pub fn columns() -> Spans9
-        ensures { result ≡ spans_of sheet_c }
-    {
-        [
+    #[tactic(auto, unfolding(crate::specs::Tables::spans_of, format::specs::Layout::sheet_c))]
+    fn spans() -> &'static [Span] {
+        &[
             Span(Self::NEIGHBOUR_1_START, Self::NEIGHBOUR_1_WIDTH),
             Span(Self::NEIGHBOUR_2_START, Self::NEIGHBOUR_2_WIDTH),
             Span(Self::NEIGHBOUR_3_START, Self::NEIGHBOUR_3_WIDTH),
@@ -69,33 +71,7 @@ impl SheetC {
         ]
     }
 
-    pub fn starts() -> Bytes1
-        ensures { result ≡ starts_of (tabled sheet_c) }
-    {
-        [64]
-    }
-
-    pub fn widths() -> Bytes1
-        ensures { result ≡ widths_of (tabled sheet_c) }
-    {
-        [20]
-    }
-
-    pub fn forms() -> Bytes1
-        ensures { result ≡ forms_of (tabled sheet_c) }
-    {
-        [BLANK]
-    }
-
-    pub fn lows() -> Limits1
-        ensures { Lows sheet_c result }
-    {
-        [0]
-    }
-
-    pub fn highs() -> Limits1
-        ensures { Highs sheet_c result }
-    {
-        [0]
+    fn table() -> &'static [TableColumn] {
+        &[column!(Self::BLANK_START, Self::BLANK_WIDTH => Blank, 0, 0)]
     }
 }

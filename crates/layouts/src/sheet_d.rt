@@ -1,8 +1,7 @@
-ghost use Rattle.std.specs.Prelude.{◌≡◌};
 ghost use Rattle.format.specs.Layout.{sheet_d};
-ghost use Rattle.layouts.specs.Tables.{spans_of, starts_of, widths_of, forms_of, tabled, Lows, Highs};
+ghost use Rattle.layouts.specs.Lies.{lie_sheet_d};
 
-use super::{BLANK, Bytes6, INTEGER, Limits6, Span, Spans10};
+use super::{Form, Layout, Span, TableColumn, column};
 
 // Sheet d: A4, A4, courses I1, number of f records I1, A30, A30, I1 (0..2), I1 and I1 (each 0..3 or 9; the sources
 // disagree on which is which), 11X.
@@ -51,17 +50,20 @@ impl SheetD {
     pub const BLANK_START: usize = Self::SECOND_CODE_START + Self::SECOND_CODE_WIDTH;
 
     pub const END: usize = Self::BLANK_START + Self::BLANK_WIDTH;
+}
 
-    pub fn end() -> usize
-        ensures { result ≡ 84 }
-    {
+impl Layout for SheetD {
+    ghost columns = { sheet_d };
+
+    ghost lie = { lie_sheet_d };
+
+    fn end() -> usize {
         Self::END
     }
 
-    pub fn columns() -> Spans10
-        ensures { result ≡ spans_of sheet_d }
-    {
-        [
+    #[tactic(auto, unfolding(crate::specs::Tables::spans_of, format::specs::Layout::sheet_d))]
+    fn spans() -> &'static [Span] {
+        &[
             Span(Self::MADE_START, Self::MADE_WIDTH),
             Span(Self::SURVEYED_START, Self::SURVEYED_WIDTH),
             Span(Self::COURSES_START, Self::COURSES_WIDTH),
@@ -75,33 +77,14 @@ impl SheetD {
         ]
     }
 
-    pub fn starts() -> Bytes6
-        ensures { result ≡ starts_of (tabled sheet_d) }
-    {
-        [8, 9, 70, 71, 72, 73]
-    }
-
-    pub fn widths() -> Bytes6
-        ensures { result ≡ widths_of (tabled sheet_d) }
-    {
-        [1, 1, 1, 1, 1, 11]
-    }
-
-    pub fn forms() -> Bytes6
-        ensures { result ≡ forms_of (tabled sheet_d) }
-    {
-        [INTEGER, INTEGER, INTEGER, INTEGER, INTEGER, BLANK]
-    }
-
-    pub fn lows() -> Limits6
-        ensures { Lows sheet_d result }
-    {
-        [0; 6]
-    }
-
-    pub fn highs() -> Limits6
-        ensures { Highs sheet_d result }
-    {
-        [9, 9, 2, 9, 9, 0]
+    fn table() -> &'static [TableColumn] {
+        &[
+            column!(Self::COURSES_START, Self::COURSES_WIDTH => Integer, 0, 9),
+            column!(Self::F_RECORDS_START, Self::F_RECORDS_WIDTH => Integer, 0, 9),
+            column!(Self::DATUM_START, Self::DATUM_WIDTH => Integer, 0, 2),
+            column!(Self::FIRST_CODE_START, Self::FIRST_CODE_WIDTH => Integer, 0, 9),
+            column!(Self::SECOND_CODE_START, Self::SECOND_CODE_WIDTH => Integer, 0, 9),
+            column!(Self::BLANK_START, Self::BLANK_WIDTH => Blank, 0, 0),
+        ]
     }
 }

@@ -1,8 +1,7 @@
-ghost use Rattle.std.specs.Prelude.{◌≡◌};
 ghost use Rattle.format.specs.Layout.{sheet_f};
-ghost use Rattle.layouts.specs.Tables.{spans_of, starts_of, widths_of, forms_of, tabled, Lows, Highs};
+ghost use Rattle.layouts.specs.Lies.{lie_sheet_f};
 
-use super::{BLANK, Bytes13, INTEGER, Limits13, Span, Spans19};
+use super::{Form, Layout, Span, TableColumn, column};
 
 // Sheet f: three times (A4, A4, I5, I1, I4, I4), 18X.
 #[derive(Clone, Copy)]
@@ -92,17 +91,20 @@ impl SheetF {
     pub const BLANK_START: usize = Self::LAST_PHOTOGRAPH_3_START + Self::LAST_PHOTOGRAPH_3_WIDTH;
 
     pub const END: usize = Self::BLANK_START + Self::BLANK_WIDTH;
+}
 
-    pub fn end() -> usize
-        ensures { result ≡ 84 }
-    {
+impl Layout for SheetF {
+    ghost columns = { sheet_f };
+
+    ghost lie = { lie_sheet_f };
+
+    fn end() -> usize {
         Self::END
     }
 
-    pub fn columns() -> Spans19
-        ensures { result ≡ spans_of sheet_f }
-    {
-        [
+    #[tactic(auto, unfolding(crate::specs::Tables::spans_of, format::specs::Layout::sheet_f))]
+    fn spans() -> &'static [Span] {
+        &[
             Span(Self::COURSE_1_START, Self::COURSE_1_WIDTH),
             Span(Self::FLOWN_1_START, Self::FLOWN_1_WIDTH),
             Span(Self::SCALE_1_START, Self::SCALE_1_WIDTH),
@@ -134,61 +136,21 @@ impl SheetF {
         ]
     }
 
-    pub fn starts() -> Bytes13
-        ensures { result ≡ starts_of (tabled sheet_f) }
-    {
-        [8, 13, 14, 18, 30, 35, 36, 40, 52, 57, 58, 62, 66]
-    }
-
-    pub fn widths() -> Bytes13
-        ensures { result ≡ widths_of (tabled sheet_f) }
-    {
-        [5, 1, 4, 4, 5, 1, 4, 4, 5, 1, 4, 4, 18]
-    }
-
-    pub fn forms() -> Bytes13
-        ensures { result ≡ forms_of (tabled sheet_f) }
-    {
-        [
-            INTEGER, // scale 1
-            INTEGER, // photographs 1
-            INTEGER, // first photograph 1
-            INTEGER, // last photograph 1
-            INTEGER, // scale 2
-            INTEGER, // photographs 2
-            INTEGER, // first photograph 2
-            INTEGER, // last photograph 2
-            INTEGER, // scale 3
-            INTEGER, // photographs 3
-            INTEGER, // first photograph 3
-            INTEGER, // last photograph 3
-            BLANK, // blank
-        ]
-    }
-
-    pub fn lows() -> Limits13
-        ensures { Lows sheet_f result }
-    {
-        [0; 13]
-    }
-
-    pub fn highs() -> Limits13
-        ensures { Highs sheet_f result }
-    {
-        [
-            99999, // scale 1
-            9, // photographs 1
-            9999, // first photograph 1
-            9999, // last photograph 1
-            99999, // scale 2
-            9, // photographs 2
-            9999, // first photograph 2
-            9999, // last photograph 2
-            99999, // scale 3
-            9, // photographs 3
-            9999, // first photograph 3
-            9999, // last photograph 3
-            0, // blank
+    fn table() -> &'static [TableColumn] {
+        &[
+            column!(Self::SCALE_1_START, Self::SCALE_1_WIDTH => Integer, 0, 99999),
+            column!(Self::PHOTOGRAPHS_1_START, Self::PHOTOGRAPHS_1_WIDTH => Integer, 0, 9),
+            column!(Self::FIRST_PHOTOGRAPH_1_START, Self::FIRST_PHOTOGRAPH_1_WIDTH => Integer, 0, 9999),
+            column!(Self::LAST_PHOTOGRAPH_1_START, Self::LAST_PHOTOGRAPH_1_WIDTH => Integer, 0, 9999),
+            column!(Self::SCALE_2_START, Self::SCALE_2_WIDTH => Integer, 0, 99999),
+            column!(Self::PHOTOGRAPHS_2_START, Self::PHOTOGRAPHS_2_WIDTH => Integer, 0, 9),
+            column!(Self::FIRST_PHOTOGRAPH_2_START, Self::FIRST_PHOTOGRAPH_2_WIDTH => Integer, 0, 9999),
+            column!(Self::LAST_PHOTOGRAPH_2_START, Self::LAST_PHOTOGRAPH_2_WIDTH => Integer, 0, 9999),
+            column!(Self::SCALE_3_START, Self::SCALE_3_WIDTH => Integer, 0, 99999),
+            column!(Self::PHOTOGRAPHS_3_START, Self::PHOTOGRAPHS_3_WIDTH => Integer, 0, 9),
+            column!(Self::FIRST_PHOTOGRAPH_3_START, Self::FIRST_PHOTOGRAPH_3_WIDTH => Integer, 0, 9999),
+            column!(Self::LAST_PHOTOGRAPH_3_START, Self::LAST_PHOTOGRAPH_3_WIDTH => Integer, 0, 9999),
+            column!(Self::BLANK_START, Self::BLANK_WIDTH => Blank, 0, 0),
         ]
     }
 }

@@ -3,99 +3,55 @@
 // What it writes is held to the answers of an implementation that shares nothing with the library.
 #![tactic(auto)]
 
-ghost use Rattle.std.specs.Prelude.{◌≡◌, ◌≤◌, ◌<◌, length, IfOk};
+ghost use Rattle.std.specs.Prelude.{◌≤◌, length};
 
-use format::{Number, Parts, Written};
 use std::io;
-use std::io::Read;
 
-// The end of the word that starts at `at`: the next space or line end, or the end of s.
-fn word_end(s: &[u8], at: usize) -> usize
-    requires { at ≤ length s.now }
-    ensures { (at ≤ result) × (result ≤ length s.now) }
-{
-    let mut i = at;
-    while i < s.len() {
-        if s[i] <= b' ' {
-            return i;
-        }
-        i += 1;
-    }
-    i
+// The three words behind a line's command, each behind one space: a word that is missing is empty, and a control byte ends the last.
+#[derive(Clone, Copy, Debug)]
+struct Words<'a> {
+    first: &'a [u8],
+    second: &'a [u8],
+    third: &'a [u8],
 }
 
-// The start of the word behind the one that ends at `end`; on the last word of a line, its end.
-fn next_word(s: &[u8], end: usize) -> usize
-    requires { end ≤ length s.now }
-    ensures { (end ≤ result) × (result ≤ length s.now) }
-{
-    if end < s.len() {
-        if s[end] == b' ' {
-            return end + 1;
-        }
+fn words_of(line: &[u8]) -> Words<'_> {
+    let text = line.split(|byte| *byte < b' ').next().unwrap_or(line);
+    let mut words = text.split(|byte| *byte == b' ').skip(1);
+    Words {
+        first: words.next().unwrap_or(b""),
+        second: words.next().unwrap_or(b""),
+        third: words.next().unwrap_or(b""),
     }
-    end
-}
-
-// The start of the line behind the one that holds `at`, or the end of s.
-fn next_line(s: &[u8], at: usize) -> usize
-    requires { at < length s.now }
-    ensures { (at < result) × (result ≤ length s.now) }
-{
-    let mut i = at;
-    while i < s.len() {
-        if s[i] == b'\n' {
-            return i + 1;
-        }
-        i += 1;
-    }
-    i
-}
-
-fn wide(b: u8) -> u64
-    ensures { result ≤ 255 }
-{
-    b as u64
 }
 
 // The size of a decimal number of at most 19 digits, a minus in front passed over.
 fn size_of(word: &[u8]) -> u64 {
-    let mut n: u64 = 0;
-    let mut i = 0;
-    while i < word.len() {
-        let b = wide(word[i]);
-        if 48 <= b {
-            n = n % 1000000000000000000 * 10 + (b - 48) % 10;
+    word.iter().fold(0, |n, byte| {
+        if *byte < b'0' {
+            n
+        } else {
+            n % 1000000000000000000 * 10 + u64::from(*byte - b'0') % 10
         }
-        i += 1;
-    }
-    n
-}
-
-fn is_negative(word: &[u8]) -> bool {
-    if word.len() == 0 {
-        return false;
-    }
-    word[0] == b'-'
+    })
 }
 
 // A signed number of 64 bits, both ends included.
 fn signed(word: &[u8]) -> i64 {
-    let n = size_of(word);
-    if 9223372036854775807 < n {
-        return -9223372036854775807 - 1;
+    match i64::try_from(size_of(word)) {
+        Ok(value) if word.first() == Some(&b'-') => -value,
+        Ok(value) => value,
+        Err(_) => i64::MIN,
     }
-    let value = n as i64;
-    if is_negative(word) { -value } else { value }
 }
 
-fn hex_digit(b: u8) -> u8
+fn hex_digit(byte: u8) -> u8
     ensures { result ≤ 15 }
 {
-    if b < b'a' {
-        b % 16
+    if byte < b'a' {
+        byte % 16
     } else {
-        (b - b'a') % 6 + 10
+        (byte - b'a') % 6 + 10
     }
 }
 
@@ -103,83 +59,30 @@ fn hex_digit(b: u8) -> u8
 fn unhex(word: &[u8], out: &mut [u8]) -> usize
     ensures { result ≤ length out.new }
 {
-    let mut n = 0;
-    while n < out.len() {
-        if word.len() / 2 <= n {
-            return n;
-        }
-        out[n] = hex_digit(word[n * 2]) * 16 + hex_digit(word[n * 2 + 1]);
-        n += 1;
+    let count = (word.len() / 2).min(out.len());
+    for (byte, pair) in out.iter_mut().zip(word.chunks_exact(2)) {
+        *byte = hex_digit(pair[0]) * 16 + hex_digit(pair[1]);
     }
-    n
-}
-
-fn print_number(rt: &impl Print, n: i64) -> io::Result<()> {
-    if n < 0 {
-        print!(rt; " -")?;
-    } else {
-        print!(rt; " ")?;
-    }
-    print!(rt; "{}", columns::size(n))
-}
-
-fn print_refusal(rt: &impl Print, number: u8, at: usize) -> io::Result<()> {
-    print!(rt; "no {number} {at}")
-}
-
-fn print_number_answer(rt: &impl Print, answer: Number) -> io::Result<()> {
-    match answer {
-        Number::Is(n) => {
-            print!(rt; "ok")?;
-            print_number(rt, n)
-        }
-        Number::Refused(number, at) => print_refusal(rt, number, at),
-    }
+    count
 }
 
 // read BYTES: the bytes are spelled out in `space` first.
 fn answer_read(rt: &impl Print, word: &[u8], space: &mut [u8]) -> io::Result<()> {
     let width = unhex(word, space);
-    print_number_answer(rt, columns::read(&space[..width]))
-}
-
-fn print_bytes(rt: &impl Print, bytes: &[u8]) -> io::Result<()> {
-    let mut i = 0;
-    while i < bytes.len() {
-        print!(rt; "{:02x}", bytes[i])?;
-        i += 1;
-    }
-    Ok(())
+    vectors::print_answer(rt, columns::read(&space[..width]).map(|n| [n]))
 }
 
 // write WIDTH VALUE: the column is lent by the caller, and has the width.
 fn answer_write(rt: &impl Print, column: &mut [u8], value: i64) -> io::Result<()> {
-    let answer = columns::write(column, value);
-    match answer {
-        Written::Bytes(_) => {
+    match columns::write(column, value) {
+        Ok(_) => {
             print!(rt; "ok ")?;
-            print_bytes(rt, column)
+            for byte in column.iter() {
+                print!(rt; "{byte:02x}")?;
+            }
+            Ok(())
         }
-        Written::Refused(number, at) => print_refusal(rt, number, at),
-    }
-}
-
-fn least(n: u64, most: usize) -> usize
-    ensures { result ≤ most }
-{
-    if n < (most as u64) { n as usize } else { most }
-}
-
-// split UNIT MILLIMETRES
-fn answer_split(rt: &impl Print, unit: u64, millimetres: i64) -> io::Result<()> {
-    let answer = corners::split(unit, millimetres);
-    match answer {
-        Parts::Corner(whole, fraction) => {
-            print!(rt; "ok")?;
-            print_number(rt, whole)?;
-            print_number(rt, fraction)
-        }
-        Parts::Refused(number, at) => print_refusal(rt, number, at),
+        Err(refusal) => vectors::print_refusal(rt, refusal),
     }
 }
 
@@ -199,79 +102,47 @@ fn answer_formed(
     }
 }
 
-// One command: its words behind the first, told apart by its first letter. A word that is missing is empty.
-fn answer(
-    rt: &impl Print,
-    command: u8,
-    first: &[u8],
-    second: &[u8],
-    third: &[u8],
-    space: &mut [u8],
-) -> io::Result<()> {
+// One command, told apart by its first letter.
+// Kept: the letter as it stands in the line; an enum would be matched once, where it is made.
+fn answer(rt: &impl Print, command: u8, words: Words<'_>, space: &mut [u8]) -> io::Result<()> {
+    let number = size_of(words.first);
     match command {
-        b'r' => answer_read(rt, first, space),
+        b'r' => answer_read(rt, words.first, space),
         b'w' => {
-            let width = least(size_of(first), space.len());
-            answer_write(rt, &mut space[..width], signed(second))
+            let width = usize::try_from(number)
+                .unwrap_or(space.len())
+                .min(space.len());
+            answer_write(rt, &mut space[..width], signed(words.second))
         }
-        b'f' => answer_formed(
-            rt,
-            size_of(first) as usize,
-            size_of(second) as usize,
-            third,
-            space,
-        ),
-        b'j' => print_number_answer(
-            rt,
-            corners::join(size_of(first), signed(second), signed(third)),
-        ),
-        _ => answer_split(rt, size_of(first), signed(second)),
+        b'f' => {
+            let count = size_of(words.second) as usize;
+            answer_formed(rt, number as usize, count, words.third, space)
+        }
+        b'j' => {
+            let joined = corners::join(number, signed(words.second), signed(words.third));
+            vectors::print_answer(rt, joined.map(|millimetres| [millimetres]))
+        }
+        _ => {
+            let split = corners::split(number, signed(words.second));
+            vectors::print_answer(rt, split.map(|corner| [corner.whole, corner.fraction]))
+        }
     }
 }
 
-// The line that starts at `at`; answers where the next one starts.
-fn answer_line(rt: &impl Print, s: &[u8], at: usize, space: &mut [u8]) -> io::Result<usize>
-    requires { at < length s.now }
-    ensures { IfOk result (λ next. (at < next) × (next ≤ length s.now)) }
-{
-    let a = next_word(s, word_end(s, at));
-    let b = word_end(s, a);
-    let c = next_word(s, b);
-    let d = word_end(s, c);
-    let e = next_word(s, d);
-    let f = word_end(s, e);
-    answer(rt, s[at], &s[a..b], &s[c..d], &s[e..f], space)?;
-    print!(rt; "\n")?;
-    Ok(next_line(s, at))
-}
-
-fn answer_lines(rt: &impl Print, s: &[u8], space: &mut [u8]) -> io::Result<()> {
-    let mut at = 0;
-    while at < s.len() {
-        at = answer_line(rt, s, at, space)?;
+// Each line, one command. No line is empty: each has its end, or is the last.
+fn answer_lines(rt: &impl Print, input: &[u8], space: &mut [u8]) -> io::Result<()> {
+    for line in input.split_inclusive(|byte| *byte == b'\n') {
+        if let Some(command) = line.first() {
+            answer(rt, *command, words_of(line), space)?;
+            print!(rt; "\n")?;
+        }
     }
     Ok(())
 }
 
-// Reads until the buffer is full or the input ends, and answers how many bytes were read. An error leaves a part of them at its start.
-fn read_full(from: &mut impl Read, buffer: &mut [u8]) -> io::Result<usize>
-    ensures ok { IfOk result (λ n. n ≤ length buffer.new) }
-    ensures kept { length buffer.new ≡ length buffer.old }
-{
-    let mut done = 0;
-    while done < buffer.len() {
-        let n = from.read(&mut buffer[done..])?;
-        if n == 0 {
-            break;
-        }
-        done += n;
-    }
-    Ok(done)
-}
-
 fn main(rt: HostRuntime) -> io::Result<()> {
     let mut buffer = [0u8; 65536];
-    let n = read_full(&mut rt.stdin(), &mut buffer)?;
+    let n = vectors::read_full(&mut rt.stdin(), &mut buffer)?;
     let mut space = [0u8; 4096];
     answer_lines(&rt, &buffer[..n], &mut space)
 }

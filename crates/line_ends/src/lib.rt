@@ -2,159 +2,116 @@
 #![tactic(auto)]
 
 ghost use Rattle.std.specs.Prelude.{◌≡◌, ◌+◌, ◌*◌, ◌/◌, ◌≤◌, length, take, drop};
-ghost use Rattle.format.specs.Basics.{to_fault};
+ghost use Rattle.format.specs.Reasons.{fault_said};
 ghost use Rattle.format.specs.Answers.{judged_answer, written_answer};
 ghost use Rattle.format_lines.specs.LineEnds.{lines, with_end, end_ok, end_fault, line_fault, judge_sheet_lines, judge_index_lines, to_lines, from_lines};
-ghost use Rattle.files.specs.declared.Stride.TheVariants.{Plain, Lines};
-ghost use Rattle.files.specs.Records.{records_of};
+ghost use Rattle.files.specs.Records.{stride_of, records_of};
 ghost use Rattle.files.specs.Buffers.{put_at};
-ghost use Rattle.line_ends.specs.Steps.{end_fault_of, lines_first, records_first};
+ghost use Rattle.line_ends.specs.Steps.{end_fault_of, as_written, written_first};
 
 use files::Stride;
-use format::{Judged, Written};
+use format::{Counts, Reason, Refusal};
 
-const CARRIAGE_RETURN: u8 = 13;
-
-const LINE_FEED: u8 = 10;
-
-// What is wrong with the form of a file: the number, 0 for nothing, and the record.
-#[derive(Clone, Copy)]
-struct Fault {
-    number: u8,
-    at: usize,
-}
+// Carriage return and line feed.
+const LINE_END: [u8; 2] = [13, 10];
 
 // Record k of a file with line ends, counted from 0, ends in carriage return and line feed.
 fn is_ended(file: &[u8], k: usize) -> bool
     requires { 86 * k + 86 ≤ length file.now }
     ensures { result ≡ end_ok (take 86 (drop (86 * k) file.now)) }
 {
-    let end = files::LINE * k + files::RECORD;
-    file[end] == CARRIAGE_RETURN && file[end + 1] == LINE_FEED
+    let start = files::LINE * k;
+    file[start..start + files::LINE].ends_with(&LINE_END)
 }
 
-// The number of the first record that does not; 0 where every one does.
-fn first_unended(file: &[u8]) -> usize
+// The number of the first record that does not, counted from 1.
+fn first_unended(file: &[u8]) -> Option<usize>
     ensures { end_fault_of result ≡ end_fault 1 (lines (length file.now / 86) file.now) }
 {
-    let count = files::count(file, Stride::Lines);
-    let mut k = 0;
-    while k < count {
+    // Kept: the index; tried `chunks_exact(..).position(..)`, whose clauses speak of the chunks' runs and give no list, so the proof did not close.
+    for k in 0..files::count(file, Stride::Lines) {
         if !is_ended(file, k) {
-            return k + 1;
+            return Some(k + 1);
         }
-        k += 1;
     }
-    0
+    None
 }
 
 // 1, or 18 with its record, of a file with line ends in the first `used` bytes of the buffer.
-fn line_fault(buffer: &[u8], used: usize) -> Fault
-    ensures { to_fault result.number result.at ≡ line_fault used buffer.now }
+fn check_lines(buffer: &[u8], used: usize) -> Result<(), Refusal>
+    ensures { fault_said result ≡ line_fault used buffer.now }
 {
     if !files::length_ok(buffer, used, Stride::Lines) {
-        return Fault { number: 1, at: 0 };
+        return Err(Reason::Length.at(0));
     }
-    let unended = first_unended(&buffer[..used]);
-    if unended != 0 {
-        return Fault {
-            number: 18,
-            at: unended,
-        };
+    if let Some(unended) = first_unended(&buffer[..used]) {
+        return Err(Reason::LineEnd.at(unended));
     }
-    Fault { number: 0, at: 0 }
+    Ok(())
 }
 
 // Judges the first `used` bytes of the buffer as a sheet file with line ends.
-pub fn judge_sheet_lines(buffer: &[u8], used: usize) -> Judged
+pub fn judge_sheet_lines(buffer: &[u8], used: usize) -> Result<Counts, Refusal>
     ensures { judged_answer result ≡ judge_sheet_lines used buffer.now }
 {
-    let fault = line_fault(buffer, used);
-    if fault.number != 0 {
-        return Judged::Refused(fault.number, fault.at);
-    }
+    check_lines(buffer, used)?;
     judge::judge_sheet_by(buffer, used, Stride::Lines)
 }
 
 // Judges the first `used` bytes of the buffer as an index file with line ends.
-pub fn judge_index_lines(buffer: &[u8], used: usize) -> Judged
+pub fn judge_index_lines(buffer: &[u8], used: usize) -> Result<Counts, Refusal>
     ensures { judged_answer result ≡ judge_index_lines used buffer.now }
 {
-    let fault = line_fault(buffer, used);
-    if fault.number != 0 {
-        return Judged::Refused(fault.number, fault.at);
-    }
+    check_lines(buffer, used)?;
     judge::judge_index_by(buffer, used, Stride::Lines)
 }
 
-// Puts a record with its line end into the target, from `start` on.
-fn put_line(target: &mut [u8], start: usize, record: &[u8])
-    requires { (length «record».now ≡ 84) × (start + 86 ≤ length target.old) }
-    ensures { target.new ≡ put_at target.old start (with_end «record».now) }
+// Puts a record where record k of a target stands, counted from 0, as the target's stride asks: with its line end or without.
+fn put_record(target: &mut [u8], stride: Stride, k: usize, record: &[u8])
+    requires { (length «record».now ≡ 84) × (stride_of stride * k + stride_of stride ≤ length target.old) }
+    ensures { target.new ≡ put_at target.old (stride_of stride * k) (as_written stride «record».now) }
 {
+    let start = files::bytes(stride) * k;
     files::put_at(target, start, record);
-    let end = start + files::RECORD;
-    target[end] = CARRIAGE_RETURN;
-    target[end + 1] = LINE_FEED;
-}
-
-// Every record of a plain file, each with its line end, to the front of the target.
-fn write_lines(file: &[u8], target: &mut [u8])
-    requires { 86 * length (records_of Plain file.now) ≤ length target.old }
-    ensures { target.new ≡ lines_first (records_of Plain file.now) target.old }
-{
-    let count = files::count(file, Stride::Plain);
-    let mut k = 0;
-    while k < count {
-        let start = files::RECORD * k;
-        let end = start + files::RECORD;
-        put_line(target, files::LINE * k, &file[start..end]);
-        k += 1;
+    if stride == Stride::Lines {
+        files::put_at(target, start + files::RECORD, &LINE_END);
     }
 }
 
-// Every record of a file with line ends, without them, to the front of the target.
-fn write_records(file: &[u8], target: &mut [u8])
-    requires { 84 * length (records_of Lines file.now) ≤ length target.old }
-    ensures { target.new ≡ records_first (records_of Lines file.now) target.old }
+// Every record of a file at one stride, to the front of a target at another.
+fn write_records(file: &[u8], from: Stride, target: &mut [u8], to: Stride)
+    requires { stride_of to * length (records_of from file.now) ≤ length target.old }
+    ensures { target.new ≡ written_first to (records_of from file.now) target.old }
 {
-    let count = files::count(file, Stride::Lines);
-    let mut k = 0;
-    while k < count {
-        let start = files::LINE * k;
-        let end = start + files::RECORD;
-        files::put_at(target, files::RECORD * k, &file[start..end]);
-        k += 1;
+    for k in 0..files::count(file, from) {
+        put_record(target, to, k, files::record_at(file, from, k));
     }
 }
 
 // The plain file in the first `used` bytes of the buffer, with line ends, to the target.
-pub fn to_lines(buffer: &[u8], used: usize, target: &mut [u8]) -> Written
+pub fn to_lines(buffer: &[u8], used: usize, target: &mut [u8]) -> Result<usize, Refusal>
     ensures { record { answer = written_answer result; bytes = target.new } ≡ to_lines used buffer.now target.old }
 {
     if !files::length_ok(buffer, used, Stride::Plain) {
-        return Written::Refused(1, 0);
+        return Err(Reason::Length.at(0));
     }
     let length = files::LINE * (used / files::RECORD);
     if target.len() < length {
-        return Written::Refused(15, 0);
+        return Err(Reason::Room.at(0));
     }
-    write_lines(&buffer[..used], target);
-    Written::Bytes(length)
+    write_records(&buffer[..used], Stride::Plain, target, Stride::Lines);
+    Ok(length)
 }
 
 // The file with line ends in the first `used` bytes of the buffer, without them, to the target.
-pub fn from_lines(buffer: &[u8], used: usize, target: &mut [u8]) -> Written
+pub fn from_lines(buffer: &[u8], used: usize, target: &mut [u8]) -> Result<usize, Refusal>
     ensures { record { answer = written_answer result; bytes = target.new } ≡ from_lines used buffer.now target.old }
 {
-    let fault = line_fault(buffer, used);
-    if fault.number != 0 {
-        return Written::Refused(fault.number, fault.at);
-    }
+    check_lines(buffer, used)?;
     let length = files::RECORD * (used / files::LINE);
     if target.len() < length {
-        return Written::Refused(15, 0);
+        return Err(Reason::Room.at(0));
     }
-    write_records(&buffer[..used], target);
-    Written::Bytes(length)
+    write_records(&buffer[..used], Stride::Lines, target, Stride::Plain);
+    Ok(length)
 }

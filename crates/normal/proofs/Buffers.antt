@@ -1,12 +1,11 @@
--- The records of a file written to a second buffer one after another: `copy` and `write_records` in the code's own words. Assumes nothing.
+-- The records of a file written to a second buffer one after another: `write_at` and `write_records` in the code's own words. Assumes nothing.
 use mathlib.Core.Path.{◌≡◌, ap, sym, ◌∙◌}
 use mathlib.Core.List.{List, [], ◌∷◌, ◌++◌, append_assoc, append-nil}
 use Prim.Native.Nat.{ℕ, suc, ◌+◌, ◌-◌, ◌*◌, ◌/◌, ◌≤◌, ◌<◌}
 use native.Mathlib.Nat.{add-sub_cancel_left}
-use native.Mathlib.Numerals.{add-one}
 use native.Mathlib.Omega.{arith}
-use lib.ListN.{length, take, drop, get_or, set, length-append, length-drop, take-append-drop}
-use lib.Seq.{length-take-le, take_all, take-suc, take-suc-set, take_at, drop_at, drop-drop}
+use lib.ListN.{length, take, drop, get_or, length-append, length-drop, take-append-drop}
+use lib.Seq.{length-take-le, take_at, drop_at, drop-drop}
 use Rattle.format.specs.Basics.{chunks, flat}
 use Rattle.format.proofs.Lists.{length-chunks}
 use Rattle.files.specs.declared.Stride.TheVariants.{Plain}
@@ -15,15 +14,6 @@ use Rattle.files.proofs.Records.{plain-records, record_is, record_wide}
 use Rattle.format.specs.Normal.{normal_record}
 use Rattle.normal.specs.declared.due.FileDue.{FileDue}
 use Rattle.normal.specs.Due.{next_in_file, columns_due, rewritten}
-
--- ---- `copy`
-
-module _ (source target : List ℕ) (i : ℕ) (long : length target ≡ length source) (so_far : take i target ≡ take i source) where
-  pub copied_again : i < length source → take (i + 1) (set target i (get_or source i 0)) ≡ take (i + 1) source
-  copied_again h = rw (add-one, take-suc-set target i (get_or source i 0) (omega arith), take-suc source i 0 h, so_far)
-
-  pub copied_all : length source ≤ i → target ≡ source
-  copied_all h = sym (take_all i target (omega arith)) ∙ so_far ∙ take_all i source h
 
 -- ---- `write_at`
 

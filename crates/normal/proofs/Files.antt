@@ -1,4 +1,5 @@
 -- What the code writes, record by record from the one that is due first, is the normal form of an accepted file. Assumes nothing.
+use Rattle.format.proofs.Reasons.{not_zero}
 use mathlib.Core.Path.{◌≡◌, refl, ap, sym, ◌∙◌}
 use mathlib.Core.Bool.{Bool, true, false, cond, ◌&&◌, false≢true}
 use mathlib.Core.List.{List, [], ◌∷◌, ◌++◌, map}
@@ -7,6 +8,7 @@ use native.Mathlib.Omega.{arith}
 use borrow.Author.Tests.{eqb-true, le-leb, lt-leb}
 use lib.Dec.{eqb, leb}
 use lib.ListN.{length, take, drop}
+use Rattle.std.specs.Prelude.{Ok, Err}
 use Rattle.format.specs.Basics.{Outcome, first, unless, chunks, flat, stage_one_ok}
 use Rattle.format.specs.Text.{bytes, begins}
 use Rattle.format.specs.Layout.{element}
@@ -17,8 +19,10 @@ use Rattle.format.specs.Index as Index
 use Rattle.format.specs.Judge as Judge
 use Rattle.format.specs.Normal.{normal_record, normal_body, normal_part, normal_stage, normal_sheet_records, normal_index_records, normal_sheet, normal_index}
 use Rattle.format.specs.Answers.{written_answer, judged_answer}
-use Rattle.format.specs.declared.Written.TheVariants as Written
-use Rattle.format.specs.declared.Judged.{Judged}
+use Rattle.format.specs.Reasons.{refusal_number}
+use Rattle.format.specs.declared.Counts.{Counts}
+use Rattle.format.specs.declared.Reason.{Reason}
+use Rattle.format.specs.declared.Refusal.{Refusal}
 use Rattle.format.proofs.Basics.{first_zero}
 use Rattle.format.proofs.Lists.{Wide, wide_chunks, wide_drop}
 use Rattle.format.proofs.JudgeWalks.{Passes}
@@ -28,33 +32,31 @@ use Rattle.records.specs.declared.Held.{Held}
 use Rattle.records.specs.Entry.{to_data, entry_of}
 use Rattle.records.proofs.Laws.{entry_counted, entry_data_records, entry_held, fault-at}
 use Rattle.judge.specs.declared.Sheet.{Sheet as OpenedSheet}
-use Rattle.judge.specs.Sheet.{opened_in}
+use Rattle.judge.specs.Sheet.{opened_in, sheet_said}
 use Rattle.judge.proofs.Opened.{sheet_refused_is, opened-sheet}
 use Rattle.part_and_index.specs.declared.due.Due.TheVariants.{SheetA, IndexA}
 use Rattle.part_and_index.specs.Due as Part
 use Rattle.part_and_index.specs.Due.{due_in, due_at}
 use Rattle.part_and_index.proofs.DueLaws.{phase_after, stage_after}
 use Rattle.normal.specs.declared.due.FileDue.TheVariants as Due
-use Rattle.normal.specs.Due.{behind_part, due_data, behind_entry, next_in_file, letter_columns, part_columns, columns_due, rewritten, written_to}
+use Rattle.normal.specs.Due.{behind_part, due_data, letter_columns, part_columns, rewritten, written_to}
 
 -- ---- an index
 
 stage_columns_lem : (p : Index.Stage) → part_columns (due_at p) ≡ Index.stage_columns p
-unfolding part_columns
 stage_columns_lem Index.due_a = refl
 stage_columns_lem (Index.due_b bs cs) = refl
 stage_columns_lem (Index.due_c cs) = refl
 stage_columns_lem Index.over = refl
 
 stage_form : (p : Index.Stage) (rs : List (List ℕ)) → Wide rs → rewritten (Due.Index (due_at p)) rs ≡ normal_stage p rs
-unfolding rewritten columns_due next_in_file Wide
+unfolding rewritten Wide
 stage_form p [] w = refl
 stage_form p (r ∷ rs) w = rw (stage_columns_lem p, stage_after r w.0 p, stage_form (Index.after p r) rs w.1)
 
 -- ---- a sheet part, and what is behind it
 
 phase_columns_lem : (p : Sheet.Phase) → part_columns (due_in p) ≡ Sheet.phase_columns p
-unfolding part_columns
 phase_columns_lem Sheet.due_a = refl
 phase_columns_lem (Sheet.due_b level more) = refl
 phase_columns_lem (Sheet.due_c unit wholes more) = refl
@@ -73,7 +75,7 @@ phase_over (Sheet.due_f unit wholes more fs) = refl
 phase_over Sheet.body = refl
 
 part-form : (p : Sheet.Phase) (rs : List (List ℕ)) → Wide rs → rewritten (behind_part (due_in p)) rs ≡ normal_part p (take (part_from Sheet.sheet_machine p rs) rs) ++ rewritten Due.Entry (drop (part_from Sheet.sheet_machine p rs) rs)
-unfolding rewritten behind_part columns_due next_in_file Wide
+unfolding rewritten Wide
 part-form p [] w = refl
 part-form p (r ∷ rs) w = go (Sheet.is_over p) refl (part-form (Sheet.after p r) rs w.1)
   where
@@ -99,7 +101,7 @@ letter-alone t true n = refl
 letter-alone t false n = absurd (n refl)
 
 letters_two : (a b : ℕ) (r : List ℕ) → (type_of (a ∷ b ∷ r) ≡ other → ⊥) → letter_columns (a ∷ b ∷ r) ≡ type_columns (type_of (a ∷ b ∷ r))
-unfolding letter_columns type_of begins bytes
+unfolding type_of begins bytes
 letters_two a b r n = go (eqb a 72) (eqb a 69) (eqb a 71) (eqb a 84) refl refl refl refl
   where
     go : (h e g t : Bool) → eqb a 72 ≡ h → eqb a 69 ≡ e → eqb a 71 ≡ g → eqb a 84 ≡ t → letter_columns (a ∷ b ∷ r) ≡ type_columns (type_of (a ∷ b ∷ r))
@@ -154,7 +156,7 @@ module _ (l : List ℕ) (whole : length l ≡ 84) (opened : ℕ) (held : Data) (
 -- ---- the body: what the code keeps is what the walk keeps
 
 body-form : (rs : List (List ℕ)) (opened due : ℕ) (held : Held) → Wide rs → Passes opened due (to_data held) (map view rs) → rewritten (due_data held due) rs ≡ normal_body due (to_data held) rs
-unfolding rewritten Wide next_in_file due_data columns_due behind_entry
+unfolding rewritten Wide
 body-form [] opened due held wide p = refl
 body-form (r ∷ rs) opened zero held wide p =
     let e = entry_of r in
@@ -168,7 +170,7 @@ body-form (r ∷ rs) opened (suc due) held wide p =
 -- ---- an accepted file
 
 sheet-form : (used : ℕ) (buffer : List ℕ) → Judge.AcceptedSheet used buffer → rewritten (Due.Sheet SheetA) (chunks (used / 84) buffer) ≡ normal_sheet_records (chunks (used / 84) buffer)
-unfolding normal_sheet_records Sheet.part_length behind_part due_data
+unfolding normal_sheet_records Sheet.part_length
 sheet-form used buffer a =
     let rs = chunks (used / 84) buffer in
     let n = part_from Sheet.sheet_machine Sheet.due_a rs in
@@ -183,24 +185,24 @@ index-form rs wide = stage_form Index.due_a rs wide
 -- ---- `write_file`
 
 module _ (used : ℕ) (records : List (List ℕ)) (second : List ℕ) where
-  pub too_short : length second < used → record { answer = written_answer (Written.Refused 15 0); bytes = second } ≡ written_to used records second
+  pub too_short : (r : Refusal) → r ≡ record { reason = Reason.Room; at = 0 } → length second < used → record { answer = written_answer (Err r); bytes = second } ≡ written_to used records second
   unfolding written_to written_answer
-  too_short h = rw (lt-leb used (length second) h)
+  too_short r e h = rw (e, lt-leb used (length second) h)
 
-  pub file-written : (l' : List ℕ) → used ≤ length second → used % 84 ≡ 0 → l' ≡ flat records ++ drop (84 * (used / 84)) second → record { answer = written_answer (Written.Bytes used); bytes = l' } ≡ written_to used records second
+  pub file-written : (l' : List ℕ) → used ≤ length second → used % 84 ≡ 0 → l' ≡ flat records ++ drop (84 * (used / 84)) second → record { answer = written_answer (Ok used); bytes = l' } ≡ written_to used records second
   unfolding written_to written_answer
   file-written l' h z e = let n : 84 * (used / 84) ≡ used = omega arith in rw (le-leb used (length second) h, e, n)
 
 -- ---- `normal_sheet`
 
-module _ (used : ℕ) (buffer : List ℕ) (s : OpenedSheet) (is : s ≡ opened_in used buffer 0) where
-  pub sheet-refused : (second : List ℕ) → (s.fault ≡ 0 → ⊥) → record { answer = written_answer (Written.Refused s.fault s.at); bytes = second } ≡ normal_sheet used buffer second
+module _ (used : ℕ) (buffer : List ℕ) where
+  pub sheet-refused : (second : List ℕ) (r : Refusal) → sheet_said (Err r) ≡ opened_in used buffer 0 → record { answer = written_answer (Err r); bytes = second } ≡ normal_sheet used buffer second
   unfolding normal_sheet written_answer
-  sheet-refused second some = rw (sheet_refused_is used buffer 0 s is some)
+  sheet-refused second r is = rw (sheet_refused_is used buffer 0 (sheet_said (Err r)) is (not_zero r.reason))
 
-  module _ (none : s.fault ≡ 0) where
+  module _ (s : OpenedSheet) (is : sheet_said (Ok s) ≡ opened_in used buffer 0) where
     a : Judge.AcceptedSheet used buffer
-    a = (opened-sheet used buffer 0 s is none).accepted
+    a = (opened-sheet used buffer 0 (sheet_said (Ok s)) is refl).accepted
 
     pub sheet-room : (used ≤ length buffer) × (used % 84 ≡ 0)
     sheet-room = (inside a, (whole-records a).even)
@@ -211,15 +213,15 @@ module _ (used : ℕ) (buffer : List ℕ) (s : OpenedSheet) (is : s ≡ opened_i
 
 -- ---- `normal_index`
 
-module _ (used : ℕ) (buffer : List ℕ) (j : Judged) (told : judged_answer j ≡ Judge.judge_index used buffer) where
-  pub index-refused : (second : List ℕ) (n r : ℕ) → j ≡ Judged.Refused n r → record { answer = written_answer (Written.Refused n r); bytes = second } ≡ normal_index used buffer second
+module _ (used : ℕ) (buffer : List ℕ) where
+  pub index-refused : (second : List ℕ) (r : Refusal) → judged_answer (Err r) ≡ Judge.judge_index used buffer → record { answer = written_answer (Err r); bytes = second } ≡ normal_index used buffer second
   unfolding normal_index judged_answer written_answer
-  index-refused second n r e = rw (← told, e)
+  index-refused second r told = rw (← told)
 
-  module _ (n m : ℕ) (e : j ≡ Judged.Accepted n m) where
-    judged : Judge.judge_index used buffer ≡ Judge.accepted n m
+  module _ (counts : Counts) (told : judged_answer (Ok counts) ≡ Judge.judge_index used buffer) where
+    judged : Judge.judge_index used buffer ≡ Judge.accepted counts.records counts.items
     unfolding judged_answer
-    judged = sym told ∙ rw e
+    judged = sym told
 
     pub index-room : (used ≤ length buffer) × (used % 84 ≡ 0)
     unfolding Judge.judge_index

@@ -1,11 +1,12 @@
--- The normal form of a record by the tables of its layout: text, which is in no table, and blanks stay as they are. Assumes nothing.
+-- The normal form of a record by the table of its layout: text, which is in no table, and blanks stay as they are. Assumes nothing.
 use mathlib.Core.Path.{◌≡◌, refl, ap, sym, ◌∙◌}
 use mathlib.Core.Bool.{Bool, true, false, cond, not, ◌&&◌, false≢true}
 use mathlib.Core.List.{List, [], ◌∷◌}
 use Prim.Native.Nat.{ℕ, ◌+◌, ◌^◌, ◌≤◌}
 use native.Mathlib.Nat.{pow-le-pow_right}
 use native.Mathlib.Omega.{arith}
-use borrow.Author.Tests.{lt-ltb}
+use borrow.Author.Tests.{lt-ltb, leb-true}
+use lib.Dec.{leb}
 use lib.IntN.{pos}
 use lib.ListN.{length}
 use Rattle.format.specs.declared.Column.{Column}
@@ -20,9 +21,22 @@ use Rattle.format.proofs.NormalRecords.{splice-same}
 use Rattle.columns.specs.InRecord.{column_at, Rewritten}
 use Rattle.columns.proofs.Laws.{column-at-inside, value_fits, write_at_done}
 use Rattle.columns.proofs.Spaces.{spaces-at-inside}
-use Rattle.layouts.specs.Tables.{is_tabled, tabled, is_numeric, starts_of, widths_of, form_of, forms_of}
-use Rattle.layouts.proofs.Lies.{lies_at, lies, all_lie, Lies, lies_is}
-use Rattle.normal.specs.Rewriting.{rewritten_at, rewritten_as, rewritten_all}
+use Rattle.layouts.specs.Tables.{is_tabled, tabled, is_numeric, table_form, table_of}
+use Rattle.layouts.specs.declared.TableColumn.{TableColumn}
+use Rattle.normal.specs.Rewriting.{lies_at, lies, all_lie, rewritten_at, rewritten_as, rewritten_all}
+
+-- ---- where a column lies, as a record of facts
+
+record Lies (start width : ℕ) : Type 0 where
+  some : 1 ≤ width
+  most : width ≤ 18
+  ends : start + width ≤ 84
+
+lies_is : (start width : ℕ) → leb 1 width && (leb width 18 && leb (start + width) 84) ≡ true → Lies start width
+lies_is start width e =
+    let p = and-true (leb 1 width) (leb width 18 && leb (start + width) 84) e in
+    let q = and-true (leb width 18) (leb (start + width) 84) p.1 in
+    record { some = leb-true 1 width p.0; most = leb-true width 18 q.0; ends = leb-true (start + width) 84 q.1 }
 
 -- ---- one column
 
@@ -40,7 +54,6 @@ module _ (l : List ℕ) (whole : length l ≡ 84) (start width : ℕ) (at : Lies
   room = rw whole at.ends
 
   written-column : rewritten_at l start width ≡ splice start width (written width (integer (column_of (column start width l)))) l
-  unfolding rewritten_at
   written-column =
       ap (λ (x : Rewritten). x.bytes) (write_at_done l start width (integer (column_at l start width)) room at.some at.most (fits_again (column_at l start width) refl))
       ∙ ap (λ (c : Column). splice start width (written width (integer c)) l) (column-at-inside l start width room at.most)
@@ -50,8 +63,7 @@ module _ (l : List ℕ) (whole : length l ≡ 84) (start width : ℕ) (at : Lies
 
 module _ (l : List ℕ) (whole : length l ≡ 84) (start width : ℕ) where
   -- by its form
-  by_form : (k : What) → lies_at k start width ≡ true → rewritten_as l start width (form_of k) ≡ splice start width (normal_bytes k width (column start width l)) l
-  unfolding rewritten_as
+  by_form : (k : What) → lies_at k start width ≡ true → rewritten_as l start width (table_form k) ≡ splice start width (normal_bytes k width (column start width l)) l
   by_form text h = sym (splice-same start width l)
   by_form blank h = sym (splice-same start width l)
   by_form (integral rule) h = written-column l whole start width (lies_is start width h)
@@ -71,15 +83,15 @@ module _ (l : List ℕ) (whole : length l ≡ 84) (start width : ℕ) where
       go true = length-column start width l (room l whole start width (lies_is start width h))
       go false = length-written width (integer (column_of (column start width l)))
 
--- ---- the columns of tables
+-- ---- the columns of a table
 
-pub by_tables : (t : List Col) (l : List ℕ) → length l ≡ 84 → all_lie t ≡ true → rewritten_all l (starts_of t) (widths_of t) (forms_of t) ≡ normal_record t l
-unfolding rewritten_all starts_of widths_of forms_of normal_record
-by_tables [] l whole h = refl
-by_tables (c ∷ cs) l whole h =
+pub by_table : (t : List Col) (l : List ℕ) → length l ≡ 84 → all_lie t ≡ true → rewritten_all l (table_of t) ≡ normal_record t l
+unfolding rewritten_all table_of normal_record
+by_table [] l whole h = refl
+by_table (c ∷ cs) l whole h =
     let p = and-true (lies c) (all_lie cs) h in
-    ap (λ (x : List ℕ). rewritten_all x (starts_of cs) (widths_of cs) (forms_of cs)) (by_form l whole c.start c.width c.what p.0)
-    ∙ by_tables cs (splice c.start c.width (normal_bytes c.what c.width (bytes_of c l)) l) (length_one l whole c.start c.width c.what p.0) p.1
+    ap (λ (x : List ℕ). rewritten_all x (table_of cs)) (by_form l whole c.start c.width c.what p.0)
+    ∙ by_table cs (splice c.start c.width (normal_bytes c.what c.width (bytes_of c l)) l) (length_one l whole c.start c.width c.what p.0) p.1
 
 -- ---- a layout
 
@@ -94,8 +106,8 @@ text_stays (c ∷ cs) l = go c.what refl (text_stays cs)
     go (integral rule) e ih = rw e (ih _)
     go integral_or_spaces e ih = rw e (ih _)
 
-pub form-written : (table : List Col) (l l' starts widths forms : List ℕ) → length l ≡ 84 → starts ≡ starts_of (tabled table) → widths ≡ widths_of (tabled table) → forms ≡ forms_of (tabled table) → l' ≡ rewritten_all l starts widths forms → all_lie (tabled table) ≡ true → l' ≡ normal_record table l
-form-written table l l' starts widths forms whole s w f e lie = e ∙ rw (s, w, f) (by_tables (tabled table) l whole lie) ∙ sym (text_stays table l)
+pub record-written : (layout : List Col) (l l' : List ℕ) (table : List TableColumn) → length l ≡ 84 → table ≡ table_of (tabled layout) → l' ≡ rewritten_all l table → all_lie (tabled layout) ≡ true → l' ≡ normal_record layout l
+record-written layout l l' table whole t e lie = e ∙ rw t (by_table (tabled layout) l whole lie) ∙ sym (text_stays layout l)
 
 -- a layout of text and blanks alone
 abbrev pub no_numbers : List Col → Bool

@@ -1,6 +1,5 @@
-pub mod Columns
 pub mod Layouts
+pub mod Lies
 pub mod DataColumns
-pub mod DueSteps
 pub mod Buffers
 pub mod Files

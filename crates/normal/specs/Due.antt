@@ -14,20 +14,20 @@ use Rattle.normal.specs.declared.due.FileDue.{FileDue}
 use Rattle.normal.specs.declared.due.FileDue.TheVariants.{Sheet, Index, Entry, Data}
 
 -- still in the sheet part, or behind it
-unfoldable pub behind_part : Due → FileDue
+abbrev pub behind_part : Due → FileDue
 behind_part due = cond (Part.is_over due) Entry (Sheet due)
 
 -- where so many data records of an item are left, the first of them is due, with one less behind it
-unfoldable pub due_data : Held → (data_records : ℕ) → FileDue
+abbrev pub due_data : Held → (data_records : ℕ) → FileDue
 due_data held zero = Entry
 due_data held (suc behind) = Data held behind
 
 -- behind a header or an item
-unfoldable pub behind_entry : List ℕ → FileDue
+abbrev pub behind_entry : List ℕ → FileDue
 behind_entry r = due_data (entry_of r).held (entry_of r).data_records
 
 -- ---- behind a record, whatever was due there
-unfoldable pub next_in_file : FileDue → List ℕ → FileDue
+abbrev pub next_in_file : FileDue → List ℕ → FileDue
 next_in_file (Sheet due) r = behind_part (Part.next_due due r)
 next_in_file (Index due) r = Index (Part.next_due due r)
 next_in_file Entry r = behind_entry r
@@ -35,7 +35,7 @@ next_in_file (Data held behind) r = due_data held behind
 
 -- ---- the columns of the record that is due
 -- a header or an item, by its first byte: 'H' is 72, 'E' 69, 'G' 71, 'T' 84
-unfoldable pub letter_columns : List ℕ → List Col
+abbrev pub letter_columns : List ℕ → List Col
 letter_columns r =
     cond (eqb (get_or r 0 0) 72) header (
     cond (eqb (get_or r 0 0) 69) element (
@@ -43,7 +43,7 @@ letter_columns r =
     cond (eqb (get_or r 0 0) 84) net_header [])))
 
 -- of a sheet part or of an index: format's `phase_columns` and `stage_columns`
-unfoldable pub part_columns : Due → List Col
+abbrev pub part_columns : Due → List Col
 part_columns SheetA = sheet_a
 part_columns (SheetB sets) = sheet_b
 part_columns (SheetC sets) = sheet_c
@@ -55,7 +55,7 @@ part_columns (IndexB bs cs) = index_b
 part_columns (IndexC cs) = index_c
 part_columns Over = []
 
-unfoldable pub columns_due : FileDue → List ℕ → List Col
+abbrev pub columns_due : FileDue → List ℕ → List Col
 columns_due (Sheet due) r = part_columns due
 columns_due (Index due) r = part_columns due
 columns_due Entry r = letter_columns r

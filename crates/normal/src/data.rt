@@ -1,39 +1,30 @@
-// Data records: "Points or heights after the last used one are not judged", so they stay as they are.
-ghost use Rattle.std.specs.Prelude.{◌≡◌, ◌≤◌, length};
+// Data records: "Points or heights after the last used one are not judged", so they stay as they are. Attributes have no judged column.
+ghost use Rattle.std.specs.Prelude.{◌≡◌, ◌≤◌};
 ghost use Rattle.format.specs.Record.{data_columns};
 ghost use Rattle.format.specs.Normal.{normal_record};
 ghost use Rattle.records.specs.Entry.{to_data};
 ghost use Rattle.normal.specs.Rewriting.{first_sevens};
 
-use super::{by_layout, rewriting};
-use layouts::DataGrid;
+use super::rewriting;
+use files::RECORD;
+use layouts::{DataGrid, DataNote, Layout};
 use records::Held;
 
 // The first columns of twelve, each of seven bytes: points and heights lie alike.
-fn rewrite_first(record: &mut [u8], columns: usize)
-    requires { (length «record».old ≡ 84) × (columns ≤ 12) }
+fn rewrite_first(record: &mut [u8; RECORD], columns: usize)
+    requires { columns ≤ 12 }
     ensures { «record».new ≡ first_sevens columns «record».old }
 {
-    let starts = DataGrid::starts();
-    let widths = DataGrid::widths();
-    let forms = DataGrid::forms();
-    rewriting::rewrite_columns(
-        record,
-        &starts[..columns],
-        &widths[..columns],
-        &forms[..columns],
-    );
+    rewriting::rewrite_columns(record, &DataGrid::table()[..columns]);
 }
 
 // A data record, by what the data records of its item hold and how many of them come after it.
-pub(crate) fn data(record: &mut [u8], held: Held, behind: usize)
-    requires { length «record».old ≡ 84 }
+#[tactic(auto, using(crate::proofs::Lies::each_lies))]
+pub(crate) fn data(record: &mut [u8; RECORD], held: Held, behind: usize)
     ensures { «record».new ≡ normal_record (data_columns (to_data held) behind) «record».old }
 {
-    if let Held::Notes = held {
-        by_layout::data_note(record);
-        return;
+    if held == Held::Notes {
+        return rewriting::rewrite::<DataNote>(record);
     }
-    let columns = records::columns_used(held, behind);
-    rewrite_first(record, columns);
+    rewrite_first(record, records::columns_used(held, behind));
 }

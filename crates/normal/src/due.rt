@@ -8,7 +8,7 @@ use records::Held;
 
 // The record that is due: one of a sheet part, or of an index; behind a sheet part a header or an item; or a data record, what the data records of its item
 // hold, and how many of them come after it.
-#[derive(Clone, Copy)]
+#[derive(Clone, Copy, PartialEq, Eq, Debug)]
 pub(crate) enum FileDue {
     Sheet(Due),
     Index(Due),
@@ -20,9 +20,10 @@ pub(crate) enum FileDue {
 fn behind_part(due: Due) -> FileDue
     ensures { result ≡ behind_part due }
 {
-    match due {
-        Due::Over => FileDue::Entry,
-        _ => FileDue::Sheet(due),
+    if due == Due::Over {
+        FileDue::Entry
+    } else {
+        FileDue::Sheet(due)
     }
 }
 
@@ -30,10 +31,9 @@ fn behind_part(due: Due) -> FileDue
 fn due_data(held: Held, data_records: usize) -> FileDue
     ensures { result ≡ due_data held data_records }
 {
-    if data_records == 0 {
-        FileDue::Entry
-    } else {
-        FileDue::Data(held, data_records - 1)
+    match data_records.checked_sub(1) {
+        Some(behind) => FileDue::Data(held, behind),
+        None => FileDue::Entry,
     }
 }
 
@@ -41,9 +41,10 @@ fn due_data(held: Held, data_records: usize) -> FileDue
 fn behind_entry(record: &[u8]) -> FileDue
     ensures { result ≡ behind_entry «record».now }
 {
-    let entry = records::entry(record);
-    let held = entry.held;
-    due_data(held, entry.data_records)
+    match records::entry(record) {
+        Ok(entry) => due_data(entry.held, entry.data_records),
+        Err(_) => FileDue::Entry,
+    }
 }
 
 // What is due behind a record.

@@ -8,69 +8,56 @@ ghost use Rattle.format.specs.Answers.{written_answer};
 ghost use Rattle.normal.specs.Due.{letter_columns, part_columns, columns_due, rewritten, with_record, file_to};
 
 use due::FileDue;
-use files::Stride;
-use format::{Judged, Written};
+use files::{RECORD, Stride};
+use format::{Reason, Refusal};
+use layouts::{
+    Element, GridHeader, Header, IndexA, IndexC, NetHeader, SheetA, SheetB, SheetD, SheetE, SheetF,
+};
 use part_and_index::Due;
 
-mod by_layout;
 mod data;
 mod due;
 mod rewriting;
 
 // A header or an item, by the letter that its type begins with.
-fn rewrite_entry(record: &mut [u8])
-    requires { length «record».old ≡ 84 }
+#[tactic(auto, using(crate::proofs::Lies::each_lies))]
+fn rewrite_entry(record: &mut [u8; RECORD])
     ensures { «record».new ≡ normal_record (letter_columns «record».old) «record».old }
 {
     match record[0] {
-        b'H' => by_layout::header(record),
-        b'E' => by_layout::element(record),
-        b'G' => by_layout::grid_header(record),
-        b'T' => by_layout::net_header(record),
+        b'H' => rewriting::rewrite::<Header>(record),
+        b'E' => rewriting::rewrite::<Element>(record),
+        b'G' => rewriting::rewrite::<GridHeader>(record),
+        b'T' => rewriting::rewrite::<NetHeader>(record),
         _ => {}
     }
 }
 
-// A record of a sheet part or of an index, by its layout.
-fn rewrite_part(record: &mut [u8], due: Due)
-    requires { length «record».old ≡ 84 }
+// A record of a sheet part or of an index, by its layout. Sheet c and index b have no judged column.
+#[tactic(auto, using(crate::proofs::Lies::each_lies))]
+fn rewrite_part(record: &mut [u8; RECORD], due: Due)
     ensures { «record».new ≡ normal_record (part_columns due) «record».old }
 {
     match due {
-        Due::SheetA => by_layout::sheet_a(record),
-        Due::SheetB(_) => by_layout::sheet_b(record),
-        Due::SheetC(_) => {}
-        Due::SheetD(_) => by_layout::sheet_d(record),
-        Due::SheetE(_, _) => by_layout::sheet_e(record),
-        Due::SheetF(_, _) => by_layout::sheet_f(record),
-        Due::IndexA => by_layout::index_a(record),
-        Due::IndexB(_, _) => {}
-        Due::IndexC(_) => by_layout::index_c(record),
-        Due::Over => {}
+        Due::SheetA => rewriting::rewrite::<SheetA>(record),
+        Due::SheetB(_) => rewriting::rewrite::<SheetB>(record),
+        Due::SheetD(_) => rewriting::rewrite::<SheetD>(record),
+        Due::SheetE(_, _) => rewriting::rewrite::<SheetE>(record),
+        Due::SheetF(_, _) => rewriting::rewrite::<SheetF>(record),
+        Due::IndexA => rewriting::rewrite::<IndexA>(record),
+        Due::IndexC(_) => rewriting::rewrite::<IndexC>(record),
+        Due::SheetC(_) | Due::IndexB(_, _) | Due::Over => {}
     }
 }
 
 // The record that is due, by its layout.
-fn rewrite_due(record: &mut [u8], due: FileDue)
-    requires { length «record».old ≡ 84 }
+fn rewrite_due(record: &mut [u8; RECORD], due: FileDue)
     ensures { «record».new ≡ normal_record (columns_due due «record».old) «record».old }
 {
     match due {
-        FileDue::Sheet(part) => rewrite_part(record, part),
-        FileDue::Index(part) => rewrite_part(record, part),
+        FileDue::Sheet(part) | FileDue::Index(part) => rewrite_part(record, part),
         FileDue::Entry => rewrite_entry(record),
         FileDue::Data(held, behind) => data::data(record, held, behind),
-    }
-}
-
-fn copy(source: &[u8], target: &mut [u8])
-    requires { length target.old ≡ length source.now }
-    ensures { target.new ≡ source.now }
-{
-    let mut i = 0;
-    while i < source.len() {
-        target[i] = source[i];
-        i += 1;
     }
 }
 
@@ -79,8 +66,11 @@ fn write_record(source: &[u8], due: FileDue, target: &mut [u8])
     requires { (length source.now ≡ 84) × (length target.old ≡ 84) }
     ensures { target.new ≡ normal_record (columns_due due source.now) source.now }
 {
-    copy(source, target);
-    rewrite_due(target, due);
+    let Some(record) = target.as_mut_array::<RECORD>() else {
+        unreachable!()
+    };
+    record.copy_from_slice(source);
+    rewrite_due(record, due);
 }
 
 // The same at record k of the second buffer, counted from 0.
@@ -88,9 +78,8 @@ fn write_at(source: &[u8], due: FileDue, second: &mut [u8], k: usize)
     requires { (length source.now ≡ 84) × (84 * (k + 1) ≤ length second.old) }
     ensures { second.new ≡ with_record k (normal_record (columns_due due source.now) source.now) second.old }
 {
-    let start = files::RECORD * k;
-    let end = start + files::RECORD;
-    write_record(source, due, &mut second[start..end]);
+    let start = RECORD * k;
+    write_record(source, due, &mut second[start..start + RECORD]);
 }
 
 // The records of the buffer, n of them, to the second one, from the record that is due first.
@@ -99,45 +88,42 @@ fn write_records(buffer: &[u8], n: usize, first: FileDue, second: &mut [u8])
     ensures { second.new ≡ flat (rewritten first (chunks n buffer.now)) ++ drop (84 * n) second.old }
 {
     let mut due = first;
-    let mut k = 0;
-    while k < n {
+    for k in 0..n {
         let record = files::record_at(buffer, Stride::Plain, k);
         write_at(record, due, second, k);
         due = due::next_in_file(due, record);
-        k += 1;
     }
 }
 
 // An accepted file: "writes to a second buffer (else 15)".
-fn write_file(buffer: &[u8], used: usize, first: FileDue, second: &mut [u8]) -> Written
+fn write_file(
+    buffer: &[u8],
+    used: usize,
+    first: FileDue,
+    second: &mut [u8],
+) -> Result<usize, Refusal>
     requires { (used ≤ length buffer.now) × (used % 84 ≡ 0) }
     ensures { record { answer = written_answer result; bytes = second.new } ≡ file_to used first buffer.now second.old }
 {
     if second.len() < used {
-        return Written::Refused(15, 0);
+        return Err(Reason::Room.at(0));
     }
-    write_records(buffer, used / files::RECORD, first, second);
-    Written::Bytes(used)
+    write_records(buffer, used / RECORD, first, second);
+    Ok(used)
 }
 
 // The normal form of the sheet file in the first `used` bytes of the buffer.
-pub fn normal_sheet(buffer: &[u8], used: usize, second: &mut [u8]) -> Written
+pub fn normal_sheet(buffer: &[u8], used: usize, second: &mut [u8]) -> Result<usize, Refusal>
     ensures { record { answer = written_answer result; bytes = second.new } ≡ normal_sheet used buffer.now second.old }
 {
-    let sheet = judge::open_sheet(buffer, used, 0);
-    if sheet.fault != 0 {
-        return Written::Refused(sheet.fault, sheet.at);
-    }
+    judge::open_sheet(buffer, used, 0)?;
     write_file(buffer, used, FileDue::Sheet(Due::SheetA), second)
 }
 
 // The normal form of the index file in the first `used` bytes of the buffer.
-pub fn normal_index(buffer: &[u8], used: usize, second: &mut [u8]) -> Written
+pub fn normal_index(buffer: &[u8], used: usize, second: &mut [u8]) -> Result<usize, Refusal>
     ensures { record { answer = written_answer result; bytes = second.new } ≡ normal_index used buffer.now second.old }
 {
-    let judged = judge::judge_index(buffer, used);
-    match judged {
-        Judged::Refused(number, at) => Written::Refused(number, at),
-        Judged::Accepted(_, _) => write_file(buffer, used, FileDue::Index(Due::IndexA), second),
-    }
+    judge::judge_index(buffer, used)?;
+    write_file(buffer, used, FileDue::Index(Due::IndexA), second)
 }

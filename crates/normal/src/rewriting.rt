@@ -1,57 +1,54 @@
-// The columns of a record by their forms: integers are read and written again in written form, blanks stay as they are.
-ghost use Rattle.std.specs.Prelude.{◌≡◌, ◌<◌, length};
-ghost use Rattle.layouts.specs.Tables.{integer_or_spaces_form};
-ghost use Rattle.normal.specs.Rewriting.{rewritten_at, rewritten_as, rewritten_of, rewritten_all};
+// A record by the table of its layout: its judged columns in written form, all its other bytes as they are.
+ghost use Rattle.std.specs.Prelude.{◌≡◌, true};
+ghost use Rattle.format.specs.Normal.{normal_record};
+ghost use Rattle.layouts.specs.Tables.{tabled};
+ghost use Rattle.normal.specs.Rewriting.{all_lie, rewritten_at, rewritten_as, rewritten_all};
 
-use layouts::{INTEGER, INTEGER_OR_SPACES};
+use files::RECORD;
+use layouts::{Form, Layout, TableColumn};
 
 // An integer, in written form.
-fn rewrite(record: &mut [u8], start: usize, width: usize)
+fn rewrite_integer(record: &mut [u8; RECORD], start: usize, width: usize)
     ensures { «record».new ≡ rewritten_at «record».old start width }
 {
     let z = columns::integer_at(record, start, width);
     columns::write_at(record, start, width, z);
 }
 
-// An integer or spaces: spaces stay.
-fn rewrite_unless_spaces(record: &mut [u8], start: usize, width: usize)
-    ensures { «record».new ≡ rewritten_as «record».old start width integer_or_spaces_form }
+// A column by its form: spaces stay where they may stand, and a blank stays.
+fn rewrite_column(record: &mut [u8; RECORD], column: TableColumn)
+    ensures { «record».new ≡ rewritten_as «record».old column.start column.width column.form }
 {
-    if columns::spaces_at(record, start, width) {
-        return;
-    }
-    rewrite(record, start, width);
-}
-
-// A column by its form: a blank stays.
-fn rewrite_by_form(record: &mut [u8], start: u8, width: u8, form: u8)
-    ensures { «record».new ≡ rewritten_as «record».old start width form }
-{
-    if form == INTEGER {
-        rewrite(record, start as usize, width as usize);
-        return;
-    }
-    if form == INTEGER_OR_SPACES {
-        rewrite_unless_spaces(record, start as usize, width as usize);
+    let TableColumn {
+        start,
+        width,
+        form,
+        ..
+    } = column;
+    match form {
+        Form::Integer => rewrite_integer(record, start, width),
+        Form::IntegerOrSpaces => {
+            if !columns::spaces_at(record, start, width) {
+                rewrite_integer(record, start, width);
+            }
+        }
+        Form::Blank => {}
     }
 }
 
-// Column i of the tables.
-fn rewrite_column(record: &mut [u8], i: usize, starts: &[u8], widths: &[u8], forms: &[u8])
-    requires { (i < length starts.now) × (length widths.now ≡ length starts.now) × (length forms.now ≡ length starts.now) }
-    ensures { «record».new ≡ rewritten_of «record».old i starts.now widths.now forms.now }
+// The columns of a table, one after another.
+pub(crate) fn rewrite_columns(record: &mut [u8; RECORD], table: &[TableColumn])
+    ensures { «record».new ≡ rewritten_all «record».old table.now }
 {
-    rewrite_by_form(record, starts[i], widths[i], forms[i]);
+    for column in table {
+        rewrite_column(record, *column);
+    }
 }
 
-// All columns of the tables.
-pub(crate) fn rewrite_columns(record: &mut [u8], starts: &[u8], widths: &[u8], forms: &[u8])
-    requires { (length widths.now ≡ length starts.now) × (length forms.now ≡ length starts.now) }
-    ensures { «record».new ≡ rewritten_all «record».old starts.now widths.now forms.now }
+// A record of a layout, whose judged columns lie inside a record.
+pub(crate) fn rewrite<L: Layout>(record: &mut [u8; RECORD])
+    requires { all_lie (tabled L.columns) ≡ true }
+    ensures { «record».new ≡ normal_record L.columns «record».old }
 {
-    let mut i = 0;
-    while i < starts.len() {
-        rewrite_column(record, i, starts, widths, forms);
-        i += 1;
-    }
+    rewrite_columns(record, L::table());
 }

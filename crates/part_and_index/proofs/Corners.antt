@@ -1,22 +1,22 @@
 -- The eight wholes, the eight fractions and the eight corners, one after the other. Assumes nothing.
 use mathlib.Core.Path.{◌≡◌, refl, ap, sym, ◌∙◌}
-use mathlib.Core.Bool.{Bool, true, false, not, ◌&&◌}
-use mathlib.Core.List.{List, [], ◌∷◌}
+use mathlib.Core.List.{List, [], ◌∷◌, map}
+use Rattle.std.proofs.lemmas.List.{get_or-map}
 use Prim.Native.Nat.{ℕ, zero, suc, ◌+◌, ◌^◌, ◌≤◌, ◌<◌}
 use native.Mathlib.Numerals.{add-one}
 use native.Mathlib.Omega.{arith}
-use borrow.Author.Tests.{not-true, not-false}
 use lib.IntN.{ℤ, pos}
 use lib.Signed.{mag}
-use lib.ListN.{length, take, drop, get_or, set, drop_of_length-le}
-use lib.Seq.{drop-cons, take_all, take-suc, take-suc-set}
+use lib.ListN.{length, length-map, take, get_or, set}
+use lib.Seq.{take_all, take-suc, take-suc-set}
 use Rattle.format.specs.Column.{column_of, integer}
-use Rattle.format.specs.Corner.{fraction_ok, join}
+use Rattle.format.specs.Corner.{join}
 use Rattle.format.specs.Answers.{number_answer}
-use Rattle.format.specs.declared.Number.{Number}
-use Rattle.format.specs.declared.Number.TheVariants.{Is, Refused}
+use Rattle.format.specs.declared.Refusal.{Refusal}
+use Rattle.std.specs.Prelude.{Result, Ok, Err}
+use Rattle.std.specs.Result.{result_unwrap_or}
 use Rattle.format.specs.Layout.{find, column, integer_at, sheet_b, sheet_e}
-use Rattle.format.specs.Sheet.{wholes_of, fractions_of, fractions_ok}
+use Rattle.format.specs.Sheet.{wholes_of, fractions_of}
 use Rattle.columns.specs.InRecord.{column_at}
 use Rattle.format.proofs.Signed.{stored, back}
 use Rattle.part_and_index.specs.Progress.{joined, corner_of, corners_of}
@@ -25,57 +25,53 @@ use Rattle.part_and_index.proofs.FaultLaws.{integer-there}
 pub stored_is : (z y : ℤ) → mag z < 2 ^ 63 → z ≡ y → stored z ≡ y
 stored_is z y known e = back z (record { sfits = known }) ∙ e
 
--- ---- the eight wholes of record b, the eight fractions of record e
-module _ (r : List ℕ) (wide : length r ≡ 84) (a b c d e f g h : ℤ) where
+-- ---- eight values stored one after the other: those so far are the first of a list
+module _ (values at : List ℤ) (i : ℕ) (eight : length values ≡ 8) (long : length at ≡ 8) (left : take i at ≡ take i values) where
+  value_more : i < 8 → (z : ℤ) → mag z < 2 ^ 63 → z ≡ get_or values i (pos 0) → take (i + 1) (set at i (stored z)) ≡ take (i + 1) values
+  value_more h z kz e =
+      let is : stored z ≡ get_or values i (pos 0) = stored_is z _ kz e in
+      let room : i < length at = omega arith in
+      let there : i < length values = omega arith in
+      rw (add-one i, take-suc-set at i (stored z) room, take-suc values i (pos 0) there, left, is)
+
+  values_all : 8 ≤ i → at ≡ values
+  values_all h = sym (take_all i at (omega arith)) ∙ left ∙ take_all i values (omega arith)
+
+-- ---- `eight_integers`, and what they are in records b and e
+module _ (r starts : List ℕ) (width : ℕ) (eight : length starts ≡ 8) where
+  abbrev integers : List ℤ
+  integers = map (λ (start : ℕ). integer (column_at r start width)) starts
+
+  pub integer-more : (at : List ℤ) (i : ℕ) → length at ≡ 8 → take i at ≡ take i integers → i < 8 → (z : ℤ) → mag z < 2 ^ 63 → z ≡ integer (column_at r (get_or starts i 0) width) → take (i + 1) (set at i (stored z)) ≡ take (i + 1) integers
+  integer-more at i long left h z kz e = value_more integers at i (length-map starts _ ∙ eight) long left h z kz (e ∙ sym (get_or-map (λ (start : ℕ). integer (column_at r start width)) starts i 0 (pos 0) (omega arith)))
+
+  pub integers-all : (at : List ℤ) (i : ℕ) → length at ≡ 8 → take i at ≡ take i integers → 8 ≤ i → at ≡ integers
+  integers-all at i long left h = values_all integers at i (length-map starts _ ∙ eight) long left h
+
+module _ (r : List ℕ) (wide : length r ≡ 84) where
   there : (start width : ℕ) → start + width ≤ 84 → width ≤ 18 → integer (column_at r start width) ≡ integer (column_of (column start width r))
   there start width = integer-there r start width wide
 
-  pub wholes_read : a ≡ integer (column_at r 0 7) → b ≡ integer (column_at r 7 7) → c ≡ integer (column_at r 14 7) → d ≡ integer (column_at r 21 7) → e ≡ integer (column_at r 47 7) → f ≡ integer (column_at r 54 7) → g ≡ integer (column_at r 61 7) → h ≡ integer (column_at r 68 7) → a ∷ b ∷ c ∷ d ∷ e ∷ f ∷ g ∷ h ∷ [] ≡ wholes_of r
+  pub wholes_read : map (λ (start : ℕ). integer (column_at r start 7)) (0 ∷ 7 ∷ 14 ∷ 21 ∷ 47 ∷ 54 ∷ 61 ∷ 68 ∷ []) ≡ wholes_of r
   unfolding wholes_of integer_at find sheet_b
-  wholes_read pa pb pc pd pe pf pg ph =
-      rw (pa, pb, pc, pd, pe, pf, pg, ph, there 0 7 (omega arith) (omega arith), there 7 7 (omega arith) (omega arith), there 14 7 (omega arith) (omega arith), there 21 7 (omega arith) (omega arith), there 47 7 (omega arith) (omega arith), there 54 7 (omega arith) (omega arith), there 61 7 (omega arith) (omega arith), there 68 7 (omega arith) (omega arith))
+  wholes_read = rw (there 0 7 (omega arith) (omega arith), there 7 7 (omega arith) (omega arith), there 14 7 (omega arith) (omega arith), there 21 7 (omega arith) (omega arith), there 47 7 (omega arith) (omega arith), there 54 7 (omega arith) (omega arith), there 61 7 (omega arith) (omega arith), there 68 7 (omega arith) (omega arith))
 
-  pub fractions_read : a ≡ integer (column_at r 40 4) → b ≡ integer (column_at r 44 4) → c ≡ integer (column_at r 48 4) → d ≡ integer (column_at r 52 4) → e ≡ integer (column_at r 56 4) → f ≡ integer (column_at r 60 4) → g ≡ integer (column_at r 64 4) → h ≡ integer (column_at r 68 4) → a ∷ b ∷ c ∷ d ∷ e ∷ f ∷ g ∷ h ∷ [] ≡ fractions_of r
+  pub fractions_read : map (λ (start : ℕ). integer (column_at r start 4)) (40 ∷ 44 ∷ 48 ∷ 52 ∷ 56 ∷ 60 ∷ 64 ∷ 68 ∷ []) ≡ fractions_of r
   unfolding fractions_of integer_at find sheet_e
-  fractions_read pa pb pc pd pe pf pg ph =
-      rw (pa, pb, pc, pd, pe, pf, pg, ph, there 40 4 (omega arith) (omega arith), there 44 4 (omega arith) (omega arith), there 48 4 (omega arith) (omega arith), there 52 4 (omega arith) (omega arith), there 56 4 (omega arith) (omega arith), there 60 4 (omega arith) (omega arith), there 64 4 (omega arith) (omega arith), there 68 4 (omega arith) (omega arith))
-
--- ---- `fractions_ok`: one turn of the loop, and its end
-module _ (unit : ℕ) (wholes fractions : List ℤ) (i : ℕ) (eight : length wholes ≡ 8) (eight' : length fractions ≡ 8) (left : fractions_ok unit (drop i wholes) (drop i fractions) ≡ fractions_ok unit wholes fractions) where
-  module _ (h : i < 8) (known : mag (get_or wholes i (pos 0)) < 2 ^ 63) (known' : mag (get_or fractions i (pos 0)) < 2 ^ 63) (t : Bool) (tested : t ≡ fraction_ok unit (stored (get_or wholes i (pos 0))) (stored (get_or fractions i (pos 0)))) where
-    one : fractions_ok unit (drop i wholes) (drop i fractions) ≡ fraction_ok unit (get_or wholes i (pos 0)) (get_or fractions i (pos 0)) && fractions_ok unit (drop (i + 1) wholes) (drop (i + 1) fractions)
-    one = rw (drop-cons wholes i (pos 0) (omega arith), drop-cons fractions i (pos 0) (omega arith), add-one i)
-
-    turned : t && fractions_ok unit (drop (i + 1) wholes) (drop (i + 1) fractions) ≡ fractions_ok unit wholes fractions
-    turned = rw (tested, stored_is (get_or wholes i (pos 0)) _ known refl, stored_is (get_or fractions i (pos 0)) _ known' refl) (sym one ∙ left)
-
-    pub one_fails : not t ≡ true → false ≡ fractions_ok unit wholes fractions
-    one_fails n = rw (not-true t n) at turned
-
-    pub one_passes : not t ≡ false → fractions_ok unit (drop (i + 1) wholes) (drop (i + 1) fractions) ≡ fractions_ok unit wholes fractions
-    one_passes n = rw (not-false t n) at turned
-
-  pub all_pass : 8 ≤ i → true ≡ fractions_ok unit wholes fractions
-  all_pass h = rw over at left
-    where
-      over : drop i wholes ≡ []
-      over = drop_of_length-le wholes (let g : length wholes ≤ i = omega arith in g)
+  fractions_read = rw (there 40 4 (omega arith) (omega arith), there 44 4 (omega arith) (omega arith), there 48 4 (omega arith) (omega arith), there 52 4 (omega arith) (omega arith), there 56 4 (omega arith) (omega arith), there 60 4 (omega arith) (omega arith), there 64 4 (omega arith) (omega arith), there 68 4 (omega arith) (omega arith))
 
 -- ---- `corner`
-module _ (unit : ℕ) (whole fraction : ℤ) (fw : mag whole < 2 ^ 63) (ff : mag fraction < 2 ^ 63) (n : Number) (e : number_answer n ≡ join unit (stored whole) (stored fraction)) where
-  answer_is : number_answer n ≡ join unit whole fraction
-  answer_is = e ∙ rw (stored_is whole _ fw refl, stored_is fraction _ ff refl)
+joined_or : (v : Result ℤ Refusal) → joined (number_answer v) ≡ result_unwrap_or v (pos 0)
+unfolding number_answer
+joined_or (Ok z) = refl
+joined_or (Err r) = refl
 
-  joined_is : (m : Number) → n ≡ m → joined (number_answer m) ≡ joined (join unit whole fraction)
-  joined_is m h = ap joined (ap number_answer (sym h) ∙ answer_is)
-
-  pub corner-joined : (z : ℤ) → mag z < 2 ^ 63 → n ≡ Is z → stored z ≡ corner_of unit whole fraction
-  unfolding corner_of number_answer
-  corner-joined z f h = stored_is z _ f (joined_is (Is z) h)
-
-  pub corner-refused : (number at : ℕ) → n ≡ Refused number at → pos 0 ≡ corner_of unit whole fraction
-  unfolding corner_of number_answer
-  corner-refused number at h = joined_is (Refused number at) h
+module _ (unit : ℕ) (whole fraction : ℤ) (fw : mag whole < 2 ^ 63) (ff : mag fraction < 2 ^ 63) where
+  pub corner-joined : (v : Result ℤ Refusal) → number_answer v ≡ join unit (stored whole) (stored fraction) → (z : ℤ) → mag z < 2 ^ 63 → z ≡ result_unwrap_or v (pos 0) → stored z ≡ corner_of unit whole fraction
+  unfolding corner_of
+  corner-joined v e z f h =
+      let both : join unit (stored whole) (stored fraction) ≡ join unit whole fraction = rw (stored_is whole _ fw refl, stored_is fraction _ ff refl) in
+      stored_is z _ f (h ∙ sym (joined_or v) ∙ ap joined (e ∙ both))
 
 -- ---- `corners_of`: the corners so far are the first ones
 length-corners : (unit : ℕ) (ws fs : List ℤ) → length ws ≡ length fs → length (corners_of unit ws fs) ≡ length ws
@@ -94,11 +90,7 @@ module _ (unit : ℕ) (wholes fractions at : List ℤ) (i : ℕ) (eight : length
   long_corners = length-corners unit wholes fractions (eight ∙ sym eight') ∙ eight
 
   pub corner-more : i < 8 → mag (get_or wholes i (pos 0)) < 2 ^ 63 → mag (get_or fractions i (pos 0)) < 2 ^ 63 → (z : ℤ) → mag z < 2 ^ 63 → z ≡ corner_of unit (stored (get_or wholes i (pos 0))) (stored (get_or fractions i (pos 0))) → take (i + 1) (set at i (stored z)) ≡ take (i + 1) (corners_of unit wholes fractions)
-  corner-more h kw kf z kz e =
-      let is : stored z ≡ get_or (corners_of unit wholes fractions) i (pos 0) = stored_is z _ kz (e ∙ rw (stored_is (get_or wholes i (pos 0)) _ kw refl, stored_is (get_or fractions i (pos 0)) _ kf refl) (sym (corner-at unit wholes fractions i (omega arith) (eight ∙ sym eight')))) in
-      let room : i < length at = omega arith in
-      let there : i < length (corners_of unit wholes fractions) = omega (arith, long_corners) in
-      rw (add-one i, take-suc-set at i (stored z) room, take-suc (corners_of unit wholes fractions) i (pos 0) there, left, is)
+  corner-more h kw kf z kz e = value_more (corners_of unit wholes fractions) at i long_corners long left h z kz (e ∙ rw (stored_is (get_or wholes i (pos 0)) _ kw refl, stored_is (get_or fractions i (pos 0)) _ kf refl) (sym (corner-at unit wholes fractions i (omega arith) (eight ∙ sym eight'))))
 
   pub corners-all : 8 ≤ i → at ≡ corners_of unit wholes fractions
-  corners-all h = sym (take_all i at (omega arith)) ∙ left ∙ take_all i (corners_of unit wholes fractions) (omega (arith, long_corners))
+  corners-all h = values_all (corners_of unit wholes fractions) at i long_corners long left h

@@ -1,7 +1,7 @@
 -- Which record is due behind another, in the code's own words; and that what is due follows format's phases and stages. Assumes nothing.
-use mathlib.Core.Path.{◌≡◌, refl, ap, sym, ◌∙◌}
+use mathlib.Core.Path.{◌≡◌, refl, sym, ◌∙◌}
 use mathlib.Core.List.{List, []}
-use Prim.Native.Nat.{ℕ, zero, suc, ◌-◌}
+use Prim.Native.Nat.{ℕ, zero, suc}
 use native.Mathlib.Omega.{arith}
 use borrow.Author.Tests.{eq-eqb, ne_eqb}
 use lib.IntN.{ℤ}
@@ -14,38 +14,6 @@ use Rattle.part_and_index.specs.declared.due.Due.{Due}
 use Rattle.part_and_index.specs.declared.due.Due.TheVariants.{SheetA, SheetB, SheetC, SheetD, SheetE, SheetF, IndexA, IndexB, IndexC, Over}
 use Rattle.part_and_index.specs.Due.{due_in, due_at, next_of_whole, next_due}
 use Rattle.part_and_index.proofs.FaultLaws.{number-there}
-
--- ---- so many more of a sort
-one_less : (n : ℕ) → suc n - 1 ≡ n
-one_less n = omega arith
-
-pub no_set : (sets : ℕ) → sets ≡ 0 → Over ≡ due_in (Sheet.after_set 0 [] sets)
-no_set sets e = rw e
-
-pub a-set : (sets : ℕ) → (sets ≡ 0 → ⊥) → SheetD (sets - 1) ≡ due_in (Sheet.after_set 0 [] sets)
-a-set zero h = absurd (h refl)
-a-set (suc n) h = ap SheetD (one_less n)
-
-pub no_f : (fs sets : ℕ) (d : Due) → fs ≡ 0 → d ≡ due_in (Sheet.after_set 0 [] sets) → d ≡ due_in (Sheet.due_fs 0 [] sets fs)
-no_f fs sets d e h = rw e h
-
-pub an_f : (fs sets : ℕ) → (fs ≡ 0 → ⊥) → SheetF (fs - 1) sets ≡ due_in (Sheet.due_fs 0 [] sets fs)
-an_f zero sets h = absurd (h refl)
-an_f (suc n) sets h = ap (λ (k : ℕ). SheetF k sets) (one_less n)
-
-pub no_c : (cs : ℕ) → cs ≡ 0 → Over ≡ due_at (Index.due_cs cs)
-no_c cs e = rw e
-
-pub a_c : (cs : ℕ) → (cs ≡ 0 → ⊥) → IndexC (cs - 1) ≡ due_at (Index.due_cs cs)
-a_c zero h = absurd (h refl)
-a_c (suc n) h = ap IndexC (one_less n)
-
-pub no_b : (bs cs : ℕ) (d : Due) → bs ≡ 0 → d ≡ due_at (Index.due_cs cs) → d ≡ due_at (Index.due_bs bs cs)
-no_b bs cs d e h = rw e h
-
-pub a-b : (bs cs : ℕ) → (bs ≡ 0 → ⊥) → IndexB (bs - 1) cs ≡ due_at (Index.due_bs bs cs)
-a-b zero cs h = absurd (h refl)
-a-b (suc n) cs h = ap (λ (k : ℕ). IndexB k cs) (one_less n)
 
 -- ---- `next_of_whole`
 module _ (due : Due) (r : List ℕ) (wide : length r ≡ 84) where

@@ -14,8 +14,8 @@ use Rattle.format.specs.Sheet.{due_a, sheet_machine, sheet_fault, part_length, c
 use Rattle.format.specs.Index as Index
 use Rattle.format.proofs.EditRecords.{sheet_ok}
 use Rattle.format.proofs.SheetCounts.{the_laws}
-use Rattle.part_and_index.specs.declared.SheetPart.{SheetPart}
-use Rattle.part_and_index.specs.declared.Fault as Declared
+use Rattle.part_and_index.specs.Result.{SheetPart}
+use Rattle.part_and_index.specs.Result.{IndexFault}
 use Rattle.part_and_index.specs.Result.{sound_part, part_answer, sheet_part_of, fault_answer, index_fault_of}
 use Rattle.part_and_index.proofs.Parts.{Numbered, either_numbered, number_numbered, part_numbered}
 
@@ -71,7 +71,7 @@ module _ (rs : List (List ℕ)) (part : SheetPart) (answer : part ≡ sheet_part
       go (fault n at) e = e ∙ rw (answer_is (fault n at) e)
 
 -- ---- THE INDEX
-module _ (rs : List (List ℕ)) (answer : Declared.Fault) (is : answer ≡ index_fault_of rs) where
+module _ (rs : List (List ℕ)) (answer : IndexFault) (is : answer ≡ index_fault_of rs) where
   index_is : (f : Fault) → Index.index_fault rs ≡ f → answer ≡ fault_answer f
   unfolding index_fault_of
   index_is f e = is ∙ ap fault_answer e
@@ -86,11 +86,11 @@ module _ (rs : List (List ℕ)) (answer : Declared.Fault) (is : answer ≡ index
     where
       go : (f : Fault) → Index.index_fault rs ≡ f → Numbered f → Index.index_fault rs ≡ none
       go none e p = e
-      go (fault n at) e p = absurd (p (ap (λ (a : Declared.Fault). a.number) (sym (index_is (fault n at) e)) ∙ z))
+      go (fault n at) e p = absurd (p (ap (λ (a : IndexFault). a.number) (sym (index_is (fault n at) e)) ∙ z))
 
   pub refused-index : (answer.number ≡ 0 → ⊥) → Index.index_fault rs ≡ fault answer.number answer.at
   refused-index z = go (Index.index_fault rs) refl
     where
       go : (f : Fault) → Index.index_fault rs ≡ f → Index.index_fault rs ≡ fault answer.number answer.at
-      go none e = absurd (z (ap (λ (a : Declared.Fault). a.number) (index_is none e)))
+      go none e = absurd (z (ap (λ (a : IndexFault). a.number) (index_is none e)))
       go (fault n at) e = e ∙ rw (index_is (fault n at) e)

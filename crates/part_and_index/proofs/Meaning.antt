@@ -19,8 +19,8 @@ use Rattle.format.proofs.Basics.{first_alone}
 use Rattle.format.proofs.Lists.{Wide}
 use Rattle.part_and_index.specs.declared.due.Due.{Due}
 use Rattle.part_and_index.specs.declared.due.Due.TheVariants.{SheetA, SheetB, SheetC, SheetD, SheetE, SheetF, IndexA, IndexB, IndexC, Over}
-use Rattle.part_and_index.specs.declared.progress.Progress.{Progress}
-use Rattle.part_and_index.specs.declared.SheetPart.{SheetPart}
+use Rattle.part_and_index.specs.Progress.{Progress}
+use Rattle.part_and_index.specs.Result.{SheetPart}
 use Rattle.part_and_index.specs.Due.{due_in, due_at, next_of_whole, is_over}
 use Rattle.part_and_index.specs.Result.{refused_part}
 use Rattle.part_and_index.specs.Progress.{phase_by, phase_of, stage_by, stage_of, fault_of, put, said, stepped}

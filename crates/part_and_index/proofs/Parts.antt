@@ -1,4 +1,5 @@
 -- What the two calls answer: the sheet part with what record 2 states and the corners of the last e record, and the first fault of an index. Assumes nothing.
+use Rattle.format.proofs.Reasons.{not_zero}
 use mathlib.Core.Path.{◌≡◌, refl, ap, sym, ◌∙◌}
 use mathlib.Core.Bool.{Bool, true, false, cond, ◌||◌, false≢true}
 use mathlib.Core.List.{List, [], ◌∷◌}
@@ -25,12 +26,14 @@ use Rattle.format.proofs.NormalReads.{read_fits}
 use Rattle.format.proofs.SheetPhases.{fine_from, fault-fine}
 use Rattle.part_and_index.specs.declared.due.Due.{Due}
 use Rattle.part_and_index.specs.declared.due.Due.TheVariants.{SheetA, SheetB, SheetC, SheetD, SheetE, SheetF, IndexA, IndexB, IndexC, Over}
-use Rattle.part_and_index.specs.declared.progress.Progress.{Progress}
-use Rattle.part_and_index.specs.declared.SheetPart.{SheetPart}
+use Rattle.part_and_index.specs.Progress.{Progress}
+use Rattle.part_and_index.specs.Result.{SheetPart}
 use Rattle.part_and_index.specs.Due.{due_in, next_of_whole, is_over}
-use Rattle.part_and_index.specs.Result.{sound_part, part_answer, sheet_part_of, fault_answer, index_fault_of}
+use Rattle.part_and_index.specs.Result.{refused_part, sound_part, part_answer, sheet_part_of, fault_answer, index_fault_of}
 use Rattle.part_and_index.specs.Progress.{phase_by, phase_of, stage_of, fault_of, started, put, corner_of, corners_of, said, stepped}
 use Rattle.part_and_index.specs.Steps.{passed_part, walked_from}
+use Rattle.format.specs.Reasons.{refusal_number}
+use Rattle.format.specs.declared.Reason.{Reason}
 use Rattle.part_and_index.proofs.Meaning.{OfSheet, step_taken, due_stepped, over_phase, after_phase, still_sheet, progress_from, part_by, walked_sheet, walked_index}
 
 -- ---- numbers fit the columns that they were read from
@@ -319,7 +322,7 @@ module _ (rs : List (List ℕ)) (wide : Wide rs) (w : SheetPart) (walked : w ≡
   unfolding index_fault_of Index.index_fault
   answer_by f e = ap (λ (f : Fault). fault_answer (or_else f (to_fault (unless (eqb (length rs) (part_from Index.index_machine Index.due_a rs)) 10) 1))) (sym e)
 
-  pub index-fails : (w.fault ≡ 0 → ⊥) → record { number = w.fault; at = w.at } ≡ index_fault_of rs
+  index-fails : (w.fault ≡ 0 → ⊥) → record { number = w.fault; at = w.at } ≡ index_fault_of rs
   index-fails z = go found refl
     where
       go : (f : Fault) → found ≡ f → record { number = w.fault; at = w.at } ≡ index_fault_of rs
@@ -344,3 +347,7 @@ module _ (rs : List (List ℕ)) (wide : Wide rs) (w : SheetPart) (walked : w ≡
 
       pub index-passes : w.length ≡ count → record { number = 0; at = 0 } ≡ index_fault_of rs
       index-passes h = ap (λ (t : Bool). fault_answer (to_fault (unless t 10) 1)) (sym (eq-eqb (length rs) (part_from Index.index_machine Index.due_a rs) (sym all ∙ sym h ∙ passed_is))) ∙ answer_by none no_fault
+
+-- the same of a refusal by its reason
+pub index_refused : (rs : List (List ℕ)) → Wide rs → (reason : Reason) (at : ℕ) → refused_part (refusal_number reason) at ≡ walked_from (started IndexA) 0 rs → record { number = refusal_number reason; at = at } ≡ index_fault_of rs
+index_refused rs wide reason at e = index-fails rs wide (refused_part (refusal_number reason) at) e (not_zero reason)

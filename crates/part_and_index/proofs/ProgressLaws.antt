@@ -1,40 +1,25 @@
 -- One record more, each arm of the step in the code's own words. Assumes nothing.
 use mathlib.Core.Path.{◌≡◌, refl, sym, ◌∙◌}
 use mathlib.Core.List.{List}
+use mathlib.Core.Logic.{◌⊎◌, inl, inr}
 use Prim.Native.Nat.{ℕ}
-use native.Mathlib.Omega.{arith}
 use borrow.Author.Tests.{ne_eqb}
-use lib.IntN.{ℤ}
 use lib.ListN.{length}
 use Rattle.format.specs.Basics.{first}
-use Rattle.format.specs.Layout.{find, number_at, sheet_a, sheet_b, sheet_f, index_c}
+use Rattle.format.specs.Layout.{sheet_f, index_c}
 use Rattle.format.specs.Sheet as Sheet
 use Rattle.format.specs.Sheet.{wholes_of, fractions_of, stated_elements, stated_records}
 use Rattle.format.specs.Index as Index
 use Rattle.format.proofs.Basics.{first_alone}
-use Rattle.columns.specs.InRecord.{number_in}
 use Rattle.layout_faults.specs.Faults.{fault_in}
 use Rattle.part_and_index.specs.declared.due.Due.{Due}
 use Rattle.part_and_index.specs.declared.due.Due.TheVariants.{SheetA, SheetB, SheetC, SheetD, SheetE, SheetF, IndexA, IndexB, IndexC, Over}
-use Rattle.part_and_index.specs.declared.progress.Progress.{Progress}
+use Rattle.part_and_index.specs.Progress.{Progress}
 use Rattle.part_and_index.specs.Due.{next_of_whole}
-use Rattle.part_and_index.specs.Progress.{phase_by, phase_of, stage_by, stage_of, fault_of, put, corners_of, said_a, said_b, said, stepped}
+use Rattle.part_and_index.specs.Progress.{phase_by, phase_of, stage_by, stage_of, fault_of, put, said_a, said_b, said, stepped}
 use Rattle.part_and_index.specs.Steps.{fault_of_sheet_a, fault_of_sheet_b, fault_of_sheet_d, fault_of_sheet_e, fault_of_index_a, over_e}
-use Rattle.part_and_index.proofs.FaultLaws.{number-there, columns_first, c_unjudged, index_b_unjudged}
+use Rattle.part_and_index.proofs.FaultLaws.{columns_first, c_unjudged, index_b_unjudged}
 use Rattle.part_and_index.proofs.Meaning.{step_taken}
-
--- ---- what records a, b and e say
-module _ (r : List ℕ) (p q : Progress) (f : ℕ) (next : Due) (is : q ≡ put p f next) where
-  pub a-said : length r ≡ 84 → f ≡ fault_of_sheet_a r → (level : ℕ) → level ≡ number_in r 30 5 → record { fault = q.fault; due = q.due; level = level; unit = q.unit; wholes = q.wholes; stated_elements = q.stated_elements; stated_records = q.stated_records; corners = q.corners } ≡ said_a r (put p (fault_of_sheet_a r) next)
-  unfolding number_at find sheet_a
-  a-said wide e level el = rw (is, el, number-there r 30 5 wide (omega arith) (omega arith), e)
-
-  pub b-said : length r ≡ 84 → f ≡ fault_of_sheet_b p.level r → (unit : ℕ) → unit ≡ number_in r 44 3 → (wholes : List ℤ) → wholes ≡ wholes_of r → (elements : ℕ) → elements ≡ number_in r 31 6 → (records : ℕ) → records ≡ number_in r 37 7 → record { fault = q.fault; due = q.due; level = q.level; unit = unit; wholes = wholes; stated_elements = elements; stated_records = records; corners = q.corners } ≡ said_b r (put p (fault_of_sheet_b p.level r) next)
-  unfolding number_at find sheet_b stated_elements stated_records
-  b-said wide e unit eu wholes ew elements ee records er = rw (is, eu, ew, ee, er, number-there r 44 3 wide (omega arith) (omega arith), number-there r 31 6 wide (omega arith) (omega arith), number-there r 37 7 wide (omega arith) (omega arith), e)
-
-  pub e-said : (fractions : List ℤ) → fractions ≡ fractions_of r → f ≡ fault_of_sheet_e p.unit p.wholes fractions r → (corners : List ℤ) → corners ≡ corners_of p.unit p.wholes fractions → record { fault = q.fault; due = q.due; level = q.level; unit = q.unit; wholes = q.wholes; stated_elements = q.stated_elements; stated_records = q.stated_records; corners = corners } ≡ over_e r p next
-  e-said fractions ef e corners ec = rw (is, ec, e, ef)
 
 -- ---- `step`
 module _ (p : Progress) (r : List ℕ) (q : Progress) where
@@ -59,30 +44,36 @@ module _ (p : Progress) (r : List ℕ) (q : Progress) where
     unfolding fault_of_sheet_b
     step-sheet-b sets e h = sheet_is (SheetB sets) e refl (fault_of_sheet_b p.level r) refl h
 
-    pub step-sheet-c : (sets : ℕ) → p.due ≡ SheetC sets → q ≡ put p 0 next → q ≡ stepped p r
+    step-sheet-c : (sets : ℕ) → p.due ≡ SheetC sets → q ≡ put p 0 next → q ≡ stepped p r
     step-sheet-c sets e h = sheet_is (SheetC sets) e refl 0 (sym (c_unjudged r)) h
 
-    pub step-sheet-d : (sets : ℕ) → p.due ≡ SheetD sets → (f : ℕ) → f ≡ fault_of_sheet_d r → q ≡ put p f next → q ≡ stepped p r
+    pub step-sheet-d : (sets : ℕ) → p.due ≡ SheetD sets → (f : ℕ) → q ≡ put p f next → f ≡ fault_of_sheet_d r → q ≡ stepped p r
     unfolding fault_of_sheet_d
-    step-sheet-d sets e f ef h = sheet_is (SheetD sets) e refl f ef h
+    step-sheet-d sets e f h ef = sheet_is (SheetD sets) e refl f ef h
 
     pub step-sheet-e : (fs sets : ℕ) → p.due ≡ SheetE fs sets → q ≡ over_e r p next → q ≡ stepped p r
     unfolding fault_of_sheet_e
     step-sheet-e fs sets e h = sheet_is (SheetE fs sets) e refl (fault_of_sheet_e p.unit p.wholes (fractions_of r) r) refl h
 
-    pub step-sheet-f : (fs sets : ℕ) → p.due ≡ SheetF fs sets → (f : ℕ) → f ≡ fault_in sheet_f r → q ≡ put p f next → q ≡ stepped p r
-    step-sheet-f fs sets e f ef h = sheet_is (SheetF fs sets) e refl f (columns_first sheet_f r wide f ef) h
+    pub step-sheet-f : (fs sets : ℕ) → p.due ≡ SheetF fs sets → (f : ℕ) → q ≡ put p f next → f ≡ fault_in sheet_f r → q ≡ stepped p r
+    step-sheet-f fs sets e f h ef = sheet_is (SheetF fs sets) e refl f (columns_first sheet_f r wide f ef) h
 
     -- of an index
-    pub step-index-a : p.due ≡ IndexA → (f : ℕ) → f ≡ fault_of_index_a r → q ≡ put p f next → q ≡ stepped p r
+    pub step-index-a : p.due ≡ IndexA → (f : ℕ) → q ≡ put p f next → f ≡ fault_of_index_a r → q ≡ stepped p r
     unfolding fault_of_index_a
-    step-index-a e f ef h = step_is IndexA e f ef h
+    step-index-a e f h ef = step_is IndexA e f ef h
 
-    pub step-index-b : (bs cs : ℕ) → p.due ≡ IndexB bs cs → q ≡ put p 0 next → q ≡ stepped p r
+    step-index-b : (bs cs : ℕ) → p.due ≡ IndexB bs cs → q ≡ put p 0 next → q ≡ stepped p r
     step-index-b bs cs e h = step_is (IndexB bs cs) e 0 (sym (index_b_unjudged r)) h
 
-    pub step-index-c : (cs : ℕ) → p.due ≡ IndexC cs → (f : ℕ) → f ≡ fault_in index_c r → q ≡ put p f next → q ≡ stepped p r
-    step-index-c cs e f ef h = step_is (IndexC cs) e f (columns_first index_c r wide f ef) h
+    pub step-index-c : (cs : ℕ) → p.due ≡ IndexC cs → (f : ℕ) → q ≡ put p f next → f ≡ fault_in index_c r → q ≡ stepped p r
+    step-index-c cs e f h ef = step_is (IndexC cs) e f (columns_first index_c r wide f ef) h
 
-    pub step-over : p.due ≡ Over → q ≡ put p 0 next → q ≡ stepped p r
+    step-over : p.due ≡ Over → q ≡ put p 0 next → q ≡ stepped p r
     step-over e h = step_is Over e 0 refl h
+
+    -- nothing is judged
+    pub step-unjudged : ((sets : ℕ) × (p.due ≡ SheetC sets)) ⊎ (((bs : ℕ) × (cs : ℕ) × (p.due ≡ IndexB bs cs)) ⊎ (p.due ≡ Over)) → q ≡ put p 0 next → q ≡ stepped p r
+    step-unjudged (inl e) h = step-sheet-c e.0 e.1 h
+    step-unjudged (inr (inl e)) h = step-index-b e.0 e.1 e.2 h
+    step-unjudged (inr (inr e)) h = step-over e h

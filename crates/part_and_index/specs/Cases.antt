@@ -8,8 +8,8 @@ use Rattle.format.specs.Corner.{fraction_ok, millimetres}
 use Rattle.format.specs.Layout.{column, find, integer_at, number_at, all_formed, all_inside, column_fault, index_a, index_b, index_c, sheet_a, sheet_b, sheet_c, sheet_d, sheet_e, sheet_f}
 use Rattle.format.specs.Sheet.{wholes_of, fractions_of, part_length, sheet_fault, corners, stated_elements, stated_records}
 use Rattle.format.specs.Index.{index_fault}
-use Rattle.part_and_index.specs.declared.SheetPart.{SheetPart}
-use Rattle.part_and_index.specs.declared.Fault.{Fault}
+use Rattle.part_and_index.specs.Result.{SheetPart}
+use Rattle.part_and_index.specs.Result.{IndexFault}
 use Rattle.part_and_index.specs.Result.{refused_part, sheet_part_of, index_fault_of}
 
 abbrev sheet-a : String
@@ -110,10 +110,10 @@ indexes =
     (index-a ∷ index-b ∷ index-c ∷ index-c ∷ []) ∷
     (sheet-a ∷ []) ∷ []
 
-abbrev answer : ℕ → ℕ → Fault
+abbrev answer : ℕ → ℕ → IndexFault
 answer number at = record { number = number; at = at }
 
-abbrev index_answers : List Fault
+abbrev index_answers : List IndexFault
 index_answers =
     answer 0 0 ∷
     answer 3 1 ∷

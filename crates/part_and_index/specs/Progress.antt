@@ -7,8 +7,24 @@ use Rattle.format.specs.Sheet as Sheet
 use Rattle.format.specs.Index as Index
 use Rattle.part_and_index.specs.declared.due.Due.{Due}
 use Rattle.part_and_index.specs.declared.due.Due.TheVariants.{SheetA, SheetB, SheetC, SheetD, SheetE, SheetF, IndexA, IndexB, IndexC, Over}
-use Rattle.part_and_index.specs.declared.progress.Progress.{Progress}
+use Rattle.format.specs.Reasons.{fault_number}
+use Rattle.part_and_index.specs.declared.progress.Progress as Declared
 use Rattle.part_and_index.specs.Due.{next_of_whole}
+
+-- how far judging has come: the fault of the record that was judged last, 0 for none; the record that is due; and what the records before it said
+pub record Progress : Type 0 where
+  pub fault : ℕ
+  pub due : Due
+  pub level : ℕ
+  pub unit : ℕ
+  pub wholes : List ℤ
+  pub stated_elements : ℕ
+  pub stated_records : ℕ
+  pub corners : List ℤ
+
+-- a progress of the code
+abbrev pub progress_said : Declared.Progress → Progress
+progress_said p = record { fault = fault_number p.verdict; due = p.due; level = p.level; unit = p.unit; wholes = p.wholes; stated_elements = p.stated_elements; stated_records = p.stated_records; corners = p.corners }
 
 -- ---- where a progress stands
 -- the phase of a sheet part, which is over where no record of one is due

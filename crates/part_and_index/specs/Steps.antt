@@ -6,8 +6,8 @@ use Rattle.format.specs.Layout.{column_fault, sheet_e}
 use Rattle.format.specs.Sheet as Sheet
 use Rattle.format.specs.Index as Index
 use Rattle.part_and_index.specs.declared.due.Due.{Due}
-use Rattle.part_and_index.specs.declared.progress.Progress.{Progress}
-use Rattle.part_and_index.specs.declared.SheetPart.{SheetPart}
+use Rattle.part_and_index.specs.Progress.{Progress}
+use Rattle.part_and_index.specs.Result.{SheetPart}
 use Rattle.part_and_index.specs.Due.{is_over}
 use Rattle.part_and_index.specs.Progress.{put, said_e, stepped}
 use Rattle.part_and_index.specs.Result.{refused_part}

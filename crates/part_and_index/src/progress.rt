@@ -1,17 +1,19 @@
 // Judging the records of a sheet part, or of an index, one after the other: what is due and what the records said so far, kept by value, and one record more.
-ghost use Rattle.std.specs.Prelude.{◌≡◌, length};
-ghost use Rattle.part_and_index.specs.Progress.{started, put, said_a, said_b, stepped};
+ghost use Rattle.std.specs.Prelude.{◌≡◌};
+ghost use Rattle.part_and_index.specs.Progress.{started, put, said_a, said_b, stepped, progress_said};
 ghost use Rattle.part_and_index.specs.Steps.{fault_of_sheet_a, fault_of_sheet_b, over_e};
 
 use super::due::Due;
 use super::{FourCorners, due, faults};
-use layouts::{SheetA, SheetB};
+use files::RECORD;
+use format::Reason;
+use layouts::{IndexC, SheetA, SheetB, SheetF};
 
-// How far the judging of a sheet part or of an index has come: the fault of the record that was judged last, 0 for none, and the record that is due. What
-// the records before it said: record a's level; record b's unit, wholes and two counts; the corners in millimetres that the last e record gives.
-#[derive(Clone, Copy)]
+// How far the judging of a sheet part or of an index has come: what the record that was judged last came to, and the record that is due. What the records
+// before it said: record a's level; record b's unit, wholes and two counts; the corners in millimetres that the last e record gives.
+#[derive(Clone, Copy, PartialEq, Eq, Debug)]
 pub struct Progress {
-    pub fault: u8,
+    pub verdict: Result<(), Reason>,
     pub due: Due,
     pub level: usize,
     pub unit: u64,
@@ -23,10 +25,10 @@ pub struct Progress {
 
 // Before the first record.
 pub(crate) fn start(first: Due) -> Progress
-    ensures { result ≡ started first }
+    ensures { progress_said result ≡ started first }
 {
     Progress {
-        fault: 0,
+        verdict: Ok(()),
         due: first,
         level: 0,
         unit: 0,
@@ -37,98 +39,85 @@ pub(crate) fn start(first: Due) -> Progress
     }
 }
 
-// The same with another fault and another record due.
-fn put(progress: Progress, fault: u8, due: Due) -> Progress
-    ensures { result ≡ put progress fault due }
+// Record a of a sheet, with what is due next.
+fn step_a(progress: Progress, record: &[u8; RECORD], next: Due) -> Progress
+    ensures { progress_said result ≡ said_a «record».now (put (progress_said progress) (fault_of_sheet_a «record».now) next) }
 {
-    let wholes = progress.wholes;
-    let corners = progress.corners;
     Progress {
-        fault,
-        due,
-        level: progress.level,
-        unit: progress.unit,
-        wholes,
-        stated_elements: progress.stated_elements,
-        stated_records: progress.stated_records,
-        corners,
+        verdict: faults::check_sheet_a(record),
+        due: next,
+        level: columns::number_at(record, SheetA::LEVEL_START, SheetA::LEVEL_WIDTH),
+        ..progress
     }
 }
 
-// Record a of a sheet, with what is due next.
-fn step_a(progress: Progress, record: &[u8], next: Due) -> Progress
-    requires { length «record».now ≡ 84 }
-    ensures { result ≡ said_a «record».now (put progress (fault_of_sheet_a «record».now) next) }
-{
-    let mut after = put(progress, faults::fault_of_sheet_a(record), next);
-    after.level = columns::number_at(record, SheetA::LEVEL_START, SheetA::LEVEL_WIDTH);
-    after
-}
-
 // Record b of a sheet, with what is due next.
-fn step_b(progress: Progress, record: &[u8], next: Due) -> Progress
-    requires { length «record».now ≡ 84 }
-    ensures { result ≡ said_b «record».now (put progress (fault_of_sheet_b progress.level «record».now) next) }
+fn step_b(progress: Progress, record: &[u8; RECORD], next: Due) -> Progress
+    ensures { progress_said result ≡ said_b «record».now (put (progress_said progress) (fault_of_sheet_b progress.level «record».now) next) }
 {
-    let unit = columns::number_at(record, SheetB::UNIT_START, SheetB::UNIT_WIDTH);
-    let wholes = faults::wholes_of(record);
-    let mut after = put(
-        progress,
-        faults::fault_of_sheet_b(record, progress.level),
-        next,
-    );
-    after.unit = unit as u64;
-    after.wholes = wholes;
-    after.stated_elements = columns::number_at(
-        record,
-        SheetB::ELEMENT_COUNT_START,
-        SheetB::ELEMENT_COUNT_WIDTH,
-    );
-    after.stated_records = columns::number_at(
-        record,
-        SheetB::RECORD_COUNT_START,
-        SheetB::RECORD_COUNT_WIDTH,
-    );
-    after
+    Progress {
+        verdict: faults::check_sheet_b(record, progress.level),
+        due: next,
+        unit: columns::number_at(record, SheetB::UNIT_START, SheetB::UNIT_WIDTH) as u64,
+        wholes: faults::wholes_of(record),
+        stated_elements: columns::number_at(
+            record,
+            SheetB::ELEMENT_COUNT_START,
+            SheetB::ELEMENT_COUNT_WIDTH,
+        ),
+        stated_records: columns::number_at(
+            record,
+            SheetB::RECORD_COUNT_START,
+            SheetB::RECORD_COUNT_WIDTH,
+        ),
+        ..progress
+    }
 }
 
 // Record e of a sheet, with what is due next.
-fn step_e(progress: Progress, record: &[u8], next: Due) -> Progress
-    requires { length «record».now ≡ 84 }
-    ensures { result ≡ over_e «record».now progress next }
+fn step_e(progress: Progress, record: &[u8; RECORD], next: Due) -> Progress
+    ensures { progress_said result ≡ over_e «record».now (progress_said progress) next }
 {
-    let unit = progress.unit;
-    let wholes = progress.wholes;
     let fractions = faults::fractions_of(record);
-    let corners = faults::corners_of(unit, wholes, fractions);
-    let mut after = put(
-        progress,
-        faults::fault_of_sheet_e(record, unit, wholes, fractions),
-        next,
-    );
-    after.corners = corners;
-    after
+    Progress {
+        verdict: faults::check_sheet_e(record, progress.unit, progress.wholes, fractions),
+        due: next,
+        corners: faults::corners_of(progress.unit, progress.wholes, fractions),
+        ..progress
+    }
+}
+
+// A whole record more.
+fn step_of_whole(progress: Progress, record: &[u8; RECORD]) -> Progress
+    ensures { progress_said result ≡ stepped (progress_said progress) «record».now }
+{
+    let due = due::next_of_whole(progress.due, record);
+    let verdict = match progress.due {
+        Due::SheetA => return step_a(progress, record, due),
+        Due::SheetB(_) => return step_b(progress, record, due),
+        Due::SheetE(_, _) => return step_e(progress, record, due),
+        Due::SheetD(_) => faults::check_sheet_d(record),
+        Due::SheetF(_, _) => layout_faults::check::<SheetF>(record),
+        Due::IndexA => faults::check_index_a(record),
+        Due::IndexC(_) => layout_faults::check::<IndexC>(record),
+        Due::SheetC(_) | Due::IndexB(_, _) | Due::Over => Ok(()),
+    };
+    Progress {
+        verdict,
+        due,
+        ..progress
+    }
 }
 
 // One record more, which is judged as the one that is due. Bytes that are no whole record are 1, and all else stays.
 pub fn step(progress: Progress, record: &[u8]) -> Progress
-    ensures { result ≡ stepped progress «record».now }
+    ensures { progress_said result ≡ stepped (progress_said progress) «record».now }
 {
-    let due = progress.due;
-    if record.len() != files::RECORD {
-        return put(progress, 1, due);
-    }
-    let next = due::next_of_whole(due, record);
-    match due {
-        Due::SheetA => step_a(progress, record, next),
-        Due::SheetB(_) => step_b(progress, record, next),
-        Due::SheetC(_) => put(progress, 0, next),
-        Due::SheetD(_) => put(progress, faults::fault_of_sheet_d(record), next),
-        Due::SheetE(_, _) => step_e(progress, record, next),
-        Due::SheetF(_, _) => put(progress, layout_faults::sheet_f_fault(record), next),
-        Due::IndexA => put(progress, faults::fault_of_index_a(record), next),
-        Due::IndexB(_, _) => put(progress, 0, next),
-        Due::IndexC(_) => put(progress, layout_faults::index_c_fault(record), next),
-        Due::Over => put(progress, 0, next),
-    }
+    let Ok(record) = <&[u8; RECORD]>::try_from(record) else {
+        return Progress {
+            verdict: Err(Reason::Length),
+            ..progress
+        };
+    };
+    step_of_whole(progress, record)
 }

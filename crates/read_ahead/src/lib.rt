@@ -16,25 +16,17 @@ const BLOCK: usize = 16384;
 // More than the bytes that are read of a block can add up to: 256 times 255 is 65,280.
 const NEVER: usize = 65281;
 
-fn wide(byte: u8) -> usize
-    ensures { result ≤ 255 }
-{
-    byte as usize
-}
-
 // Reads one byte of each line of the block that starts here, as far as the file goes, and adds them up.
 fn read_block(file: &[u8], start: usize) -> usize
     requires { start ≤ length file.now + 16384 }
     ensures { result ≤ 65280 }
 {
     let mut sum: usize = 0;
-    let mut line = 0;
-    while line < LINES {
+    for line in 0..LINES {
         if file.len() <= start + LINE * line {
             return sum;
         }
-        sum += wide(file[start + LINE * line]);
-        line += 1;
+        sum += usize::from(file[start + LINE * line]);
     }
     sum
 }

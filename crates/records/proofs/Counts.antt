@@ -149,3 +149,13 @@ module _ (l tally : List ℕ) (whole : length l ≡ 84) (agree : Bool) (s kind r
       let n : kind ≡ 10 = omega arith in
       let t : r ≡ number_at header "total" l = c ∙ total-stated l whole in
       rw (eq-eqb (length l) 84 whole, e, q, n, t)
+
+-- ---- what each function of the code stands on
+
+pub ruleset start_laws = (nine_start, own-start, no_start)
+
+pub ruleset width_laws = (nine_width, own-width, no_width)
+
+pub ruleset count_laws = (states_none, count-stated)
+
+pub ruleset agree_laws = (no_record, sum_fits, next_agrees, next-sum, all_agree)

@@ -11,6 +11,8 @@ use lib.ListN.{length}
 use mir.Syntax.{w64}
 use mir.Val.{SFits, to_z, of_z}
 use Rattle.format.specs.Basics.{unless}
+use Rattle.format.specs.Reasons.{refusal_number}
+use Rattle.format.specs.declared.Reason.{Reason}
 use Rattle.format.specs.Column.{integer}
 use Rattle.format.specs.Layout.{find, number_at, integer_at, all_formed, all_inside, column_fault, data_note, data_attribute}
 use Rattle.format.specs.Record.{notes, data_columns, direction_ok, data_fault}
@@ -26,8 +28,10 @@ use Rattle.records.specs.declared.Held.TheVariants.{Nothing, Points3D, Points2D,
 use Rattle.records.specs.Entry.{to_data, no_note, columns_fault_of, data_fault_of, columns_used}
 use Rattle.records.specs.Steps.{direction_in}
 use Rattle.records.proofs.Numbers.{stated}
+use Rattle.format.proofs.Reasons.{not_zero}
+use Rattle.records.proofs.Naturals.{note_writing}
 
--- ---- `note_fault`
+-- ---- `check_note`
 
 module _ (l : List ℕ) (whole : length l ≡ 84) where
   note_rule : (writing : ℕ) (direction : ℤ) → writing ≡ number_in l 0 1 → direction ≡ integer (column_at l 1 7) → direction_in writing direction ≡ direction_ok l
@@ -41,28 +45,35 @@ module _ (l : List ℕ) (whole : length l ≡ 84) where
   unfolding data_fault_of
   note_record = rw (eq-eqb (length l) 84 whole)
 
-  module _ (f : ℕ) (e : f ≡ fault_in data_note l) where
-    own-note : column_fault data_note l ≡ f
-    own-note = sym (fault_in_record data_note l whole) ∙ sym e
+  own-note : column_fault data_note l ≡ fault_in data_note l
+  own-note = sym (fault_in_record data_note l whole)
 
-    pub note-refused : (f ≡ 0 → ⊥) → f ≡ data_fault_of l Notes 0
-    unfolding data_fault data_columns
-    note-refused some = rw (note_record, own-note) (first_some f (unless (direction_ok l) 6) some)
+  note-refused : (reason : Reason) → refusal_number reason ≡ fault_in data_note l → refusal_number reason ≡ data_fault_of l Notes 0
+  unfolding data_fault data_columns
+  note-refused reason e = rw (note_record, own-note ∙ sym e) (first_some (refusal_number reason) (unless (direction_ok l) 6) (not_zero reason))
 
-    module _ (writing : ℕ) (direction : ℤ) (r : Bool) (none : f ≡ 0) (u : writing ≡ number_in l 0 1) (d : direction ≡ integer (column_at l 1 7)) (fits : SFits w64 direction) (q : r ≡ direction_in writing (to_z w64 (of_z w64 direction))) where
-      judged : data_fault_of l Notes 0 ≡ unless r 6
-      unfolding data_fault data_columns
-      judged =
-          let p : r ≡ direction_in writing direction = q ∙ rw (back direction fits) in
-          rw (note_record, own-note ∙ none, ← note_rule writing direction u d, ← p)
+  judged : (writing : ℕ) (direction : ℤ) (r : Bool) → 0 ≡ fault_in data_note l → writing ≡ number_in l 0 1 → direction ≡ integer (column_at l 1 7) → SFits w64 direction → r ≡ direction_in writing (to_z w64 (of_z w64 direction)) → data_fault_of l Notes 0 ≡ unless r 6
+  unfolding data_fault data_columns
+  judged writing direction r none u d fits q =
+      let p : r ≡ direction_in writing direction = q ∙ rw (back direction fits) in
+      rw (note_record, own-note ∙ sym none, ← note_rule writing direction u d, ← p)
 
-      pub note-passed : r ≡ true → 0 ≡ data_fault_of l Notes 0
-      note-passed t = sym (judged ∙ rw t)
+-- the record as the code has it, of 84 bytes
+module _ (l l' : List ℕ) (same : l' ≡ l) (whole : length l ≡ 84) where
+  pub note_refused : (reason : Reason) → refusal_number reason ≡ fault_in data_note l' → refusal_number reason ≡ data_fault_of l Notes 0
+  note_refused reason e = note-refused l whole reason (rw same at e)
 
-      pub note-fails : r ≡ false → 6 ≡ data_fault_of l Notes 0
-      note-fails t = sym (judged ∙ rw t)
+  module _ (writing : ℕ) (direction : ℤ) (r : Bool) (none : 0 ≡ fault_in data_note l') (u : writing ≡ number_in l' 0 1) (d : direction ≡ integer (column_at l' 1 7)) (fits : SFits w64 direction) (q : r ≡ direction_in writing (to_z w64 (of_z w64 direction))) where
+    decides : data_fault_of l Notes 0 ≡ unless r 6
+    decides = judged l whole writing direction r (rw same at none) (rw same at u) (rw same at d) fits q
 
--- ---- `columns_fault`
+    pub note-passed : r ≡ true → 0 ≡ data_fault_of l Notes 0
+    note-passed t = sym (decides ∙ rw t)
+
+    pub note-fails : r ≡ false → 6 ≡ data_fault_of l Notes 0
+    note-fails t = sym (decides ∙ rw t)
+
+-- ---- `check_columns`
 
 -- what is no record
 pub no_data_record : (l : List ℕ) (held : Held) (behind : ℕ) → (length l ≡ 84 → ⊥) → 5 ≡ data_fault_of l held behind
@@ -100,7 +111,7 @@ module _ (l : List ℕ) (held : Held) (behind : ℕ) (whole : length l ≡ 84) w
     pub columns_fail : r ≡ false → 5 ≡ columns_fault_of l held behind
     columns_fail g = sym (judged_by_columns ∙ rw g)
 
--- ---- `data_fault`, and who asks for a note apart as it does
+-- ---- `check_data`, and who asks for a note apart as it does
 
 -- of a note it does not matter how many records stand behind it
 pub of_note : (l : List ℕ) (held : Held) (behind r : ℕ) → held ≡ Notes → r ≡ data_fault_of l Notes 0 → r ≡ data_fault_of l held behind
@@ -119,3 +130,11 @@ other_held Attributes t = refl
 pub of_columns : (l : List ℕ) (held : Held) (behind r : ℕ) → (held ≡ Notes → ⊥) → r ≡ columns_fault_of l held behind → r ≡ data_fault_of l held behind
 unfolding columns_fault_of
 of_columns l held behind r t e = e ∙ ap (λ (h : Held). data_fault_of l h behind) (other_held held t)
+
+-- ---- what each function of the code stands on
+
+pub ruleset columns_laws = (no_columns_record, columns_pass, columns_fail)
+
+pub ruleset note_laws = (no_data_record, note_writing, note-passed, note-fails)
+
+pub ruleset data_laws = (of_note, of_columns)

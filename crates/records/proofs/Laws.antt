@@ -14,7 +14,7 @@ use Rattle.format.specs.Record.{RecordType, H, E1, E2, E3, E4, E5, E6, E7, E8, G
 use Rattle.format.specs.Judge.{level_ok, fault_at, count_under, sum, all, count_agrees, counts_agree}
 use Rattle.format.proofs.Basics.{first_zero, unless_zero}
 use Rattle.layout_faults.proofs.Laws.{number_small}
-use Rattle.records.specs.declared.items.Entry.{Entry}
+use Rattle.records.specs.Entry.{Entry}
 use Rattle.records.specs.declared.Held.{Held}
 use Rattle.records.specs.Entry.{to_data, to_held, view_fault, refused_entry, entry_in, entry_of, data_fault_of, states_count, states_counts}
 

@@ -1,7 +1,6 @@
 pub mod Numbers
 pub mod Naturals
 pub mod Types
-pub mod DataRules
 pub mod Used
 pub mod Counts
 pub mod Entries

@@ -9,6 +9,7 @@ use lib.Dec.{leb, eqb}
 use lib.IntN.{pos}
 use lib.ListN.{length, get_or}
 use lib.Seq.{drop-cons}
+use Rattle.std.specs.Char.{is_ascii_digit}
 use Rattle.format.specs.Column.{strip, is_digit, all_digits, value_of, is_number, positive, signed, column_of, number_of}
 use Rattle.format.specs.declared.Column.TheVariants.{Value}
 use Rattle.format.proofs.Basics.{and-true}
@@ -18,12 +19,12 @@ use Rattle.format.specs.Record.{RecordType, H, E1, E2, E3, E4, E5, E6, E7, E8, G
 use Rattle.format.specs.Judge.{is_header_at}
 use Rattle.columns.specs.InRecord.{column_at, number_in}
 use Rattle.columns.proofs.Laws.{column-at-inside}
-use Rattle.records.specs.declared.outlines.Outline.{Outline}
+use Rattle.records.specs.Outline.{Outline}
 use Rattle.records.specs.declared.TypeCode.{TypeCode}
 use Rattle.records.specs.declared.TypeCode.TheVariants.{Header, Element, Grid, Net, Other}
 use Rattle.records.specs.Outline.{outline_in, no_outline, outline_of}
 use Rattle.records.specs.Steps.{Natural, code_of, element_type}
-use Rattle.records.proofs.Numbers.{stated}
+use Rattle.records.proofs.Numbers.{stated, one_digit, four-digits}
 use Rattle.records.proofs.Naturals.{known}
 use Rattle.records.proofs.Entries.{element-facts}
 use Rattle.records.proofs.Laws.{head-index, view_data_records_most}
@@ -54,10 +55,10 @@ module _ (l : List ℕ) (whole : length l ≡ 84) (short : Bool) (s : short ≡ 
   digit-there e g (v_digit p q r) = column-at-inside l 31 4 (omega arith) (omega arith) ∙ ap column_of (spaced e) ∙ simp (p, q, r)
   digit-there e g (v_other p q r) = absurd (false≢true (sym r ∙ g))
 
-  pub short-natural : short && (leb 48 (get_or l 34 0) && leb (get_or l 34 0) 57) ≡ true → Natural l 31 4
-  short-natural e =
-      let t = and-true short (leb 48 (get_or l 34 0) && leb (get_or l 34 0) 57) e in
-      known l 31 4 _ (digit-there t.0 t.1 (byte (get_or l 34 0)))
+  pub short-natural : (digit : Bool) → digit ≡ is_ascii_digit (get_or l 34 0) → short && digit ≡ true → Natural l 31 4
+  short-natural digit d e =
+      let t = and-true short digit e in
+      known l 31 4 _ (digit-there t.0 (sym d ∙ t.1) (byte (get_or l 34 0)))
 
   pub short_zero : short && eqb (get_or l 34 0) 48 ≡ true → 0 ≡ number_in l 31 4
   unfolding number_in column_of strip signed positive is_number all_digits is_digit value_of
@@ -72,10 +73,6 @@ module _ (v : View) (kind level records : ℕ) where
   outlined : kind ≡ count_index v.kind → level ≡ cond (is_head v.kind) v.level 0 → records ≡ v.data_records → record { kind = kind; level = level; data_records = records } ≡ outline_in v
   unfolding outline_in
   outlined k a b = rw (k, a, b)
-
-pub no_repeat : (repeat records : ℕ) → repeat ≡ 0 → records ≡ grid_states repeat records
-unfolding grid_states
-no_repeat repeat records e = omega arith
 
 module _ (l : List ℕ) (whole : length l ≡ 84) where
   pub header_outlined : (level : ℕ) → level ≡ number_in l 16 2 → record { kind = 0; level = level; data_records = 0 } ≡ outline_in (header_view l)
@@ -125,33 +122,41 @@ as_type G l = refl
 as_type T l = refl
 as_type other l = refl
 
-pub no_record : (l : List ℕ) (r : Outline) → (length l ≡ 84 → ⊥) → r ≡ no_outline → r ≡ outline_of l
+pub no_record : (l : List ℕ) → (length l ≡ 84 → ⊥) → no_outline ≡ outline_of l
 unfolding outline_of
-no_record l r h e = rw (ne_eqb (length l) 84 h) e
+no_record l h = rw (ne_eqb (length l) 84 h)
 
 of_view : (l : List ℕ) → length l ≡ 84 → outline_of l ≡ outline_in (view l)
 unfolding outline_of
 of_view l whole = rw (eq-eqb (length l) 84 whole)
 
-module _ (l : List ℕ) (code : TypeCode) (c : code ≡ code_of (type_of l)) (whole : length l ≡ 84) (r : Outline) where
-  by_code : (code' : TypeCode) → code ≡ code' → r ≡ outline_as code' l → r ≡ outline_of l
+-- the record as the code has it, of 84 bytes
+module _ (l l' : List ℕ) (same : l' ≡ l) (whole : length l ≡ 84) where
+  by_code : (code : TypeCode) → code ≡ code_of (type_of l') → outline_as code l' ≡ outline_of l
   unfolding view
-  by_code code' g q = q ∙ ap (λ (k : TypeCode). outline_as k l) (sym g ∙ c) ∙ as_type (type_of l) l ∙ sym (of_view l whole)
+  by_code code c = ap (λ (k : TypeCode). outline_as k l') c ∙ as_type (type_of l') l' ∙ rw same (sym (of_view l whole))
 
-  pub is_header_lem : code ≡ Header → r ≡ outline_in (header_view l) → r ≡ outline_of l
-  is_header_lem g q = by_code Header g q
+  module _ (r : Outline) where
+    pub is_header_lem : Header ≡ code_of (type_of l') → r ≡ outline_in (header_view l') → r ≡ outline_of l
+    is_header_lem g q = q ∙ by_code Header g
 
-  pub is_element : (n : ℕ) → code ≡ Element n → r ≡ outline_in (element_view (element_type n) l) → r ≡ outline_of l
-  is_element n g q = by_code (Element n) g q
+    pub is_element : (n : ℕ) → Element n ≡ code_of (type_of l') → r ≡ outline_in (element_view (element_type n) l') → r ≡ outline_of l
+    is_element n g q = q ∙ by_code (Element n) g
 
-  pub is_grid : code ≡ Grid → r ≡ outline_in (grid_view l) → r ≡ outline_of l
-  is_grid g q = by_code Grid g q
+    pub is_grid : Grid ≡ code_of (type_of l') → r ≡ outline_in (grid_view l') → r ≡ outline_of l
+    is_grid g q = q ∙ by_code Grid g
 
-  pub is_net : code ≡ Net → r ≡ outline_in (net_view l) → r ≡ outline_of l
-  is_net g q = by_code Net g q
+    pub is_net : Net ≡ code_of (type_of l') → r ≡ outline_in (net_view l') → r ≡ outline_of l
+    is_net g q = q ∙ by_code Net g
 
-  pub is_other : code ≡ Other → r ≡ no_outline → r ≡ outline_of l
-  is_other g q = by_code Other g q
+  pub is_other : Other ≡ code_of (type_of l') → no_outline ≡ outline_of l
+  is_other g = by_code Other g
+
+pub ruleset short_laws = (short_zero, short-natural)
+
+pub ruleset outline_laws = (no_record, is_header_lem, is_grid, is_net, is_other)
+
+pub ruleset grid_outline_laws = (one_digit, four-digits, grid_outlined)
 
 -- ---- WHAT CALLERS CITE
 

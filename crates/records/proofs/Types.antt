@@ -1,10 +1,10 @@
 -- The type of a record by its first two bytes, in the code's own words. Assumes nothing.
-use mathlib.Core.Path.{◌≡◌, sym, ◌∙◌}
+use mathlib.Core.Path.{◌≡◌, refl, sym, ◌∙◌}
 use mathlib.Core.Bool.{Bool, true, false, cond, ◌&&◌, and-true, and-false}
 use mathlib.Core.List.{List, [], ◌∷◌}
 use Prim.Native.Nat.{ℕ, zero, suc, ◌+◌, ◌-◌, ◌≤◌, ◌<◌}
 use native.Mathlib.Omega.{arith}
-use borrow.Author.Tests.{eq-eqb, ne_eqb}
+use borrow.Author.Tests.{ne_eqb}
 use lib.Dec.{eqb}
 use lib.ListN.{length, get_or}
 use Rattle.format.specs.Text.{bytes, begins}
@@ -53,39 +53,43 @@ digit-below [] n e h = absurd (omega arith)
 digit-below (a ∷ []) n e h = absurd (omega arith)
 digit-below (a ∷ b ∷ r) n e h = rw e (no_digit_type b r (λ (n : ℕ) p q m. omega arith))
 
-pub digit_above : (l : List ℕ) → length l ≡ 84 → get_or l 0 0 ≡ 69 → 56 < get_or l 1 0 → Other ≡ code_of (type_of l)
+pub digit_above : (l : List ℕ) → length l ≡ 84 → get_or l 0 0 ≡ 69 → 57 ≤ get_or l 1 0 → Other ≡ code_of (type_of l)
 digit_above [] n e h = absurd (omega arith)
 digit_above (a ∷ []) n e h = absurd (omega arith)
 digit_above (a ∷ b ∷ r) n e h = rw e (no_digit_type b r (λ (n : ℕ) p q m. omega arith))
 
-pub digit-between : (l : List ℕ) → length l ≡ 84 → get_or l 0 0 ≡ 69 → 49 ≤ get_or l 1 0 → get_or l 1 0 ≤ 56 → Element (get_or l 1 0 - 48) ≡ code_of (type_of l)
-digit-between [] n e h k = absurd (omega arith)
-digit-between (a ∷ []) n e h k = absurd (omega arith)
-digit-between (a ∷ b ∷ r) n e h k = rw e (digit_type b (b - 49) r (omega arith) (omega arith))
+pub digit-between : (l : List ℕ) (d : ℕ) → length l ≡ 84 → get_or l 0 0 ≡ 69 → 49 ≤ get_or l 1 0 → get_or l 1 0 < 57 → d ≡ get_or l 1 0 - 48 → Element d ≡ code_of (type_of l)
+digit-between [] d n e h k q = absurd (omega arith)
+digit-between (a ∷ []) d n e h k q = absurd (omega arith)
+digit-between (a ∷ b ∷ r) d n e h k q = rw (e, q) (digit_type b (b - 49) r (omega arith) (omega arith))
 
 -- what the letter says where a space follows it
 abbrev letter : ℕ → RecordType
 letter a = cond (eqb a 72) H (cond (eqb a 71) G (cond (eqb a 84) T other))
 
-pub no_space_lem : (l : List ℕ) → length l ≡ 84 → (get_or l 0 0 ≡ 69 → ⊥) → (get_or l 1 0 ≡ 32 → ⊥) → Other ≡ code_of (type_of l)
-no_space_lem [] n h k = absurd (omega arith)
-no_space_lem (a ∷ []) n h k = absurd (omega arith)
-no_space_lem (a ∷ b ∷ r) n h k = rw (letter_type a b r h, ne_eqb b 32 k)
+another_letter : (l : List ℕ) → length l ≡ 84 → (get_or l 0 0 ≡ 69 → ⊥) → code_of (type_of l) ≡ code_of (cond (eqb (get_or l 1 0) 32) (letter (get_or l 0 0)) other)
+another_letter [] n h = absurd (omega arith)
+another_letter (a ∷ []) n h = absurd (omega arith)
+another_letter (a ∷ b ∷ r) n h = code (type_of (a ∷ b ∷ r)) (cond (eqb b 32) (letter a) other) (letter_type a b r h)
 
-a_space : (l : List ℕ) → length l ≡ 84 → (get_or l 0 0 ≡ 69 → ⊥) → get_or l 1 0 ≡ 32 → code_of (type_of l) ≡ code_of (letter (get_or l 0 0))
-a_space [] n h k = absurd (omega arith)
-a_space (a ∷ []) n h k = absurd (omega arith)
-a_space (a ∷ b ∷ r) n h k = code (type_of (a ∷ b ∷ r)) (letter a) (letter_type a b r h ∙ rw (eq-eqb b 32 k))
+module _ (l : List ℕ) (n : length l ≡ 84) where
+  pub no_space_lem : (a : ℕ) → get_or l 0 0 ≡ a → (a ≡ 69 → ⊥) → (get_or l 1 0 ≡ 32 → ⊥) → Other ≡ code_of (type_of l)
+  no_space_lem a e h k = sym (another_letter l n (λ q. h (sym e ∙ q)) ∙ rw (ne_eqb (get_or l 1 0) 32 k))
 
-module _ (l : List ℕ) (n : length l ≡ 84) (h : get_or l 0 0 ≡ 69 → ⊥) (k : get_or l 1 0 ≡ 32) where
-  pub letter_H : get_or l 0 0 ≡ 72 → Header ≡ code_of (type_of l)
-  letter_H e = sym (a_space l n h k ∙ rw e)
+  pub letter_H : get_or l 0 0 ≡ 72 → get_or l 1 0 ≡ 32 → Header ≡ code_of (type_of l)
+  letter_H e k = sym (another_letter l n (λ q. omega arith) ∙ rw (e, k))
 
-  pub letter_G : get_or l 0 0 ≡ 71 → Grid ≡ code_of (type_of l)
-  letter_G e = sym (a_space l n h k ∙ rw e)
+  pub letter_G : get_or l 0 0 ≡ 71 → get_or l 1 0 ≡ 32 → Grid ≡ code_of (type_of l)
+  letter_G e k = sym (another_letter l n (λ q. omega arith) ∙ rw (e, k))
 
-  pub letter_T : get_or l 0 0 ≡ 84 → Net ≡ code_of (type_of l)
-  letter_T e = sym (a_space l n h k ∙ rw e)
+  pub letter_T : get_or l 0 0 ≡ 84 → get_or l 1 0 ≡ 32 → Net ≡ code_of (type_of l)
+  letter_T e k = sym (another_letter l n (λ q. omega arith) ∙ rw (e, k))
 
-  pub no_letter : (get_or l 0 0 ≡ 72 → ⊥) → (get_or l 0 0 ≡ 71 → ⊥) → (get_or l 0 0 ≡ 84 → ⊥) → Other ≡ code_of (type_of l)
-  no_letter p q r = sym (a_space l n h k ∙ simp (ne_eqb _ 72 p, ne_eqb _ 71 q, ne_eqb _ 84 r))
+  pub no_letter : (get_or l 0 0 ≡ 69 → ⊥) → (get_or l 0 0 ≡ 72 → ⊥) → (get_or l 0 0 ≡ 71 → ⊥) → (get_or l 0 0 ≡ 84 → ⊥) → Other ≡ code_of (type_of l)
+  no_letter h p q r = sym (another_letter l n h ∙ simp (ne_eqb _ 72 p, ne_eqb _ 71 q, ne_eqb _ 84 r) (either (eqb (get_or l 1 0) 32)))
+    where
+      either : (t : Bool) → code_of (cond t other other) ≡ Other
+      either true = refl
+      either false = refl
+
+pub ruleset type_laws = (digit-below, digit_above, digit-between, no_space_lem, letter_H, letter_G, letter_T, no_letter)

@@ -1,12 +1,14 @@
 -- One record of a sheet's body, as judging asks for it: what a header or an item states, with its first fault of 4, 5 and 6; the first fault of a
 -- data record, and how much of it is used; where a header has its counts, and whether it states those of a tally. Each is said by the view of the
 -- record or its layout. Assumes nothing.
-use Rattle.std.specs.Prelude.{Bool, false, cond, ◌&&◌, List, ℕ, ◌*◌, leb, eqb, length, get_or}
+use Rattle.std.specs.Prelude.{Result, Ok, Err, Bool, false, cond, ◌&&◌, List, ℕ, ◌*◌, leb, eqb, length, get_or}
 use Rattle.format.specs.Basics.{first, unless}
 use Rattle.format.specs.Layout.{find, number_at, header}
 use Rattle.format.specs.Record.{count_index, count_name, Data, nothing, points_3d, points_2d, triangles, heights, notes, attributes, used_in, data_fault, View, count_in, view}
 use Rattle.format.specs.Judge.{sum, all}
-use Rattle.records.specs.declared.items.Entry.{Entry}
+use Rattle.format.specs.Reasons.{refusal_number}
+use Rattle.format.specs.declared.Reason.{Reason}
+use Rattle.records.specs.declared.items.Entry as Declared
 use Rattle.records.specs.declared.Held.{Held}
 use Rattle.records.specs.declared.Held.TheVariants.{Nothing, Points3D, Points2D, Triangles, Heights, Notes, Attributes}
 
@@ -33,6 +35,15 @@ to_held attributes = Attributes
 unfoldable pub view_fault : View → ℕ
 view_fault v = first (unless (leb (count_index v.kind) 9) 4) v.column_fault
 
+-- what stands where a header or an item is due: its fault is 4, 5 or 6, with no values, and 0 for none; its rule's fault is 8 or 0
+pub record Entry : Type 0 where
+  pub fault : ℕ
+  pub kind : ℕ
+  pub level : ℕ
+  pub data_records : ℕ
+  pub held : Held
+  pub rule_fault : ℕ
+
 -- "A refusal returns number and record only": no values
 abbrev pub refused_entry : ℕ → Entry
 refused_entry number = record { fault = number; kind = 0; level = 0; data_records = 0; held = Nothing; rule_fault = 0 }
@@ -44,6 +55,11 @@ entry_in v =
     cond (eqb (view_fault v) 0)
     (record { fault = 0; kind = count_index v.kind; level = v.level; data_records = v.data_records; held = to_held v.data_held; rule_fault = v.rule_fault })
     (refused_entry (view_fault v))
+
+-- the same as the code has it
+abbrev pub entry_said : Result Declared.Entry Reason → Entry
+entry_said (Ok e) = record { fault = 0; kind = e.kind; level = e.level; data_records = e.data_records; held = e.held; rule_fault = unless e.rule_kept 8 }
+entry_said (Err reason) = refused_entry (refusal_number reason)
 
 -- the same of bytes; what is no record of 84 bytes is neither header nor item
 unfoldable pub entry_of : List ℕ → Entry

@@ -2,27 +2,33 @@
 // whether a header states the counts of a tally.
 #![tactic(auto)]
 
-ghost use Rattle.std.specs.Prelude.{◌≡◌, length};
+ghost use Rattle.std.specs.Prelude.{◌≡◌};
+ghost use Rattle.format.specs.Reasons.{fault_number};
 ghost use Rattle.format.specs.Record.{type_of};
 ghost use Rattle.records.specs.declared.Held.TheVariants.{Notes};
-ghost use Rattle.records.specs.Entry.{entry_of, columns_fault_of, data_fault_of, count_start, count_width, stated_count, states_counts};
-ghost use Rattle.records.specs.Outline.{outline_of};
+ghost use Rattle.records.specs.Entry.{entry_of, entry_said, columns_fault_of, data_fault_of, count_start, count_width, stated_count, states_counts};
+ghost use Rattle.records.specs.Outline.{outline_of, outline_said};
 ghost use Rattle.records.specs.Steps.{code_of};
 
+mod counted;
 mod data;
 mod items;
 mod outlines;
 mod reading;
 mod rules;
 
+pub use counted::Outline;
 pub use data::columns_used;
 use files::RECORD;
+use format::Reason;
 pub use items::Entry;
 use layouts::{DataNote, Header};
-pub use outlines::Outline;
+
+// The count of grids and nets, which share it.
+const GRID_OR_NET: usize = 9;
 
 // What an item's data records hold: so many points in 3D or 2D, triangles or heights; a note; attributes.
-#[derive(Clone, Copy)]
+#[derive(Clone, Copy, PartialEq, Eq, Debug)]
 pub enum Held {
     Nothing,
     Points3D(usize),
@@ -34,7 +40,7 @@ pub enum Held {
 }
 
 // What the two type bytes of a record say.
-#[derive(Clone, Copy)]
+#[derive(Clone, Copy, PartialEq, Eq, Debug)]
 enum TypeCode {
     Header,
     Element(usize),
@@ -43,94 +49,81 @@ enum TypeCode {
     Other,
 }
 
-fn read_type(record: &[u8]) -> TypeCode
-    requires { length «record».now ≡ 84 }
+#[tactic(auto, using(crate::proofs::Types::type_laws))]
+fn read_type(record: &[u8; RECORD]) -> TypeCode
     ensures { result ≡ code_of (type_of «record».now) }
 {
-    let letter = record[0];
-    let next = record[1];
-    if letter == b'E' {
-        if next < b'1' {
-            return TypeCode::Other;
-        }
-        if b'8' < next {
-            return TypeCode::Other;
-        }
-        return TypeCode::Element((next - b'0') as usize);
-    }
-    if next != b' ' {
-        return TypeCode::Other;
-    }
-    match letter {
-        b'H' => TypeCode::Header,
-        b'G' => TypeCode::Grid,
-        b'T' => TypeCode::Net,
+    match (record[0], record[1]) {
+        (b'E', digit @ b'1'..=b'8') => TypeCode::Element(usize::from(digit - b'0')),
+        (b'H', b' ') => TypeCode::Header,
+        (b'G', b' ') => TypeCode::Grid,
+        (b'T', b' ') => TypeCode::Net,
         _ => TypeCode::Other,
     }
 }
 
 // What stands where a header or an item is due. What is no record of 84 bytes is neither.
-pub fn entry(record: &[u8]) -> Entry
-    ensures { result ≡ entry_of «record».now }
+#[tactic(auto, using(crate::proofs::Entries::entry_laws))]
+pub fn entry(record: &[u8]) -> Result<Entry, Reason>
+    ensures { entry_said result ≡ entry_of «record».now }
 {
-    if record.len() != RECORD {
-        return items::refused(4);
-    }
-    let code = read_type(record);
-    match code {
+    let Ok(record) = <&[u8; RECORD]>::try_from(record) else {
+        return Err(Reason::RecordType);
+    };
+    match read_type(record) {
         TypeCode::Header => items::header_entry(record),
         TypeCode::Element(number) => items::element_entry(record, number),
         TypeCode::Grid => items::grid_entry(record),
         TypeCode::Net => items::net_entry(record),
-        TypeCode::Other => items::refused(4),
+        TypeCode::Other => Err(Reason::RecordType),
     }
 }
 
 // The kind and data records of a header or an item, and a header's level, with no fault looked for: where its record is known to have none. A malformed or
-// negative column counts as 0.
-pub fn outline(record: &[u8]) -> Outline
-    ensures { result ≡ outline_of «record».now }
+// negative column counts as 0. None for what is neither.
+#[tactic(auto, using(crate::proofs::Outlined::outline_laws))]
+pub fn outline(record: &[u8]) -> Option<Outline>
+    ensures { outline_said result ≡ outline_of «record».now }
 {
-    if record.len() != RECORD {
-        return outlines::no_outline();
-    }
-    let code = read_type(record);
-    match code {
-        TypeCode::Header => outlines::header_outline(record),
-        TypeCode::Element(number) => outlines::element_outline(record, number),
-        TypeCode::Grid => outlines::grid_outline(record),
-        TypeCode::Net => outlines::net_outline(record),
-        TypeCode::Other => outlines::no_outline(),
+    let Ok(record) = <&[u8; RECORD]>::try_from(record) else {
+        return None;
+    };
+    match read_type(record) {
+        TypeCode::Header => Some(outlines::header_outline(record)),
+        TypeCode::Element(number) => Some(outlines::element_outline(record, number)),
+        TypeCode::Grid => Some(outlines::grid_outline(record)),
+        TypeCode::Net => Some(outlines::net_outline(record)),
+        TypeCode::Other => None,
     }
 }
 
 // Where the count of a kind stands in a header: nine I5 in a row, and I1 for grid and net. No other kind is counted.
+// Kept: 0 for a kind that is not counted, here and in the next two, as specs/Entry has it: they answer every number.
+#[tactic(auto, using(crate::proofs::Counts::start_laws))]
 pub fn count_start(kind: usize) -> usize
     ensures { result ≡ count_start kind }
 {
-    if kind < 9 {
-        return Header::GROUPS_START + kind * Header::GROUPS_WIDTH;
+    match kind {
+        0..=8 => Header::GROUPS_START + kind * Header::GROUPS_WIDTH,
+        GRID_OR_NET => Header::GRID_AND_NET_START,
+        _ => 0,
     }
-    if kind == 9 {
-        return Header::GRID_AND_NET_START;
-    }
-    0
 }
 
 // How wide it is.
+#[tactic(auto, using(crate::proofs::Counts::width_laws))]
 pub fn count_width(kind: usize) -> usize
     ensures { result ≡ count_width kind }
 {
-    if kind < 9 {
-        return Header::GROUPS_WIDTH;
+    match kind {
+        0..=8 => Header::GROUPS_WIDTH,
+        GRID_OR_NET => Header::GRID_AND_NET_WIDTH,
+        _ => 0,
     }
-    if kind == 9 {
-        return Header::GRID_AND_NET_WIDTH;
-    }
-    0
 }
 
 // The count of a kind that a header states. What is no record states none.
+#[tactic(auto, using(crate::proofs::Counts::count_laws))]
 pub fn stated_count(record: &[u8], kind: usize) -> usize
     ensures { result ≡ stated_count «record».now kind }
 {
@@ -146,6 +139,7 @@ pub fn stated_count(record: &[u8], kind: usize) -> usize
 pub type Tally = [usize; 10];
 
 // A header states exactly these ten counts, and their sum as its total.
+#[tactic(auto, using(crate::proofs::Counts::agree_laws))]
 pub fn counts_agree(record: &[u8], tally: &Tally) -> bool
     ensures { result ≡ states_counts «record».now tally.now }
 {
@@ -153,29 +147,25 @@ pub fn counts_agree(record: &[u8], tally: &Tally) -> bool
         return false;
     }
     let mut agree = true;
-    let mut sum: usize = 0;
-    let mut kind = 0;
-    while kind < 10 {
+    let mut sum = 0;
+    for (kind, counted) in tally.iter().enumerate() {
         let stated = stated_count(record, kind);
-        agree = agree & (stated == tally[kind]);
+        agree &= stated == *counted;
         sum += stated;
-        kind += 1;
     }
     let total = columns::number_at(record, Header::TOTAL_START, Header::TOTAL_WIDTH);
     agree & (total == sum)
 }
 
-// A note record: its own columns, then its direction. What is no record of 84 bytes is 5.
-pub fn note_fault(record: &[u8]) -> u8
-    ensures { result ≡ data_fault_of «record».now Notes 0 }
+// A note record: its own columns, then its direction. What is no record of 84 bytes is malformed.
+#[tactic(auto, using(crate::proofs::DataFaults::note_laws))]
+pub fn check_note(record: &[u8]) -> Result<(), Reason>
+    ensures { fault_number result ≡ data_fault_of «record».now Notes 0 }
 {
-    if record.len() != RECORD {
-        return 5;
-    }
-    let fault = layout_faults::data_note_fault(record);
-    if fault != 0 {
-        return fault;
-    }
+    let Ok(record) = <&[u8; RECORD]>::try_from(record) else {
+        return Err(Reason::Malformed);
+    };
+    layout_faults::check::<DataNote>(record)?;
     let writing = reading::natural(
         record,
         DataNote::WRITING_DIRECTION_START,
@@ -187,34 +177,36 @@ pub fn note_fault(record: &[u8]) -> u8
         DataNote::DIRECTION_WIDTH,
     );
     if data::is_direction(writing, direction) {
-        0
+        Ok(())
     } else {
-        6
+        Err(Reason::OutsideRange)
     }
 }
 
-// A record of points, heights or attributes: 5 for a malformed column, else 0. Points and heights are read for form alone, those after the last used
-// one not at all. A note counts as a record that holds nothing. What is no record of 84 bytes is 5.
-pub fn columns_fault(record: &[u8], held: Held, behind: usize) -> u8
-    ensures { result ≡ columns_fault_of «record».now held behind }
+// A record of points, heights or attributes. Points and heights are read for form alone, those after the last used one not at all. A note counts as a
+// record that holds nothing. What is no record of 84 bytes is malformed.
+#[tactic(auto, using(crate::proofs::DataFaults::columns_laws))]
+pub fn check_columns(record: &[u8], held: Held, behind: usize) -> Result<(), Reason>
+    ensures { fault_number result ≡ columns_fault_of «record».now held behind }
 {
     if record.len() != RECORD {
-        return 5;
+        return Err(Reason::Malformed);
     }
     let used = columns_used(held, behind);
     if form_columns::columns_well_formed(record, 0, used) {
-        0
+        Ok(())
     } else {
-        5
+        Err(Reason::Malformed)
     }
 }
 
-// The first fault of a data record, by what its item's data records hold and how many of them stand behind this one; 0 for none.
-pub fn data_fault(record: &[u8], held: Held, behind: usize) -> u8
-    ensures { result ≡ data_fault_of «record».now held behind }
+// A data record, by what its item's data records hold and how many of them stand behind this one.
+#[tactic(auto, using(crate::proofs::DataFaults::data_laws))]
+pub fn check_data(record: &[u8], held: Held, behind: usize) -> Result<(), Reason>
+    ensures { fault_number result ≡ data_fault_of «record».now held behind }
 {
-    if let Held::Notes = held {
-        return note_fault(record);
+    if held == Held::Notes {
+        return check_note(record);
     }
-    columns_fault(record, held, behind)
+    check_columns(record, held, behind)
 }

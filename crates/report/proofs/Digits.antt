@@ -1,8 +1,8 @@
 -- The digits of a number, counted and stored from the last to the first. Assumes nothing.
 use mathlib.Core.Path.{◌≡◌, refl, ap, sym, ◌∙◌}
 use mathlib.Core.List.{List, [], ◌∷◌, ◌++◌, append_assoc}
-use Prim.Native.Nat.{ℕ, zero, suc, ◌+◌, ◌-◌, ◌*◌, ◌/◌, ◌%◌, ◌^◌, ◌≤◌, ◌<◌}
-use native.Mathlib.Nat.{pow-suc, add-zero, add-suc}
+use Prim.Native.Nat.{ℕ, max, zero, suc, ◌+◌, ◌-◌, ◌*◌, ◌/◌, ◌%◌, ◌^◌, ◌≤◌, ◌<◌}
+use native.Mathlib.Nat.{pow-le-pow_right, pow-suc, add-zero, add-suc}
 use native.Mathlib.Numerals.{add-one}
 use native.Mathlib.Omega.{arith}
 use borrow.Author.Tests.{lt-ltb, le-ltb}
@@ -15,33 +15,22 @@ use Rattle.files.specs.Buffers.{put_at}
 use Rattle.files.proofs.Buffers.{put-there}
 use Rattle.report.specs.Steps.{last_digits, stored_digits}
 
--- ---- the loop: `left` is what is still to be counted, `count` one more than the digits counted
-module _ (n left count : ℕ) (h : 10 ≤ left) (b : left < 10 ^ (21 - count)) (c : count ≤ 20) where
-  fuel : (f : ℕ) → 20 - count ≡ f → (g : ℕ) × (20 - count ≡ suc g)
-  fuel zero p = let x : 21 - count ≡ 1 = omega arith in absurd (omega (arith, rw x at b))
-  fuel (suc g) p = (g, p)
+-- ---- how many: one more than the exponent of the greatest power of ten that is not above the number; 0 has one
 
-  some : (g : ℕ) × (20 - count ≡ suc g)
-  some = fuel (20 - count) refl
+counted : (f k n : ℕ) → 10 ^ k ≤ n → n < 10 * 10 ^ k → k ≤ f → k + 1 ≡ length (digits_in f n)
+counted f zero n low high h = sym (length_one f n (omega arith))
+counted zero (suc k) n low high h = absurd (omega arith)
+counted (suc f) (suc k) n low high h =
+    let low' : 10 ^ k * 10 ≤ n = rw pow-suc at low in
+    let high' : n < 10 * (10 ^ k * 10) = rw pow-suc at high in
+    let some : 10 ^ 0 ≤ 10 ^ k = pow-le-pow_right {n = 10} (omega arith) {i = 0} {j = k} (omega arith) in
+    let more : 10 ≤ n = omega arith in
+    omega (arith, length_more f n more, counted f k (n / 10) (omega arith) (omega arith) (omega arith))
 
-  pub less_left : left / 10 < 10 ^ (21 - (count + 1))
-  less_left =
-      let x : 21 - count ≡ suc (suc some.0) = omega (arith, some.1) in
-      let y : 21 - (count + 1) ≡ suc some.0 = omega (arith, some.1) in
-      let b' : left < 10 ^ suc some.0 * 10 = rw pow-suc at (rw x at b) in
-      rw y (omega arith)
-
-  pub count_room : count + 1 ≤ 20
-  count_room = omega (arith, some.1)
-
-  pub one_counted : length (digits n) + 1 ≡ count + length (digits_in (20 - count) left) → length (digits n) + 1 ≡ count + 1 + length (digits_in (20 - (count + 1)) (left / 10))
-  one_counted e =
-      let z : 20 - (count + 1) ≡ some.0 = omega (arith, some.1) in
-      let e' : length (digits n) + 1 ≡ count + length (digits_in (suc some.0) left) = rw some.1 at e in
-      rw z (omega (arith, e', length_more some.0 left h))
-
-pub counted : (n left count : ℕ) → left < 10 → length (digits n) + 1 ≡ count + length (digits_in (20 - count) left) → count ≡ length (digits n)
-counted n left count h e = omega (arith, e, length_one (20 - count) left h)
+pub digits-counted : (n m k : ℕ) → m ≡ max n 1 → 10 ^ k ≤ m → m < 10 * 10 ^ k → k < 20 → k + 1 ≡ length (digits n)
+unfolding digits digits_in
+digits-counted zero m k e low high h = counted 19 k 1 (rw e at low) (rw e at high) (omega arith)
+digits-counted (suc n) m k e low high h = let f : m ≡ suc n = omega arith in counted 19 k (suc n) (rw f at low) (rw f at high) (omega arith)
 
 -- ---- the digits stored, from the last to the first
 -- one turn, and the end, of the loop of stores

@@ -1,4 +1,5 @@
 -- A line put into a buffer piece by piece: the buffer holds the whole line. Assumes nothing.
+use Rattle.std.specs.Prelude.{Ok, Err}
 use mathlib.Core.Path.{◌≡◌, refl, ap, sym, ◌∙◌}
 use mathlib.Core.List.{List, ◌++◌, append_assoc}
 use Prim.Native.Nat.{ℕ, ◌+◌, ◌≤◌, ◌<◌}
@@ -8,7 +9,8 @@ use borrow.Author.Tests.{le-leb, lt-leb}
 use lib.ListN.{length, take, drop, length-append, length-drop}
 use lib.Seq.{take_at, drop_at, drop-drop, length-take-le}
 use Rattle.format.specs.Answers.{written_answer}
-use Rattle.format.specs.declared.Written.TheVariants as Written
+use Rattle.format.specs.declared.Reason.{Reason}
+use Rattle.format.specs.declared.Refusal.{Refusal}
 use Rattle.format.specs.Column.{digits}
 use Rattle.format.specs.Program.{line_to}
 use Rattle.files.specs.Buffers.{put_at}
@@ -52,11 +54,11 @@ pair_put l l₁ l₂ s t at h p q = q ∙ rw p (put-behind l s t at h)
 
 -- ---- a line at the start of a buffer
 
-pub no_room : (line out : List ℕ) → length out < length line → record { answer = written_answer (Written.Refused 15 0); bytes = out } ≡ line_to line out
+pub no_room : (line out : List ℕ) (r : Refusal) → r ≡ record { reason = Reason.Room; at = 0 } → length out < length line → record { answer = written_answer (Err r); bytes = out } ≡ line_to line out
 unfolding line_to written_answer
-no_room line out h = simp (lt-leb (length line) (length out) h)
+no_room line out r e h = rw e (simp (lt-leb (length line) (length out) h))
 
-pub put_whole : (line out out' : List ℕ) → length line ≤ length out → out' ≡ put_at out 0 line → record { answer = written_answer (Written.Bytes (length line)); bytes = out' } ≡ line_to line out
+pub put_whole : (line out out' : List ℕ) → length line ≤ length out → out' ≡ put_at out 0 line → record { answer = written_answer (Ok (length line)); bytes = out' } ≡ line_to line out
 unfolding line_to written_answer
 put_whole line out out' h e = rw (e, put-there out 0 line (omega arith), zero-add (length line), le-leb (length line) (length out) h) refl
 
@@ -67,8 +69,8 @@ module _ (first second third : List ℕ) (a b m n : ℕ) (p : m ≡ length (digi
   unfolding number_line
   length-numbers = simp length-append (omega arith)
 
-  pub no_room_numbers : (out : List ℕ) → length out < length first + m + length second + n + length third → record { answer = written_answer (Written.Refused 15 0); bytes = out } ≡ line_to (number_line first a second b third) out
-  no_room_numbers out h = no_room (number_line first a second b third) out (rw length-numbers at h)
+  pub no_room_numbers : (out : List ℕ) (r : Refusal) → r ≡ record { reason = Reason.Room; at = 0 } → length out < length first + m + length second + n + length third → record { answer = written_answer (Err r); bytes = out } ≡ line_to (number_line first a second b third) out
+  no_room_numbers out r e h = no_room (number_line first a second b third) out r e (rw length-numbers at h)
 
   parts-numbers : first ++ digits a ++ (second ++ digits b) ++ third ≡ number_line first a second b third
   unfolding number_line
@@ -78,7 +80,7 @@ module _ (first second third : List ℕ) (a b m n : ℕ) (p : m ≡ length (digi
       → out₁ ≡ put_at out 0 (first ++ digits a) → i ≡ 0 + length first + length (digits a)
       → out₂ ≡ put_at out₁ i (second ++ digits b) → j ≡ i + length second + length (digits b)
       → out₃ ≡ put_at out₂ j third
-      → record { answer = written_answer (Written.Bytes (length first + m + length second + n + length third)); bytes = out₃ } ≡ line_to (number_line first a second b third) out
+      → record { answer = written_answer (Ok (length first + m + length second + n + length third)); bytes = out₃ } ≡ line_to (number_line first a second b third) out
   put-numbers out out₁ out₂ out₃ i j h e₁ p₁ e₂ p₂ e₃ =
       let s : List ℕ = first ++ digits a in
       let t : List ℕ = second ++ digits b in

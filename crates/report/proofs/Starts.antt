@@ -1,40 +1,27 @@
 -- The two bytes by which an index is known. Assumes nothing.
 use mathlib.Core.Path.{◌≡◌, refl, sym, ◌∙◌}
-use mathlib.Core.Bool.{Bool, true, false, and-true, and-false}
+use mathlib.Core.Bool.{Bool, true, false}
 use mathlib.Core.List.{List, [], ◌∷◌}
-use Prim.Native.Nat.{ℕ, ◌≤◌, ◌<◌}
-use native.Mathlib.Omega.{arith}
-use borrow.Author.Tests.{eq-eqb, ne_eqb}
+use Prim.Native.Nat.{ℕ}
+use borrow.Author.Tests.{eq-eqb, ne_eqb, eqb-true, eqb-false}
 use lib.Dec.{eqb}
-use lib.ListN.{length, get_or}
-use Rattle.format.specs.Text.{bytes, begins}
-use Rattle.format.specs.Answers.{judged_answer}
-use Rattle.format.specs.Judge.{judge_index, judge_sheet}
-use Rattle.format.specs.Program.{judge_input}
-use Rattle.format.specs.declared.Judged.{Judged}
+use lib.ListN.{take}
+use Rattle.std.specs.Cmp.Lexicographic.{pointwise}
+use Rattle.format.specs.Text.{bytes, same, begins}
 
-pub too_short : (l : List ℕ) → length l < 2 → false ≡ begins "I " l
+eqb_turned : (a b : ℕ) → eqb a b ≡ eqb b a
+eqb_turned a b = go (eqb a b) refl
+  where
+    go : (t : Bool) → eqb a b ≡ t → eqb a b ≡ eqb b a
+    go true e = e ∙ sym (eq-eqb b a (sym (eqb-true a b e)))
+    go false e = e ∙ sym (ne_eqb b a (λ f. eqb-false a b e (sym f)))
+
+same_turned : (k l : List ℕ) → pointwise eqb k l ≡ same l k
+same_turned [] [] = refl
+same_turned [] (b ∷ l) = refl
+same_turned (a ∷ k) [] = refl
+same_turned (a ∷ k) (b ∷ l) = rw (eqb_turned a b, same_turned k l)
+
+pub begins_index : (l : List ℕ) (starts : Bool) → starts ≡ pointwise eqb (bytes "I ") (take 2 l) → begins "I " l ≡ starts
 unfolding begins bytes
-too_short [] h = refl
-too_short (a ∷ []) h = sym (and-false (eqb a 73))
-too_short (a ∷ b ∷ r) h = absurd (omega arith)
-
-pub other-letter : (l : List ℕ) → 2 ≤ length l → (get_or l 0 0 ≡ 73 → ⊥) → false ≡ begins "I " l
-unfolding begins bytes
-other-letter [] n h = refl
-other-letter (a ∷ []) n h = sym (and-false (eqb a 73))
-other-letter (a ∷ b ∷ r) n h = rw (ne_eqb a 73 h) refl
-
-pub second_byte : (l : List ℕ) → 2 ≤ length l → get_or l 0 0 ≡ 73 → eqb (get_or l 1 0) 32 ≡ begins "I " l
-unfolding begins bytes
-second_byte [] n h = absurd (omega arith)
-second_byte (a ∷ []) n h = absurd (omega arith)
-second_byte (a ∷ b ∷ r) n h = rw (eq-eqb a 73 h, and-true (eqb b 32)) refl
-
--- ---- the input judged as what its two bytes say
-
-pub as_index : (input : List ℕ) (index : Bool) (j : Judged) → index ≡ begins "I " input → index ≡ true → judged_answer j ≡ judge_index (length input) input → judged_answer j ≡ judge_input input
-as_index input index j e t p = p ∙ rw (sym e ∙ t) refl
-
-pub as_sheet : (input : List ℕ) (index : Bool) (j : Judged) → index ≡ begins "I " input → index ≡ false → judged_answer j ≡ judge_sheet (length input) input → judged_answer j ≡ judge_input input
-as_sheet input index j e t p = p ∙ rw (sym e ∙ t) refl
+begins_index l starts e = sym (e ∙ same_turned (bytes "I ") (take 2 l))

@@ -1,7 +1,8 @@
 -- How the code puts the line together: digits in a buffer, and the texts and numbers of a line. Assumes nothing.
-use Rattle.std.specs.Prelude.{List, [], ◌∷◌, ◌++◌, ℕ, zero, suc, ◌+◌, ◌/◌, ◌%◌, set}
+use Rattle.std.specs.Prelude.{Option, Some, None, Result, Bool, true, false, List, [], ◌∷◌, ◌++◌, ℕ, zero, suc, ◌+◌, ◌/◌, ◌%◌, set}
 use Rattle.format.specs.Column.{digits}
-use Rattle.format.specs.declared.Judged.{Judged}
+use Rattle.format.specs.declared.Counts.{Counts}
+use Rattle.format.specs.declared.Refusal.{Refusal}
 use Rattle.format.specs.Program.{line_of}
 use Rattle.format.specs.Answers.{judged_answer}
 
@@ -20,5 +21,14 @@ unfoldable pub number_line : (first : List ℕ) → (a : ℕ) → (second : List
 number_line first a second b third = first ++ digits a ++ second ++ digits b ++ third
 
 -- the line for what judging answered, with its end
-unfoldable pub line_for : Judged → List ℕ
+unfoldable pub line_for : Result Counts Refusal → List ℕ
 line_for judged = line_of (judged_answer judged) ++ 10 ∷ []
+
+-- what reading came to: so many bytes; or a read that failed, and nothing is known of the bytes
+abbrev pub count_read : Option ℕ → ℕ
+count_read (Some used) = used
+count_read None = 0
+
+abbrev pub read_failed : Option ℕ → Bool
+read_failed (Some used) = false
+read_failed None = true

@@ -1,20 +1,20 @@
--- An entry of a list by its number, and the words of a refusal. Assumes nothing.
-use mathlib.Core.Path.{◌≡◌, refl, ◌∙◌}
-use mathlib.Core.Bool.{Bool, true, false, cond}
+-- An entry of a list by its number, and a number that no refusal has. Assumes nothing.
+use Rattle.std.specs.Prelude.{Err}
+use mathlib.Core.Path.{◌≡◌, refl, sym}
+use mathlib.Core.Bool.{Bool, true, false}
 use mathlib.Core.List.{List, [], ◌∷◌}
 use Prim.Native.Nat.{ℕ, zero, suc, ◌≤◌, ◌<◌}
-use Prim.Native.String.{String}
 use native.Mathlib.Omega.{arith}
 use types.Run.{OneOf}
-use borrow.Author.Tests.{eqb-true, eqb-false, leb-true, leb-false}
+use borrow.Author.Tests.{eqb-true, eqb-false, leb-true, leb-false, ne_eqb}
 use lib.Dec.{eqb, leb}
 use lib.ListN.{length}
-use Rattle.format.specs.Basics.{given, refused, Outcome}
-use Rattle.format.specs.Text.{bytes}
-use Rattle.format.specs.Program.{line_to}
+use Rattle.format.specs.Basics.{refused}
 use Rattle.format.specs.Answers.{written_answer}
-use Rattle.format.specs.declared.Written.TheVariants as Written
-use Rattle.format_words.specs.Words.{from_zero, entry, refusals, edition_words, refusal_words, refusal_to}
+use Rattle.format.specs.Reasons.{refusal_number}
+use Rattle.format.specs.declared.Reason.{Reason}
+use Rattle.format.specs.declared.Refusal.{Refusal}
+use Rattle.format_words.specs.Words.{from_zero, entry, refusals, refusal_words, refusal_to}
 
 -- ---- a number that is none of a `match`'s, which are 1, 2, 3 and so on, has no entry
 
@@ -44,31 +44,14 @@ outside count (suc k) l h e = go (leb (suc k) count) refl
     go true f = let m : suc k ≤ count = leb-true (suc k) count f in absurd (missed count (suc k) h (omega arith) m)
     go false f = let m : count < suc k = leb-false (suc k) count f in past_end l k (omega arith)
 
--- ---- the words of a number that is known, and of one that is not
-words_known : (n k : ℕ) (t : String) → n ≡ k → eqb k 27 ≡ false → entry k refusals ≡ given t → refusal_words n ≡ given t
-unfolding refusal_words
-words_known n k t e other f = rw (e, other) f
+-- ---- a number that no reason has
 
-pub said : (n k : ℕ) (t : String) (out : List ℕ) (o : Outcome ℕ) → n ≡ k → eqb k 27 ≡ false → entry k refusals ≡ given t → o ≡ line_to (bytes t) out → o ≡ refusal_to n out
-unfolding refusal_to
-said n k t out o e other f p = p ∙ rw (words_known n k t e other f) refl
-
-edition_known : (n : ℕ) → n ≡ 27 → refusal_words n ≡ given edition_words
-unfolding refusal_words
-edition_known n e = rw e refl
-
-pub said_edition : (n : ℕ) (out : List ℕ) (o : Outcome ℕ) → n ≡ 27 → o ≡ line_to (bytes edition_words) out → o ≡ refusal_to n out
-unfolding refusal_to
-said_edition n out o e p = p ∙ rw (edition_known n e) refl
-
-unknown : (n : ℕ) → (OneOf (27 ∷ []) n → ⊥) → entry n refusals ≡ refused 16 0 → refusal_words n ≡ refused 16 0
-unfolding refusal_words
-unknown n other e = go (eqb n 27) refl
+none : (n : ℕ) → ((reason : Reason) → refusal_number reason ≡ n → ⊥) → None 19 n
+none n without = (((((((((((((((((((tt, other Reason.Length), other Reason.FileType), other Reason.MissingRecord), other Reason.RecordType), other Reason.Malformed), other Reason.OutsideRange), other Reason.Level), other Reason.DataRule), other Reason.Fraction), other Reason.Count), other Reason.Place), other Reason.Block), other Reason.BlockLevel), other Reason.Limit), other Reason.Room), other Reason.Number), other Reason.RecordNumber), other Reason.LineEnd), other Reason.Directory)
   where
-    go : (t : Bool) → eqb n 27 ≡ t → cond t (given edition_words) (entry n refusals) ≡ refused 16 0
-    go true f = absurd (other (eqb-true n 27 f))
-    go false f = e
+    other : (reason : Reason) → n ≡ refusal_number reason → ⊥
+    other reason e = without reason (sym e)
 
-pub not-said : (n : ℕ) (out : List ℕ) → (OneOf (27 ∷ []) n → ⊥) → entry n refusals ≡ refused 16 0 → record { answer = written_answer (Written.Refused 16 0); bytes = out } ≡ refusal_to n out
-unfolding refusal_to written_answer
-not-said n out other e = rw (unknown n other e) refl
+pub not-said : (n : ℕ) (out : List ℕ) (r : Refusal) → r ≡ record { reason = Reason.Number; at = 0 } → ((reason : Reason) → refusal_number reason ≡ n → ⊥) → record { answer = written_answer (Err r); bytes = out } ≡ refusal_to n out
+unfolding refusal_to refusal_words refusals written_answer
+not-said n out r e without = rw (e, ne_eqb n 27 (λ f. without Reason.Edition (sym f)), outside 19 n refusals (none n without) refl) refl

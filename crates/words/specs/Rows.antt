@@ -1,55 +1,42 @@
--- The tables as the code has them: rows of 45 bytes, and what a row tells. Assumes nothing.
-use Rattle.std.specs.Prelude.{Bool, true, cond, List, [], ◌∷◌, ℕ, zero, suc, ◌/◌, leb, eqb, length, take, drop, get_or, replicate}
+-- The tables as the code has them, and what a row tells. Assumes nothing.
+use Rattle.std.specs.Prelude.{◌≡◌, map, List, [], ℕ, zero, suc, Option, Some, None}
+use Rattle.std.specs.List.{slice_get}
+use denote.Ref.{Bor}
 use Rattle.format.specs.Basics.{Answer, given, refused}
 use Rattle.format.specs.Text.{bytes}
-use Rattle.format.specs.Column.{integer}
 use Rattle.format.specs.Layout.{Col}
-use Rattle.columns.specs.InRecord.{column_at, number_in}
-use Rattle.format_words.specs.Words.{entry, described_of}
+use Rattle.format_words.specs.Words.{described_of}
 use Rattle.format_words.specs.declared.Described.{Described}
+use Rattle.words.specs.declared.tables.Row.{Row}
 
--- the first n rows of a table
-abbrev pub cut : ℕ → List ℕ → List (List ℕ)
-cut zero bs = []
-cut (suc n) bs = take 45 bs ∷ cut n (drop 45 bs)
-
--- no row: a 0 where the letter of a row stands
-abbrev pub no_row : List ℕ
-no_row = replicate 45 0
-
-abbrev pub row_from : Answer (List ℕ) → List ℕ
-row_from (given row) = row
-row_from (refused n r) = no_row
-
--- the row of a column, numbered from 1
-unfoldable pub row_of : (table : List ℕ) → (column : ℕ) → List ℕ
-row_of table column = row_from (entry column (cut (length table / 45) table))
+-- the row of a column in a table, numbered from 1
+abbrev pub row_in : List Row → (column : ℕ) → Option Row
+row_in table zero = None
+row_in table (suc k) = slice_get table k
 
 -- what a row says of its column
-unfoldable pub described : List ℕ → Described
-described row =
-    cond (eqb (get_or row 0 0) 0) (Described.Refused 16 0)
-    (Described.Column (number_in row 1 3) (number_in row 4 3) (get_or row 0 0) (integer (column_at row 7 8)) (integer (column_at row 15 8)))
+abbrev pub described : Row → Described
+described row = record { start = row.1; width = row.2; letter = row.0; least = row.3; greatest = row.4 }
 
--- how long its name is, and the name
-unfoldable pub name_length : List ℕ → ℕ
-name_length row = number_in row 23 3
-
-unfoldable pub name_in : List ℕ → List ℕ
-name_in row = take (name_length row) (drop 27 row)
-
--- all that a row tells, with that its name is not longer than its place; and what a row must tell of a column
+-- all that a row tells, and what it must tell of a column
 pub record Told : Type 0 where
-  pub facts : Described
+  pub facts : Answer Described
   pub name : List ℕ
-  pub short : Bool
 
-unfoldable pub told : List ℕ → Told
-told row = record { facts = described row; name = name_in row; short = leb (name_length row) 18 }
+abbrev pub told : Option Row → Told
+told (Some row) = record { facts = given (described row); name = row.5.now }
+told None = record { facts = refused 16 0; name = [] }
 
 abbrev pub name_bytes : Answer Col → List ℕ
 name_bytes (given c) = bytes c.name
 name_bytes (refused n r) = []
 
-unfoldable pub told_of : Answer Col → Told
-told_of a = record { facts = described_of a; name = name_bytes a; short = true }
+abbrev pub told_of : Answer Col → Told
+told_of a = record { facts = described_of a; name = name_bytes a }
+
+-- a table tells row by row what the columns of its layout are; no layout has no table
+abbrev pub Tells : Option (Bor (List Row)) → Answer (List Col) → Type 0
+Tells (Some table) (given layout) = map (λ (row : Row). told (Some row)) table.now ≡ map (λ (c : Col). told_of (given c)) layout
+Tells (Some table) (refused n r) = ⊥
+Tells None (given layout) = ⊥
+Tells None (refused n r) = (n ≡ 16) × (r ≡ 0)

@@ -1,14 +1,11 @@
 -- `columns::fill` meets its contract. The loop's invariant: what is left to write, and behind it what was written, is the column that is
 -- due. Assumes nothing.
 use borrow.Author.Rules.{rules}
-use Rattle.columns.proofs.Writing.{nothing_stored, stored, length-kept, all_stored}
+use Rattle.columns.proofs.Writing.{stored, all_stored}
 use Rattle.columns.proofs.fill.Goals as goal
 
-pub loop-i-init : goal.loop-i-init
-loop-i-init c = search (rules, nothing_stored)
-
 pub loop-i-preserved : goal.loop-i-preserved
-loop-i-preserved c = search (rules, stored, length-kept)
+loop-i-preserved c = search (rules, stored)
 
 pub returns : goal.returns
-returns c = search all_stored
+returns c = search (rules, all_stored)

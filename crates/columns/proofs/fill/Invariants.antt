@@ -2,13 +2,9 @@
 -- due. Assumes nothing.
 use mathlib.Core.Path.{◌≡◌}
 use mathlib.Core.List.{◌++◌}
-use Prim.Native.Nat.{◌≤◌}
 use lib.ListN.{length, drop}
 use Rattle.columns.specs.WriteSteps.{filled}
 use Rattle.columns.proofs.fill.Given as goal
 
 abbrev pub invariant-loop-i : goal.invariant-loop-i
-invariant-loop-i l = (l.i ≤ length l.initial.column) × (length l.column ≡ length l.initial.column) × (filled l.i l.s ++ drop l.i l.column ≡ filled (length l.initial.column) l.initial.s)
-
-abbrev pub decreases-loop-i : goal.decreases-loop-i
-decreases-loop-i l = l.i
+invariant-loop-i l = filled l.i l.rest ++ drop l.i l.column ≡ filled (length l.initial.column) l.initial.rest

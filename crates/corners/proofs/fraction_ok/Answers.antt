@@ -1,12 +1,12 @@
 -- `fraction_ok` tests size, then sign. Assumes nothing.
-use Rattle.corners.proofs.Joining.{least_fits, fraction-small, fraction_large}
+use borrow.Author.Rules.{rules}
+use Rattle.format.specs.Corner.{fraction_ok}
 use Rattle.corners.proofs.fraction_ok.Goals as goal
 
-pub overflow_sub-most : goal.overflow_sub-most
-overflow_sub-most c = search least_fits
+pub returns-then-unsigned_abs-most_of : goal.returns-then-unsigned_abs-most_of
+unfolding fraction_ok
+returns-then-unsigned_abs-most_of c = search rules
 
-pub returns-then-within : goal.returns-then-within
-returns-then-within c = search fraction-small
-
-pub returns-else-within : goal.returns-else-within
-returns-else-within c = search fraction_large
+pub returns-else-unsigned_abs-most_of : goal.returns-else-unsigned_abs-most_of
+unfolding fraction_ok
+returns-else-unsigned_abs-most_of c = search rules

@@ -1,12 +1,11 @@
 -- `find_first`: the length, then the rest by the first edition. Assumes nothing.
-use Rattle.directories.proofs.Judging.{first_unused, used-right, first_found}
+use borrow.Author.Rules.{rules}
+use Rattle.std.proofs.lemmas.Result.{err_from_is_err_and}
+use Rattle.directories.proofs.Judging.{first_unused, first_found}
 use Rattle.directories.proofs.find_first.Goals as goal
 
-pub returns-then-not-used_ok : goal.returns-then-not-used_ok
-returns-then-not-used_ok c = search first_unused
-
-pub find_behind-requires : goal.find_behind-requires
-find_behind-requires c = search used-right
+pub returns-in_err-last : goal.returns-in_err-last
+returns-in_err-last c = let p = err_from_is_err_and c.from_residual.result c.from_residual.ensures.1 in rw (p.1, p.2) (search (rules, first_unused))
 
 pub returns : goal.returns
-returns c = search first_found
+returns c = first_found c.args.used c.args.buffer.now c.in_ok-last.last.now c.in_ok-last.ensures c.find_behind.result c.find_behind.ensures

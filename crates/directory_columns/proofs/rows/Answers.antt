@@ -1,15 +1,10 @@
--- `rows` divides and rounds up. Assumes nothing.
-use Rattle.directory_columns.proofs.Numbers.{some_each, no_rows, row_fits, some-rows}
+-- `rows` counts a last record that is not full, too. Assumes nothing.
+use mathlib.Core.Path.{◌∙◌}
+use Rattle.directory_columns.proofs.Numbers.{some_each, rows_are}
 use Rattle.directory_columns.proofs.rows.Goals as goal
 
-pub returns-then-layers-eq0 : goal.returns-then-layers-eq0
-returns-then-layers-eq0 c = search no_rows
-
-pub nonzero_div-result : goal.nonzero_div-result
-nonzero_div-result c = search some_each
-
-pub overflow_add-result : goal.overflow_add-result
-overflow_add-result c = search row_fits
+pub div_ceil-requires : goal.div_ceil-requires
+div_ceil-requires c = search some_each
 
 pub returns : goal.returns
-returns c = search some-rows
+returns c = c.div_ceil.ensures ∙ rows_are _ _ _ c.per_record.ensures

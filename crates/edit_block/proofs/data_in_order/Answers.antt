@@ -1,17 +1,13 @@
--- `data_in_order` walks over the data records. The loop keeps that the walk from its index comes to the same as the whole; each turn leaves one
--- record fewer. Assumes nothing.
-use mathlib.Core.Path.{refl}
+-- `data_in_order` walks over the data records. The loop keeps that the walk from its index comes to the same as the whole. Assumes nothing.
+use borrow.Author.Rules.{rules}
 use Rattle.edit_block.proofs.Data.{data_over, data_wrong, data_passes}
 use Rattle.edit_block.proofs.data_in_order.Goals as goal
 
-pub loop-index-init : goal.loop-index-init
-loop-index-init c = λ opened. refl
-
-pub returns-then-fault-ne0 : goal.returns-then-fault-ne0
-returns-then-fault-ne0 c = search data_wrong
+pub returns-then-is_err : goal.returns-then-is_err
+returns-then-is_err c = search (rules, data_wrong)
 
 pub loop-index-preserved : goal.loop-index-preserved
-loop-index-preserved c = search data_passes
+loop-index-preserved c = search (rules, data_passes)
 
 pub returns : goal.returns
-returns c = search data_over
+returns c = search (rules, data_over)

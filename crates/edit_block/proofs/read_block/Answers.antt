@@ -1,18 +1,6 @@
--- `read_block` answers as its definition. Assumes nothing.
-use Rattle.edit_block.proofs.Items.{not-whole, empty, not-item, one_item, data_wrong}
+-- `read_block` answers as its definition: none where its first record is refused. Assumes nothing.
+use Rattle.edit_block.proofs.Items.{refused-first}
 use Rattle.edit_block.proofs.read_block.Goals as goal
 
-pub returns-then-block-ne0 : goal.returns-then-block-ne0
-returns-then-block-ne0 c = search not-whole
-
-pub returns-then-block-eq0 : goal.returns-then-block-eq0
-returns-then-block-eq0 c = search empty
-
-pub returns-then-not-is_item : goal.returns-then-not-is_item
-returns-then-not-is_item c = search not-item
-
-pub returns-then-data_in_order : goal.returns-then-data_in_order
-returns-then-data_in_order c = search one_item
-
-pub returns-else-data_in_order : goal.returns-else-data_in_order
-returns-else-data_in_order c = search data_wrong
+pub returns-in_default : goal.returns-in_default
+returns-in_default c = refused-first _ c.if-block-ne0.false _ c.is_empty.ensures c.if-is_empty.false _ c.record_at.ensures c.in_default.field-0 c.in_default.ensures

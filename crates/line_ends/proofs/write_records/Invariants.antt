@@ -1,16 +1,8 @@
--- `write_records` writes records without their line ends. The loop's invariant: k of them are written, and behind them the target is as it was.
+-- `write_records` writes the records one after the other. The loop's invariant: k of them are written, and behind them the target is as it was.
 -- Assumes nothing.
-use mathlib.Core.Path.{◌≡◌}
-use mathlib.Core.List.{◌++◌}
-use Prim.Native.Nat.{◌-◌, ◌*◌, ◌≤◌}
-use lib.ListN.{length, take, drop}
-use Rattle.format.specs.Basics.{flat}
-use Rattle.files.specs.declared.Stride.TheVariants.{Lines}
 use Rattle.files.specs.Records.{records_of}
+use Rattle.line_ends.proofs.Writing.{WrittenSoFar}
 use Rattle.line_ends.proofs.write_records.Given as goal
 
 abbrev pub invariant-loop-k : goal.invariant-loop-k
-invariant-loop-k l = (l.k ≤ l.count) × (86 * l.count ≤ length l.file) × (length l.target ≡ length l.initial.target) × (l.target ≡ flat (take l.k (records_of Lines l.file)) ++ drop (84 * l.k) l.initial.target)
-
-abbrev pub decreases-loop-k : goal.decreases-loop-k
-decreases-loop-k l = l.count - l.k
+invariant-loop-k l = WrittenSoFar l.to (records_of l.from l.file) l.k l.initial.target l.target

@@ -1,13 +1,10 @@
--- `records::counts_agree` meets its contract. The loop's invariant: the counts so far agree, and their sum. The measure is the kinds still to come. Assumes nothing.
+-- `records::counts_agree` meets its contract. The loop's invariant: the counts so far agree, and their sum. Assumes nothing.
 use Rattle.records.specs.Entry.{states_count}
 use Rattle.format.specs.Judge.{sum, all}
 use Rattle.format.specs.Record.{count_in}
-use Prim.Native.Nat.{◌-◌, ◌≤◌}
+use Prim.Native.Nat.{◌≤◌}
 use mathlib.Core.Path.{◌≡◌}
 use Rattle.records.proofs.counts_agree.Given as goal
 
 abbrev pub invariant-loop-kind : goal.invariant-loop-kind
 invariant-loop-kind l = (l.kind ≤ 10) × (l.agree ≡ all l.kind (states_count l.record l.tally)) × (l.sum ≡ sum l.kind (count_in l.record))
-
-abbrev pub decreases-loop-kind : goal.decreases-loop-kind
-decreases-loop-kind l = 10 - l.kind

@@ -1,12 +1,13 @@
 -- `report::put_answer` meets its contract. Assumes nothing.
+use Rattle.std.proofs.Common.{◌∙◌}
 use Rattle.format.specs.Text.{bytes}
 use Rattle.report.proofs.Answers.{accepted-line, refused-line}
 use Rattle.report.proofs.put_answer.Goals as goal
 
-pub returns-in-Accepted : goal.returns-in-Accepted
+pub returns-in-Ok : goal.returns-in-Ok
 unfolding bytes
-returns-in-Accepted c = search accepted-line
+returns-in-Ok c = search accepted-line
 
-pub returns-in-Refused : goal.returns-in-Refused
+pub returns-in-Err : goal.returns-in-Err
 unfolding bytes
-returns-in-Refused c = search refused-line
+returns-in-Err c = refused-line c.in-Err.field-0 _ _ _ _ c.in-Err.is (c.from.ensures ∙ c.number.ensures) c.put_number_line-in-Err.ensures

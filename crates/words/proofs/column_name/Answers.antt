@@ -1,16 +1,14 @@
 -- `words::column_name` meets its contract. Assumes nothing.
-use native.Mathlib.Omega.{arith}
-use Rattle.words.proofs.RowLaws.{name-short, no_name, name-put}
+use Rattle.std.proofs.Common.{refl, ◌∙◌}
+use Rattle.std.proofs.lemmas.Result.{err_from_is_err_and}
+use Rattle.words.proofs.RowLaws.{no-row, name-given, name-refused}
 use Rattle.words.proofs.column_name.Goals as goal
 
-pub returns-then-row-eq0 : goal.returns-then-row-eq0
-returns-then-row-eq0 c = search no_name
-
-pub overflow_add-end : goal.overflow_add-end
-overflow_add-end c = omega (arith, name-short _ _ _ c.column_row-row.ensures c.number_at-end.ensures)
-
-pub slice_bounds-put_text_line-end : goal.slice_bounds-put_text_line-end
-slice_bounds-put_text_line-end c = omega (arith, name-short _ _ _ c.column_row-row.ensures c.number_at-end.ensures)
+pub returns-in_err-name : goal.returns-in_err-name
+returns-in_err-name c =
+    let p = err_from_is_err_and c.from_residual.result c.from_residual.ensures.1 in
+    let none = no-row _ _ _ c.in_err-name.ensures.value in
+    rw (p.1, p.2) (name-refused _ _ _ (rw none.0 at c.column_row.ensures) (none.1 ∙ c.at.ensures))
 
 pub returns : goal.returns
-returns c = search name-put
+returns c = name-given _ _ c.in_ok-name.field-0 _ _ (rw c.in_ok-name.ensures.ok_part at c.column_row.ensures) refl c.put_text_line.ensures

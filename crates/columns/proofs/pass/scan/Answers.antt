@@ -9,8 +9,8 @@ returns-then-column-begin c = search spaces-alone
 pub read_on-requires : goal.read_on-requires
 read_on-requires c = search (rules, first-kept)
 
-pub returns-in-Digits : goal.returns-in-Digits
-returns-in-Digits c = search scanned
+pub returns-then-eq : goal.returns-then-eq
+returns-then-eq c = search scanned
 
 pub read_on-requires-2 : goal.read_on-requires-2
 read_on-requires-2 c = search (rules, first-kept)

@@ -1,12 +1,13 @@
 -- `columns::pass::step` meets its contract. Assumes nothing.
-use Rattle.columns.proofs.Steps.{digit-least, digit-kept, other-kept}
+use borrow.Author.Rules.{rules}
+use Rattle.format.specs.Column.{is_digit}
+use Rattle.columns.specs.Pass.{step_of}
 use Rattle.columns.proofs.pass.step.Goals as goal
 
-pub overflow_sub-digit : goal.overflow_sub-digit
-overflow_sub-digit c = search digit-least
+pub returns-then-is_ascii_digit : goal.returns-then-is_ascii_digit
+unfolding step_of is_digit
+returns-then-is_ascii_digit c = search rules
 
-pub returns-then-byte : goal.returns-then-byte
-returns-then-byte c = search digit-kept
-
-pub returns : goal.returns
-returns c = search other-kept
+pub returns-else-is_ascii_digit : goal.returns-else-is_ascii_digit
+unfolding step_of is_digit
+returns-else-is_ascii_digit c = search rules

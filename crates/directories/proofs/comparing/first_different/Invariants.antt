@@ -1,12 +1,9 @@
--- `first_different` compares record after record. The loop's invariant is `Comparing`, its measure the rows left. Assumes nothing.
-use Prim.Native.Nat.{◌-◌, ◌≤◌}
+-- `first_different` compares record after record. The loop's invariant is `Comparing`. Assumes nothing.
+use Prim.Native.Nat.{◌≤◌}
 use Rattle.files.specs.declared.Stride.TheVariants.{Plain}
 use Rattle.files.specs.Records.{records_of}
 use Rattle.directories.proofs.Different.{Comparing}
 use Rattle.directories.proofs.comparing.first_different.Given as goal
 
 abbrev pub invariant-loop-i : goal.invariant-loop-i
-invariant-loop-i l = (l.rows ≤ 200000) × Comparing (records_of Plain l.directory) l.edition l.pointer l.layers l.unlisted l.rows l.right l.i
-
-abbrev pub decreases-loop-i : goal.decreases-loop-i
-decreases-loop-i l = l.rows - l.i
+invariant-loop-i l = (l.rows ≤ 200000) × Comparing (records_of Plain l.directory) l.found.edition l.found.pointer l.found.layers l.fn.unlisted l.rows l.right l.i

@@ -1,9 +1,9 @@
 -- `removal` judges, then plans. Assumes nothing.
-use Rattle.edit.proofs.OpenedAt.{removal_refused, opens_at}
+use Rattle.std.proofs.lemmas.Result.{err_from_is_err_and}
+use Rattle.edit.proofs.OpenedAt.{removal_refused}
 use Rattle.edit.proofs.plans.removal.Goals as goal
 
-pub returns-then-sheet-ne0 : goal.returns-then-sheet-ne0
-returns-then-sheet-ne0 c = search removal_refused
-
-pub removal_in_sheet-requires : goal.removal_in_sheet-requires
-removal_in_sheet-requires c = search opens_at
+pub returns-in_err-sheet : goal.returns-in_err-sheet
+returns-in_err-sheet c =
+    let p = err_from_is_err_and c.from_residual.result c.from_residual.ensures.1 in
+    rw (p.1, p.2) (removal_refused _ _ _ c.in_err-sheet.field-0.0 (rw c.saturating_sub.ensures at c.in_err-sheet.ensures))

@@ -10,8 +10,8 @@ decreases-walk_body l = 2 * (9 - l.open_level)
 abbrev pub decreases-walk_group : goal.decreases-walk_group
 decreases-walk_group l = 2 * (8 - l.open_level) + 1
 
-abbrev pub invariant-walk_body-loop-at : goal.invariant-walk_body-loop-at
-invariant-walk_body-loop-at l = Going l.file l.extent l.k l.open_level l.initial.seen l.at l.tally l.low l.seen
+abbrev pub invariant-walk_body-loop-next : goal.invariant-walk_body-loop-next
+invariant-walk_body-loop-next l = Going l.walk.file.now l.walk.extent l.k l.open_level l.initial.seen l.next l.tally l.low l.seen
 
-abbrev pub decreases-walk_body-loop-at : goal.decreases-walk_body-loop-at
-decreases-walk_body-loop-at l = l.extent.records - l.at
+abbrev pub decreases-walk_body-loop-next : goal.decreases-walk_body-loop-next
+decreases-walk_body-loop-next l = l.walk.extent.records - l.next

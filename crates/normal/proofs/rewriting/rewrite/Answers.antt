@@ -1,6 +1,7 @@
--- `normal::rewriting::rewrite` meets its contract. Assumes nothing.
-use Rattle.normal.proofs.Columns.{rewritten_once}
+-- `normal::rewriting::rewrite` meets its contract: the table is that of its layout. Assumes nothing.
+use Rattle.std.proofs.Common.{rules}
+use Rattle.normal.proofs.Layouts.{record-written}
 use Rattle.normal.proofs.rewriting.rewrite.Goals as goal
 
 pub returns : goal.returns
-returns c = search rewritten_once
+returns g c = record-written _ _ _ _ (search rules) c.table.ensures.are c.rewrite_columns.ensures c.requires

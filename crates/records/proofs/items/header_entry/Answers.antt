@@ -1,14 +1,8 @@
--- `records::items::header_entry` meets its contract: refused by its layout's fault, or what it states. Assumes nothing.
-use Rattle.records.proofs.Entries.{header_refused, header-passed}
-use Rattle.records.proofs.Naturals.{header-level}
+-- `records::items::header_entry` meets its contract: refused by its layout's fault. Assumes nothing.
 use borrow.Author.Rules.{rules}
+use Rattle.std.proofs.lemmas.Result.{err_from_is_err_and}
+use Rattle.records.proofs.Entries.{header_refused}
 use Rattle.records.proofs.items.header_entry.Goals as goal
 
-pub returns-then-fault-ne0 : goal.returns-then-fault-ne0
-returns-then-fault-ne0 c = search header_refused
-
-pub natural-level-requires : goal.natural-level-requires
-natural-level-requires c = search (rules, header-level)
-
-pub returns : goal.returns
-returns c = search header-passed
+pub returns-in_err-check : goal.returns-in_err-check
+returns-in_err-check c = let p = err_from_is_err_and c.from_residual.result c.from_residual.ensures.1 in rw (p.1, p.2) (search (rules, header_refused))

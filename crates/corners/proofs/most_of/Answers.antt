@@ -1,9 +1,0 @@
--- `most_of` is the largest fraction of a unit. Assumes nothing.
-use borrow.Author.Tests.{eq-eqb, ne_eqb}
-use Rattle.corners.proofs.most_of.Goals as goal
-
-pub returns-then-unit-eq1 : goal.returns-then-unit-eq1
-returns-then-unit-eq1 c = simp (eq-eqb _ _ c.if-unit-eq1.true)
-
-pub returns-else-unit-eq1 : goal.returns-else-unit-eq1
-returns-else-unit-eq1 c = simp (ne_eqb _ _ c.if-unit-eq1.false)

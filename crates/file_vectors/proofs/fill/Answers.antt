@@ -1,7 +1,0 @@
--- `file_vectors::fill` is safe and ends. Assumes nothing.
-use lib.ListN.{length-set}
-use native.Mathlib.Omega.{arith}
-use Rattle.file_vectors.proofs.fill.Goals as goal
-
-pub loop-i-preserved : goal.loop-i-preserved
-loop-i-preserved c = let k = c.loop-i in (simp length-set (omega arith), simp length-set k.invariant.1)

@@ -1,9 +1,0 @@
--- `layouts::DataGrid::starts` meets its contract: result and table compute to one list. Assumes nothing.
-use mathlib.Core.Path.{refl}
-use Rattle.format.specs.Layout.{data_grid}
-use Rattle.layouts.specs.Tables.{starts_of, tabled}
-use Rattle.layouts.proofs.data_grid.DataGrid.starts.Goals as goal
-
-pub returns : goal.returns
-unfolding data_grid starts_of tabled
-returns c = refl

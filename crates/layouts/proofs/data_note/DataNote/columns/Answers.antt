@@ -1,9 +1,0 @@
--- `layouts::DataNote::columns` meets its contract: result and table compute to one list. Assumes nothing.
-use mathlib.Core.Path.{refl}
-use Rattle.format.specs.Layout.{data_note}
-use Rattle.layouts.specs.Tables.{spans_of}
-use Rattle.layouts.proofs.data_note.DataNote.columns.Goals as goal
-
-pub returns : goal.returns
-unfolding data_note spans_of
-returns c = refl

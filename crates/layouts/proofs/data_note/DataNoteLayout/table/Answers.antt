@@ -1,0 +1,11 @@
+-- `layouts::DataNote::table` meets its contract: result and table compute to one list, and each number is one that its column may hold. Assumes nothing.
+use mathlib.Core.Path.{refl}
+use Rattle.format.specs.Column.{fits, text_of, digits, digits_in}
+use Rattle.format.specs.Layout.{data_note}
+use Rattle.layouts.specs.Tables.{tabled, table_of}
+use Rattle.layouts.proofs.Limits.{table}
+use Rattle.layouts.proofs.data_note.DataNoteLayout.table.Goals as goal
+
+pub returns : goal.returns
+unfolding data_note tabled table_of fits text_of digits digits_in
+returns c = table data_note _ refl refl

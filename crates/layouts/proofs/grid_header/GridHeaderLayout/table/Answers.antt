@@ -1,0 +1,11 @@
+-- `layouts::GridHeader::table` meets its contract: result and table compute to one list, and each number is one that its column may hold. Assumes nothing.
+use mathlib.Core.Path.{refl}
+use Rattle.format.specs.Column.{fits, text_of, digits, digits_in}
+use Rattle.format.specs.Layout.{grid_header}
+use Rattle.layouts.specs.Tables.{tabled, table_of}
+use Rattle.layouts.proofs.Limits.{table}
+use Rattle.layouts.proofs.grid_header.GridHeaderLayout.table.Goals as goal
+
+pub returns : goal.returns
+unfolding grid_header tabled table_of fits text_of digits digits_in
+returns c = table grid_header _ refl refl

@@ -1,9 +1,0 @@
--- `layouts::Header::widths` meets its contract: result and table compute to one list. Assumes nothing.
-use mathlib.Core.Path.{refl}
-use Rattle.format.specs.Layout.{header}
-use Rattle.layouts.specs.Tables.{widths_of, tabled}
-use Rattle.layouts.proofs.header_record.Header.widths.Goals as goal
-
-pub returns : goal.returns
-unfolding header widths_of tabled
-returns c = refl

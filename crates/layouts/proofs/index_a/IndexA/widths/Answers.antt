@@ -1,9 +1,0 @@
--- `layouts::IndexA::widths` meets its contract: result and table compute to one list. Assumes nothing.
-use mathlib.Core.Path.{refl}
-use Rattle.format.specs.Layout.{index_a}
-use Rattle.layouts.specs.Tables.{widths_of, tabled}
-use Rattle.layouts.proofs.index_a.IndexA.widths.Goals as goal
-
-pub returns : goal.returns
-unfolding index_a widths_of tabled
-returns c = refl

@@ -1,9 +1,0 @@
--- `layouts::IndexB::columns` meets its contract: result and table compute to one list. Assumes nothing.
-use mathlib.Core.Path.{refl}
-use Rattle.format.specs.Layout.{index_b}
-use Rattle.layouts.specs.Tables.{spans_of}
-use Rattle.layouts.proofs.index_b.IndexB.columns.Goals as goal
-
-pub returns : goal.returns
-unfolding index_b spans_of
-returns c = refl

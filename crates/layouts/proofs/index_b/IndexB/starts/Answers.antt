@@ -1,9 +1,0 @@
--- `layouts::IndexB::starts` meets its contract: result and table compute to one list. Assumes nothing.
-use mathlib.Core.Path.{refl}
-use Rattle.format.specs.Layout.{index_b}
-use Rattle.layouts.specs.Tables.{starts_of, tabled}
-use Rattle.layouts.proofs.index_b.IndexB.starts.Goals as goal
-
-pub returns : goal.returns
-unfolding index_b starts_of tabled
-returns c = refl

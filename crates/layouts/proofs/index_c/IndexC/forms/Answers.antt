@@ -1,9 +1,0 @@
--- `layouts::IndexC::forms` meets its contract: result and table compute to one list. Assumes nothing.
-use mathlib.Core.Path.{refl}
-use Rattle.format.specs.Layout.{index_c}
-use Rattle.layouts.specs.Tables.{forms_of, tabled}
-use Rattle.layouts.proofs.index_c.IndexC.forms.Goals as goal
-
-pub returns : goal.returns
-unfolding index_c forms_of tabled
-returns c = refl

@@ -1,9 +1,0 @@
--- `layouts::SheetA::forms` meets its contract: result and table compute to one list. Assumes nothing.
-use mathlib.Core.Path.{refl}
-use Rattle.format.specs.Layout.{sheet_a}
-use Rattle.layouts.specs.Tables.{forms_of, tabled}
-use Rattle.layouts.proofs.sheet_a.SheetA.forms.Goals as goal
-
-pub returns : goal.returns
-unfolding sheet_a forms_of tabled
-returns c = refl

@@ -1,9 +1,0 @@
--- `layouts::SheetB::forms` meets its contract: result and table compute to one list. Assumes nothing.
-use mathlib.Core.Path.{refl}
-use Rattle.format.specs.Layout.{sheet_b}
-use Rattle.layouts.specs.Tables.{forms_of, tabled}
-use Rattle.layouts.proofs.sheet_b.SheetB.forms.Goals as goal
-
-pub returns : goal.returns
-unfolding sheet_b forms_of tabled
-returns c = refl

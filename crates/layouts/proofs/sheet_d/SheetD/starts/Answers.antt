@@ -1,9 +1,0 @@
--- `layouts::SheetD::starts` meets its contract: result and table compute to one list. Assumes nothing.
-use mathlib.Core.Path.{refl}
-use Rattle.format.specs.Layout.{sheet_d}
-use Rattle.layouts.specs.Tables.{starts_of, tabled}
-use Rattle.layouts.proofs.sheet_d.SheetD.starts.Goals as goal
-
-pub returns : goal.returns
-unfolding sheet_d starts_of tabled
-returns c = refl

@@ -1,9 +1,0 @@
--- `layouts::SheetF::columns` meets its contract: result and table compute to one list. Assumes nothing.
-use mathlib.Core.Path.{refl}
-use Rattle.format.specs.Layout.{sheet_f}
-use Rattle.layouts.specs.Tables.{spans_of}
-use Rattle.layouts.proofs.sheet_f.SheetF.columns.Goals as goal
-
-pub returns : goal.returns
-unfolding sheet_f spans_of
-returns c = refl

@@ -1,9 +1,0 @@
--- `layouts::SheetF::widths` meets its contract: result and table compute to one list. Assumes nothing.
-use mathlib.Core.Path.{refl}
-use Rattle.format.specs.Layout.{sheet_f}
-use Rattle.layouts.specs.Tables.{widths_of, tabled}
-use Rattle.layouts.proofs.sheet_f.SheetF.widths.Goals as goal
-
-pub returns : goal.returns
-unfolding sheet_f widths_of tabled
-returns c = refl

@@ -1,7 +1,0 @@
--- `normal::by_layout::sheet_b` meets its contract: the tables are those of its layout. Assumes nothing.
-use Rattle.normal.proofs.Layouts.{form-written}
-use Rattle.layouts.proofs.Lies.{lie_sheet_b}
-use Rattle.normal.proofs.by_layout.sheet_b.Goals as goal
-
-pub returns : goal.returns
-returns c = search (form-written, lie_sheet_b)

@@ -1,0 +1,8 @@
+-- `records::check_note` meets its contract: refused by its layout's fault. Assumes nothing.
+use borrow.Author.Rules.{rules}
+use Rattle.std.proofs.lemmas.Result.{err_from_is_err_and}
+use Rattle.records.proofs.DataFaults.{note_refused}
+use Rattle.records.proofs.check_note.Goals as goal
+
+pub returns-in_err-check : goal.returns-in_err-check
+returns-in_err-check c = let p = err_from_is_err_and c.from_residual.result c.from_residual.ensures.1 in rw (p.1, p.2) (search (rules, note_refused))
