@@ -2,12 +2,10 @@
 use mathlib.Core.Path.{◌≡◌, ap, ap₂, sym, ◌∙◌}
 use mathlib.Core.List.{List, ◌++◌, append_assoc}
 use Prim.Native.Nat.{ℕ, ◌+◌, ◌-◌, ◌≤◌, ◌<◌}
-use native.Mathlib.Nat.{add-sub_cancel_left}
 use native.Mathlib.Omega.{arith}
-use borrow.Rule.Slice.PartMut.{put_mid}
 use borrow.Author.Tests.{le-leb, lt-leb}
 use lib.ListN.{length, length-append, length-drop, take, drop}
-use lib.Seq.{take_at, drop_at, drop-drop}
+use lib.Seq.{take-length, take_at, drop_at, drop-drop}
 use Rattle.format.specs.Layout.{splice}
 use Rattle.files.specs.Buffers.{put_at}
 
@@ -17,8 +15,10 @@ module _ (buffer : List ℕ) (at : ℕ) (bytes : List ℕ) where
   unfolding put_at splice
   put-there room = rw (le-leb (at + length bytes) (length buffer) room)
 
-  pub part-put : at ≤ length buffer → length bytes ≤ length buffer - at → (part : List ℕ) → part ≡ bytes → put_mid at (at + length bytes - at) buffer part ≡ put_at buffer at bytes
-  part-put h k part e = rw (e, add-sub_cancel_left at (length bytes)) (ap (λ (x : List ℕ). take at buffer ++ (bytes ++ x)) (drop-drop (length bytes) at buffer) ∙ sym (put-there (omega arith)))
+  pub all-put : at + length bytes ≤ length buffer → (i : ℕ) → i ≤ length bytes → length bytes ≤ i → (b : List ℕ) → b ≡ (take at buffer ++ take i bytes) ++ drop (at + i) buffer → b ≡ put_at buffer at bytes
+  all-put room i h k b e =
+      let n : i ≡ length bytes = omega arith in
+      (rw (n, take-length bytes) at e) ∙ append_assoc (take at buffer) bytes (drop (at + length bytes) buffer) ∙ sym (put-there room)
 
   -- where they have none
   no_room : length buffer < at + length bytes → buffer ≡ put_at buffer at bytes

@@ -73,5 +73,8 @@ pub fn put_at(buffer: &mut [u8], at: usize, bytes: &[u8])
     if buffer.len() - at < bytes.len() {
         return;
     }
-    buffer[at..at + bytes.len()].copy_from_slice(bytes);
+    // Kept: the loop; `copy_from_slice` needs `memmove` from whoever links the archive.
+    for i in 0..bytes.len() {
+        buffer[at + i] = bytes[i];
+    }
 }

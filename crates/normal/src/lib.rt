@@ -66,10 +66,11 @@ fn write_record(source: &[u8], due: FileDue, target: &mut [u8])
     requires { (length source.now ≡ 84) × (length target.old ≡ 84) }
     ensures { target.new ≡ normal_record (columns_due due source.now) source.now }
 {
-    let Some(record) = target.as_mut_array::<RECORD>() else {
+    let (Some(record), Some(read)) = (target.as_mut_array::<RECORD>(), source.as_array::<RECORD>())
+    else {
         unreachable!()
     };
-    record.copy_from_slice(source);
+    *record = *read;
     rewrite_due(record, due);
 }
 
