@@ -194,6 +194,11 @@ grown k k' b i e h = rw e (step_small k b i h)
 pub small : (k : Kept) (l : List ℕ) (i : ℕ) → k.number < 10 ^ i → i ≤ length l → length l ≤ 18 → k.number < 10 ^ 18
 small k l i h j m = omega (arith, pow-le-pow_right {n = 10} (lit< tt) {i = i} {j = 18} (omega arith))
 
+-- ---- `behind_minus`: no column ends in a minus
+pub minus_alone : (l : List ℕ) (k : Kept) (from : ℕ) → k.mark ≡ Minus → length l ≤ from → Malformed ≡ says_of (pass_from k (drop from l))
+unfolding pass_from
+minus_alone l k from e h = rw (drop_of_length-le l h, e) refl
+
 -- ---- `scan`
 
 module _ (l : List ℕ) (i : ℕ) (e : drop i l ≡ strip l) where

@@ -1,6 +1,7 @@
 // One column read in one pass: what is kept after a byte, one number and one mark, follows from what was kept before and that byte alone.
 ghost use Rattle.std.specs.Prelude.{◌≡◌, ◌≤◌, ◌<◌, ◌^◌, length, drop};
 ghost use Rattle.format.specs.Column.{column_of, strip};
+ghost use Rattle.columns.specs.declared.pass.Mark.TheVariants.{Minus};
 ghost use Rattle.columns.specs.Pass.{digit_mark, other_mark, step_of, pass_from, says_of};
 
 use format::Column;
@@ -106,7 +107,23 @@ fn read_on(column: &[u8], from: usize, first: Kept) -> Column
     finish(kept)
 }
 
-// The whole column. Where a digit stands behind the spaces, the compiler knows the mark of all that follow, and has a number alone to keep.
+// The same where a minus stands right before `from`, and spaces alone before it: the mark behind the next digit is known.
+fn behind_minus(column: &[u8], from: usize, minus: Kept) -> Column
+    requires { (from ≤ length column.now) × (length column.now ≤ 18) × (minus.number < 10 ^ from) × (minus.mark ≡ Minus) }
+    ensures { result ≡ says_of (pass_from minus (drop from column.now)) }
+{
+    if column.len() <= from {
+        return Column::Malformed;
+    }
+    let first = step(minus, column[from]);
+    if first.mark == Mark::Other {
+        return Column::Malformed;
+    }
+    read_on(column, from + 1, first)
+}
+
+// The whole column. Where a digit stands behind the spaces, or behind a minus there, the compiler knows the mark of all that follow, and has a number alone
+// to keep.
 pub(crate) fn scan(column: &[u8]) -> Column
     requires { length column.now ≤ 18 }
     ensures { result ≡ column_of column.now }
@@ -122,6 +139,9 @@ pub(crate) fn scan(column: &[u8]) -> Column
     let first = step(start, column[begin]);
     if first.mark == Mark::Digits {
         return read_on(column, begin + 1, first);
+    }
+    if first.mark == Mark::Minus {
+        return behind_minus(column, begin + 1, first);
     }
     read_on(column, begin + 1, first)
 }

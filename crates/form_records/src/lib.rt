@@ -17,10 +17,40 @@ use layouts::{
     DataNote, Element, GridHeader, Header, IndexC, Layout, NetHeader, SheetB, SheetE, SheetF,
 };
 
+// The letters, those of form_bytes, of each layout's bytes.
+// Kept: arrays that `letters` answers by value; of a reference to one the compiler knows where each letter stands, and takes the last sixteen bytes of
+// some layouts one by one.
+const INDEX_C: [u8; RECORD] =
+    *b"SssdSssd1111111111d.................................................................";
+
+const SHEET_B: [u8; RECORD] =
+    *b"MmmmmmdMmmmmmdMmmmmmdMmmmmmd...SssssdSsssssdSsdMmmmmmdMmmmmmdMmmmmmdMmmmmmd.........";
+
+const SHEET_E: [u8; RECORD] =
+    *b"........................................MmmdMmmdMmmdMmmdMmmdMmmdMmmdMmmd............";
+
+const SHEET_F: [u8; RECORD] =
+    *b"........SsssddSssdSssd........SsssddSssdSssd........SsssddSssdSssd..................";
+
+const HEADER: [u8; RECORD] =
+    *b"..SssdSdSssdSssdSdSsssdSsssdSsssdSsssdSsssdSsssdSsssdSsssdSsssdSsssdd............Sd.";
+
+const ELEMENT: [u8; RECORD] =
+    *b"..SssdSdSssdSssdSdSd6Sd2ZddSssdSssdMmmmmmdMmmmmmdMmmmmmsSd.........................r";
+
+const GRID_HEADER: [u8; RECORD] =
+    *b"..SssdSdSssdSssdSdSssdSssdSssdSsssssdSsssssdMmmmmmdMmmmmmd............SdSd.........r";
+
+const NET_HEADER: [u8; RECORD] =
+    *b"..SssdSdSssdSssdSdSdSssssdSssssd............Sd......................................";
+
+const DATA_NOTE: [u8; RECORD] =
+    *b"1MmmmmmdSsssdSsssdSd................................................................";
+
 // A layout whose records can be told at once: the letters, those of form_bytes, of its bytes.
 pub trait Lettered: Layout {
-    fn letters() -> &'static [u8; RECORD]
-        ensures { result.now ≡ letters_of Self.columns };
+    fn letters() -> [u8; RECORD]
+        ensures { result ≡ letters_of Self.columns };
 
     // the columns follow one another from 0 to 84, and each has letters of its own
     ghost laid: { laid_out 0 Self.columns ≡ true };
@@ -30,8 +60,8 @@ impl Lettered for IndexC {
     ghost laid = { laid_index_c };
 
     #[tactic(auto, unfolding(crate::specs::LaidOut::letters_of, form_bytes::specs::Letters::letters_for, form_bytes::specs::Letters::ruled, form_bytes::specs::Letters::letters_in, form_bytes::specs::Letters::behind, format::specs::Layout::index_c))]
-    fn letters() -> &'static [u8; RECORD] {
-        b"SssdSssd1111111111d................................................................."
+    fn letters() -> [u8; RECORD] {
+        INDEX_C
     }
 }
 
@@ -39,8 +69,8 @@ impl Lettered for SheetB {
     ghost laid = { laid_sheet_b };
 
     #[tactic(auto, unfolding(crate::specs::LaidOut::letters_of, form_bytes::specs::Letters::letters_for, form_bytes::specs::Letters::ruled, form_bytes::specs::Letters::letters_in, form_bytes::specs::Letters::behind, format::specs::Layout::sheet_b))]
-    fn letters() -> &'static [u8; RECORD] {
-        b"MmmmmmdMmmmmmdMmmmmmdMmmmmmd...SssssdSsssssdSsdMmmmmmdMmmmmmdMmmmmmdMmmmmmd........."
+    fn letters() -> [u8; RECORD] {
+        SHEET_B
     }
 }
 
@@ -48,8 +78,8 @@ impl Lettered for SheetE {
     ghost laid = { laid_sheet_e };
 
     #[tactic(auto, unfolding(crate::specs::LaidOut::letters_of, form_bytes::specs::Letters::letters_for, form_bytes::specs::Letters::ruled, form_bytes::specs::Letters::letters_in, form_bytes::specs::Letters::behind, format::specs::Layout::sheet_e))]
-    fn letters() -> &'static [u8; RECORD] {
-        b"........................................MmmdMmmdMmmdMmmdMmmdMmmdMmmdMmmd............"
+    fn letters() -> [u8; RECORD] {
+        SHEET_E
     }
 }
 
@@ -57,8 +87,8 @@ impl Lettered for SheetF {
     ghost laid = { laid_sheet_f };
 
     #[tactic(auto, unfolding(crate::specs::LaidOut::letters_of, form_bytes::specs::Letters::letters_for, form_bytes::specs::Letters::ruled, form_bytes::specs::Letters::letters_in, form_bytes::specs::Letters::behind, format::specs::Layout::sheet_f))]
-    fn letters() -> &'static [u8; RECORD] {
-        b"........SsssddSssdSssd........SsssddSssdSssd........SsssddSssdSssd.................."
+    fn letters() -> [u8; RECORD] {
+        SHEET_F
     }
 }
 
@@ -66,8 +96,8 @@ impl Lettered for Header {
     ghost laid = { laid_header };
 
     #[tactic(auto, unfolding(crate::specs::LaidOut::letters_of, form_bytes::specs::Letters::letters_for, form_bytes::specs::Letters::ruled, form_bytes::specs::Letters::letters_in, form_bytes::specs::Letters::behind, format::specs::Layout::header))]
-    fn letters() -> &'static [u8; RECORD] {
-        b"..SssdSdSssdSssdSdSsssdSsssdSsssdSsssdSsssdSsssdSsssdSsssdSsssdSsssdd............Sd."
+    fn letters() -> [u8; RECORD] {
+        HEADER
     }
 }
 
@@ -75,8 +105,8 @@ impl Lettered for Element {
     ghost laid = { laid_element };
 
     #[tactic(auto, unfolding(crate::specs::LaidOut::letters_of, form_bytes::specs::Letters::letters_for, form_bytes::specs::Letters::ruled, form_bytes::specs::Letters::letters_in, form_bytes::specs::Letters::behind, format::specs::Layout::element))]
-    fn letters() -> &'static [u8; RECORD] {
-        b"..SssdSdSssdSssdSdSd6Sd2ZddSssdSssdMmmmmmdMmmmmmdMmmmmmsSd.........................r"
+    fn letters() -> [u8; RECORD] {
+        ELEMENT
     }
 }
 
@@ -84,8 +114,8 @@ impl Lettered for GridHeader {
     ghost laid = { laid_grid_header };
 
     #[tactic(auto, unfolding(crate::specs::LaidOut::letters_of, form_bytes::specs::Letters::letters_for, form_bytes::specs::Letters::ruled, form_bytes::specs::Letters::letters_in, form_bytes::specs::Letters::behind, format::specs::Layout::grid_header))]
-    fn letters() -> &'static [u8; RECORD] {
-        b"..SssdSdSssdSssdSdSssdSssdSssdSsssssdSsssssdMmmmmmdMmmmmmd............SdSd.........r"
+    fn letters() -> [u8; RECORD] {
+        GRID_HEADER
     }
 }
 
@@ -93,8 +123,8 @@ impl Lettered for NetHeader {
     ghost laid = { laid_net_header };
 
     #[tactic(auto, unfolding(crate::specs::LaidOut::letters_of, form_bytes::specs::Letters::letters_for, form_bytes::specs::Letters::ruled, form_bytes::specs::Letters::letters_in, form_bytes::specs::Letters::behind, format::specs::Layout::net_header))]
-    fn letters() -> &'static [u8; RECORD] {
-        b"..SssdSdSssdSssdSdSdSssssdSssssd............Sd......................................"
+    fn letters() -> [u8; RECORD] {
+        NET_HEADER
     }
 }
 
@@ -102,8 +132,8 @@ impl Lettered for DataNote {
     ghost laid = { laid_data_note };
 
     #[tactic(auto, unfolding(crate::specs::LaidOut::letters_of, form_bytes::specs::Letters::letters_for, form_bytes::specs::Letters::ruled, form_bytes::specs::Letters::letters_in, form_bytes::specs::Letters::behind, format::specs::Layout::data_note))]
-    fn letters() -> &'static [u8; RECORD] {
-        b"1MmmmmmdSsssdSsssdSd................................................................"
+    fn letters() -> [u8; RECORD] {
+        DATA_NOTE
     }
 }
 
@@ -132,5 +162,6 @@ pub fn is_sure<L: Lettered>(record: &[u8]) -> bool
     let Ok(record) = <&[u8; RECORD]>::try_from(record) else {
         return false;
     };
-    doubts(L::letters(), record) == 0
+    let letters = L::letters();
+    doubts(&letters, record) == 0
 }

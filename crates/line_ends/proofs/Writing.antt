@@ -1,11 +1,11 @@
 -- Records and lines put into a target one after the other. Assumes nothing.
 use mathlib.Core.Path.{◌≡◌, refl, ap, ap₂, sym, ◌∙◌}
 use mathlib.Core.List.{List, [], ◌∷◌, ◌++◌, append_assoc, append-nil, map, map-append}
-use Prim.Native.Nat.{ℕ, ◌+◌, ◌*◌, ◌≤◌, ◌<◌}
+use Prim.Native.Nat.{ℕ, suc, ◌+◌, ◌*◌, ◌≤◌, ◌<◌}
 use native.Mathlib.Numerals.{add-one}
 use native.Mathlib.Omega.{arith}
-use lib.ListN.{length, take, drop, get_or, length-append}
-use lib.Seq.{length-take-le, take_all, take-suc}
+use lib.ListN.{length, take, drop, get_or, set, length-set, length-append, length-drop}
+use lib.Seq.{length-take-le, take_all, take-suc, drop-cons, set_at}
 use Rattle.format.specs.Basics.{flat}
 use Rattle.format.proofs.Lists.{Wide, wide_take, wide_get, length-flat, flat_append}
 use Rattle.format_lines.specs.LineEnds.{line_end, with_end}
@@ -57,21 +57,51 @@ module _ (target r put : List ℕ) (start : ℕ) (wide : length r ≡ 84) (room 
   put_is : put ≡ front ++ drop (start + 84) target
   put_is = is ∙ put-there target start r (omega (arith, wide)) ∙ ap (λ (n : ℕ). take start target ++ (r ++ drop (start + n) target)) wide ∙ sym (append_assoc (take start target) r (drop (start + 84) target))
 
-  line-put : put_at put (start + 84) (13 ∷ 10 ∷ []) ≡ put_at target start (with_end r)
+  cons : drop (start + 84) target ≡ get_or target (start + 84) 0 ∷ get_or target (suc (start + 84)) 0 ∷ drop (suc (suc (start + 84))) target
+  cons = drop-cons target (start + 84) 0 (omega arith) ∙ ap (λ (x : List ℕ). get_or target (start + 84) 0 ∷ x) (drop-cons target (suc (start + 84)) 0 (omega arith))
+
+  pub put_long : length put ≡ length target
+  put_long = ap length put_is ∙ length-append front (drop (start + 84) target) ∙ rw (front_long, length-drop (start + 84) target) (omega arith)
+
+  -- whatever two bytes are stored
+  pub second_inside : (x : ℕ) → start + 84 + 1 < length (set put (start + 84) x)
+  second_inside x = rw (length-set put (start + 84) x) (omega (arith, put_long))
+
+  pub line_long : (x y : ℕ) → length (set (set put (start + 84) x) (start + 84 + 1) y) ≡ length target
+  line_long x y = length-set (set put (start + 84) x) (start + 84 + 1) y ∙ length-set put (start + 84) x ∙ put_long
+
+  pub line-put : set (set put (start + 84) 13) (start + 84 + 1) 10 ≡ put_at target start (with_end r)
   unfolding with_end
   line-put =
-      put-behind front (13 ∷ 10 ∷ []) put target (start + 84) put_is front_long (omega arith)
-      ∙ ap₂ (λ (x : List ℕ) (n : ℕ). x ++ drop n target) (append_assoc (take start target) r line_end) (let p : start + 84 + 2 ≡ start + length (r ++ line_end) = omega (arith, long) in p)
-      ∙ append_assoc (take start target) (r ++ line_end) (drop (start + length (r ++ line_end)) target)
+      ap (λ (x : List ℕ). set (set x (start + 84) 13) (start + 84 + 1) 10) (put_is ∙ ap (λ (x : List ℕ). front ++ x) cons)
+      ∙ ap (λ (x : List ℕ). set x (start + 84 + 1) 10) (set_at front (get_or target (start + 84) 0) (get_or target (suc (start + 84)) 0 ∷ drop (suc (suc (start + 84))) target) 13 (start + 84) front_long ∙ sym (append_assoc front (13 ∷ []) (get_or target (suc (start + 84)) 0 ∷ drop (suc (suc (start + 84))) target)))
+      ∙ set_at (front ++ (13 ∷ [])) (get_or target (suc (start + 84)) 0) (drop (suc (suc (start + 84))) target) 10 (start + 84 + 1) (length-append front (13 ∷ []) ∙ ap (λ (n : ℕ). n + 1) front_long)
+      ∙ append_assoc front (13 ∷ []) (10 ∷ drop (suc (suc (start + 84))) target)
+      ∙ append_assoc (take start target) r (13 ∷ 10 ∷ drop (suc (suc (start + 84))) target)
+      ∙ ap (λ (x : List ℕ). take start target ++ x) (sym (append_assoc r line_end (drop (suc (suc (start + 84))) target)))
+      ∙ ap (λ (n : ℕ). take start target ++ ((r ++ line_end) ++ drop n target)) end
       ∙ sym (put-there target start (r ++ line_end) (omega (arith, long)))
     where
       long : length (r ++ line_end) ≡ 86
       long = length-append r line_end ∙ ap (λ (n : ℕ). n + 2) wide
 
+      end : suc (suc (start + 84)) ≡ start + length (r ++ line_end)
+      end = omega (arith, long)
+
 module _ (stride : Stride) (k : ℕ) (target r put : List ℕ) (wide : length r ≡ 84) (room : stride_of stride * k + stride_of stride ≤ length target) (start : ℕ) (from : start ≡ stride_of stride * k) (is : put ≡ put_at target start r) where
-  pub lines_put : stride ≡ Lines → (after : List ℕ) → after ≡ put_at put (start + 84) (13 ∷ 10 ∷ []) → after ≡ put_at target (stride_of stride * k) (as_written stride r)
+  within : stride ≡ Lines → start + 86 ≤ length target
   unfolding stride_of
-  lines_put e after f = f ∙ line-put target r put start wide (rw (from, e) (rw e at room)) is ∙ rw (from, e)
+  within e = rw (from, e) (rw e at room)
+
+  pub end_inside : stride ≡ Lines → start + 84 < length put
+  end_inside e = omega (arith, put_long target r put start wide (within e) is, within e)
+
+  pub last_inside : stride ≡ Lines → (x : ℕ) → start + 84 + 1 < length (set put (start + 84) x)
+  last_inside e = second_inside target r put start wide (within e) is
+
+  pub lines_put : stride ≡ Lines → set (set put (start + 84) 13) (start + 84 + 1) 10 ≡ put_at target (stride_of stride * k) (as_written stride r)
+  unfolding stride_of
+  lines_put e = line-put target r put start wide (within e) is ∙ rw (from, e)
 
 -- ---- `write_records`: k records are written, and behind them the target is as it was
 abbrev pub WrittenSoFar : Stride → List (List ℕ) → (k : ℕ) → (first target : List ℕ) → Type 0

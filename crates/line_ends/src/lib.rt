@@ -12,8 +12,11 @@ ghost use Rattle.line_ends.specs.Steps.{end_fault_of, as_written, written_first}
 use files::Stride;
 use format::{Counts, Reason, Refusal};
 
-// Carriage return and line feed.
-const LINE_END: [u8; 2] = [13, 10];
+const CARRIAGE_RETURN: u8 = 13;
+
+const LINE_FEED: u8 = 10;
+
+const LINE_END: [u8; 2] = [CARRIAGE_RETURN, LINE_FEED];
 
 // Record k of a file with line ends, counted from 0, ends in carriage return and line feed.
 fn is_ended(file: &[u8], k: usize) -> bool
@@ -67,6 +70,8 @@ pub fn judge_index_lines(buffer: &[u8], used: usize) -> Result<Counts, Refusal>
 }
 
 // Puts a record where record k of a target stands, counted from 0, as the target's stride asks: with its line end or without.
+// Inlined, so that the compiler knows the strides of each writer.
+#[inline(always)]
 fn put_record(target: &mut [u8], stride: Stride, k: usize, record: &[u8])
     requires { (length «record».now ≡ 84) × (stride_of stride * k + stride_of stride ≤ length target.old) }
     ensures { target.new ≡ put_at target.old (stride_of stride * k) (as_written stride «record».now) }
@@ -74,11 +79,14 @@ fn put_record(target: &mut [u8], stride: Stride, k: usize, record: &[u8])
     let start = files::bytes(stride) * k;
     files::put_at(target, start, record);
     if stride == Stride::Lines {
-        files::put_at(target, start + files::RECORD, &LINE_END);
+        let end = start + files::RECORD;
+        target[end] = CARRIAGE_RETURN;
+        target[end + 1] = LINE_FEED;
     }
 }
 
 // Every record of a file at one stride, to the front of a target at another.
+#[inline(always)]
 fn write_records(file: &[u8], from: Stride, target: &mut [u8], to: Stride)
     requires { stride_of to * length (records_of from file.now) ≤ length target.old }
     ensures { target.new ≡ written_first to (records_of from file.now) target.old }
