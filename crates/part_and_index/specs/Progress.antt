@@ -9,6 +9,7 @@ use Rattle.part_and_index.specs.declared.due.Due.{Due}
 use Rattle.part_and_index.specs.declared.due.Due.TheVariants.{SheetA, SheetB, SheetC, SheetD, SheetE, SheetF, IndexA, IndexB, IndexC, Over}
 use Rattle.format.specs.Reasons.{fault_number}
 use Rattle.part_and_index.specs.declared.progress.Progress as Declared
+use Rattle.part_and_index.specs.declared.progress.Stepped.{Stepped}
 use Rattle.part_and_index.specs.Due.{next_of_whole}
 
 -- how far judging has come: the fault of the record that was judged last, 0 for none; the record that is due; and what the records before it said
@@ -22,9 +23,13 @@ pub record Progress : Type 0 where
   pub stated_records : ℕ
   pub corners : List ℤ
 
--- a progress of the code
+-- what the code keeps between two records, where the last had no fault
 abbrev pub progress_said : Declared.Progress → Progress
-progress_said p = record { fault = fault_number p.verdict; due = p.due; level = p.level; unit = p.unit; wholes = p.wholes; stated_elements = p.stated_elements; stated_records = p.stated_records; corners = p.corners }
+progress_said p = record { fault = 0; due = p.due; level = p.level; unit = p.unit; wholes = p.wholes; stated_elements = p.stated_elements; stated_records = p.stated_records; corners = p.corners }
+
+-- what the code answers of one record more
+abbrev pub stepped_said : Stepped → Progress
+stepped_said s = record { fault = fault_number s.verdict; due = s.progress.due; level = s.progress.level; unit = s.progress.unit; wholes = s.progress.wholes; stated_elements = s.progress.stated_elements; stated_records = s.progress.stated_records; corners = s.progress.corners }
 
 -- ---- where a progress stands
 -- the phase of a sheet part, which is over where no record of one is due

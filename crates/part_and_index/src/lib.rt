@@ -10,7 +10,7 @@ ghost use Rattle.part_and_index.specs.Steps.{passed_part, walked_from};
 pub use due::{Due, next_due};
 use files::Stride;
 use format::{Reason, Refusal};
-pub use progress::{Progress, step};
+pub use progress::{Progress, Stepped, step};
 
 mod due;
 mod faults;
@@ -61,8 +61,9 @@ fn walk(file: &[u8], stride: Stride, first: Due) -> Result<SheetPart, Refusal>
         if progress.due == Due::Over {
             return Ok(passed(progress, k));
         }
-        progress = progress::step(progress, files::record_at(file, stride, k));
-        progress.verdict.map_err(|reason| reason.at(k + 1))?;
+        let stepped = progress::step(progress, files::record_at(file, stride, k));
+        stepped.verdict.map_err(|reason| reason.at(k + 1))?;
+        progress = stepped.progress;
     }
     if progress.due != Due::Over {
         return Err(Reason::MissingRecord.at(1));

@@ -1,6 +1,6 @@
 // Judging the records of a sheet part, or of an index, one after the other: what is due and what the records said so far, kept by value, and one record more.
 ghost use Rattle.std.specs.Prelude.{◌≡◌};
-ghost use Rattle.part_and_index.specs.Progress.{started, put, said_a, said_b, stepped, progress_said};
+ghost use Rattle.part_and_index.specs.Progress.{started, put, said_a, said_b, stepped, progress_said, stepped_said};
 ghost use Rattle.part_and_index.specs.Steps.{fault_of_sheet_a, fault_of_sheet_b, over_e};
 
 use super::due::Due;
@@ -9,11 +9,10 @@ use files::RECORD;
 use format::Reason;
 use layouts::{IndexC, SheetA, SheetB, SheetF};
 
-// How far the judging of a sheet part or of an index has come: what the record that was judged last came to, and the record that is due. What the records
-// before it said: record a's level; record b's unit, wholes and two counts; the corners in millimetres that the last e record gives.
+// How far the judging of a sheet part or of an index has come: the record that is due, and what the records before it said: record a's level; record b's
+// unit, wholes and two counts; the corners in millimetres that the last e record gives.
 #[derive(Clone, Copy, PartialEq, Eq, Debug)]
 pub struct Progress {
-    pub verdict: Result<(), Reason>,
     pub due: Due,
     pub level: usize,
     pub unit: u64,
@@ -23,12 +22,18 @@ pub struct Progress {
     pub corners: FourCorners,
 }
 
+// What one record more came to, and how far judging has come with it.
+#[derive(Clone, Copy, PartialEq, Eq, Debug)]
+pub struct Stepped {
+    pub verdict: Result<(), Reason>,
+    pub progress: Progress,
+}
+
 // Before the first record.
 pub(crate) fn start(first: Due) -> Progress
     ensures { progress_said result ≡ started first }
 {
     Progress {
-        verdict: Ok(()),
         due: first,
         level: 0,
         unit: 0,
@@ -40,56 +45,62 @@ pub(crate) fn start(first: Due) -> Progress
 }
 
 // Record a of a sheet, with what is due next.
-fn step_a(progress: Progress, record: &[u8; RECORD], next: Due) -> Progress
-    ensures { progress_said result ≡ said_a «record».now (put (progress_said progress) (fault_of_sheet_a «record».now) next) }
+fn step_a(progress: Progress, record: &[u8; RECORD], next: Due) -> Stepped
+    ensures { stepped_said result ≡ said_a «record».now (put (progress_said progress) (fault_of_sheet_a «record».now) next) }
 {
-    Progress {
+    Stepped {
         verdict: faults::check_sheet_a(record),
-        due: next,
-        level: columns::number_at(record, SheetA::LEVEL_START, SheetA::LEVEL_WIDTH),
-        ..progress
+        progress: Progress {
+            due: next,
+            level: columns::number_at(record, SheetA::LEVEL_START, SheetA::LEVEL_WIDTH),
+            ..progress
+        },
     }
 }
 
 // Record b of a sheet, with what is due next.
-fn step_b(progress: Progress, record: &[u8; RECORD], next: Due) -> Progress
-    ensures { progress_said result ≡ said_b «record».now (put (progress_said progress) (fault_of_sheet_b progress.level «record».now) next) }
+fn step_b(progress: Progress, record: &[u8; RECORD], next: Due) -> Stepped
+    ensures { stepped_said result ≡ said_b «record».now (put (progress_said progress) (fault_of_sheet_b progress.level «record».now) next) }
 {
-    Progress {
+    Stepped {
         verdict: faults::check_sheet_b(record, progress.level),
-        due: next,
-        unit: columns::number_at(record, SheetB::UNIT_START, SheetB::UNIT_WIDTH) as u64,
-        wholes: faults::wholes_of(record),
-        stated_elements: columns::number_at(
-            record,
-            SheetB::ELEMENT_COUNT_START,
-            SheetB::ELEMENT_COUNT_WIDTH,
-        ),
-        stated_records: columns::number_at(
-            record,
-            SheetB::RECORD_COUNT_START,
-            SheetB::RECORD_COUNT_WIDTH,
-        ),
-        ..progress
+        progress: Progress {
+            due: next,
+            unit: columns::number_at(record, SheetB::UNIT_START, SheetB::UNIT_WIDTH) as u64,
+            wholes: faults::wholes_of(record),
+            stated_elements: columns::number_at(
+                record,
+                SheetB::ELEMENT_COUNT_START,
+                SheetB::ELEMENT_COUNT_WIDTH,
+            ),
+            stated_records: columns::number_at(
+                record,
+                SheetB::RECORD_COUNT_START,
+                SheetB::RECORD_COUNT_WIDTH,
+            ),
+            ..progress
+        },
     }
 }
 
 // Record e of a sheet, with what is due next.
-fn step_e(progress: Progress, record: &[u8; RECORD], next: Due) -> Progress
-    ensures { progress_said result ≡ over_e «record».now (progress_said progress) next }
+fn step_e(progress: Progress, record: &[u8; RECORD], next: Due) -> Stepped
+    ensures { stepped_said result ≡ over_e «record».now (progress_said progress) next }
 {
     let fractions = faults::fractions_of(record);
-    Progress {
+    Stepped {
         verdict: faults::check_sheet_e(record, progress.unit, progress.wholes, fractions),
-        due: next,
-        corners: faults::corners_of(progress.unit, progress.wholes, fractions),
-        ..progress
+        progress: Progress {
+            due: next,
+            corners: faults::corners_of(progress.unit, progress.wholes, fractions),
+            ..progress
+        },
     }
 }
 
 // A whole record more.
-fn step_of_whole(progress: Progress, record: &[u8; RECORD]) -> Progress
-    ensures { progress_said result ≡ stepped (progress_said progress) «record».now }
+fn step_of_whole(progress: Progress, record: &[u8; RECORD]) -> Stepped
+    ensures { stepped_said result ≡ stepped (progress_said progress) «record».now }
 {
     let due = due::next_of_whole(progress.due, record);
     let verdict = match progress.due {
@@ -102,21 +113,20 @@ fn step_of_whole(progress: Progress, record: &[u8; RECORD]) -> Progress
         Due::IndexC(_) => layout_faults::check::<IndexC>(record),
         Due::SheetC(_) | Due::IndexB(_, _) | Due::Over => Ok(()),
     };
-    Progress {
+    Stepped {
         verdict,
-        due,
-        ..progress
+        progress: Progress { due, ..progress },
     }
 }
 
 // One record more, which is judged as the one that is due. Bytes that are no whole record are 1, and all else stays.
-pub fn step(progress: Progress, record: &[u8]) -> Progress
-    ensures { progress_said result ≡ stepped (progress_said progress) «record».now }
+pub fn step(progress: Progress, record: &[u8]) -> Stepped
+    ensures { stepped_said result ≡ stepped (progress_said progress) «record».now }
 {
     let Ok(record) = <&[u8; RECORD]>::try_from(record) else {
-        return Progress {
+        return Stepped {
             verdict: Err(Reason::Length),
-            ..progress
+            progress,
         };
     };
     step_of_whole(progress, record)
