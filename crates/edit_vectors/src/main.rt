@@ -6,9 +6,12 @@
 // number; `end` ends the list.
 #![tactic(auto)]
 
+ghost use Rattle.std.specs.Prelude.{◌≡◌, ◌≤◌, length, IfOk};
+
 use format::{HeaderAbove, Refusal};
 use std::io;
 use std::io::Read;
+use vectors::Told;
 
 // The head of a call.
 type Head = [u8; 24];
@@ -25,8 +28,7 @@ fn print_way_up(rt: &impl Print, way: Result<Option<HeaderAbove>, Refusal>) -> i
         Ok(None) => Ok([0, 0]),
         Err(refusal) => Err(refusal),
     };
-    vectors::print_answer(rt, numbers)?;
-    print!(rt; "\n")
+    print!(rt; "{}\n", Told(numbers))
 }
 
 // An edit, and the digest that it leaves; answers the used length for the next call, which a refusal leaves.
@@ -36,7 +38,7 @@ fn print_edited(
     used: usize,
     buffer: &[u8],
 ) -> io::Result<usize> {
-    vectors::print_answer(rt, edited.map(|after| [after]))?;
+    print!(rt; "{}", Told(edited.map(|after| [after])))?;
     print_digest(rt, buffer)?;
     Ok(edited.unwrap_or(used))
 }
@@ -67,6 +69,23 @@ fn answer(
     }
 }
 
+// Reads until the buffer is full or the input ends, and answers how many bytes were read. An error leaves a part of them at its start.
+fn read_full(from: &mut impl Read, buffer: &mut [u8]) -> io::Result<usize>
+    ensures ok { IfOk result (λ n. n ≤ length buffer.new) }
+    ensures kept { length buffer.new ≡ length buffer.old }
+{
+    let mut done = 0;
+    // Kept: a read says how far it came, which no range counts.
+    while done < buffer.len() {
+        let n = from.read(&mut buffer[done..])?;
+        if n == 0 {
+            break;
+        }
+        done += n;
+    }
+    Ok(done)
+}
+
 // The call that a line heads: reads its block, and answers it.
 fn answer_call(
     rt: &impl Print,
@@ -79,7 +98,7 @@ fn answer_call(
     let place = vectors::number(&head[7..17]);
     let length = vectors::number(&head[18..23]).min(block.len());
     let block = &mut block[..length];
-    vectors::read_full(from, block)?;
+    read_full(from, block)?;
     answer(rt, head[0], place, buffer, used, block)
 }
 
@@ -94,7 +113,7 @@ fn answer_calls(
     let mut head = [0u8; 24];
     let mut used = start;
     for _ in 0..vectors::MOST {
-        if !vectors::read_head(from, &mut head)? || head[0] == b'e' {
+        if read_full(from, &mut head)? < head.len() || head[0] == b'e' {
             return Ok(());
         }
         used = answer_call(rt, from, &head, buffer, used, block)?;
@@ -113,7 +132,7 @@ fn answer_list(
     let used = vectors::number(&head[7..17]);
     let size = vectors::number(&head[18..23]).min(buffer.len());
     let buffer = &mut buffer[..size];
-    vectors::read_full(from, buffer)?;
+    read_full(from, buffer)?;
     answer_calls(rt, from, buffer, used, block)?;
     print!(rt; "end")?;
     print_digest(rt, buffer)
@@ -129,7 +148,7 @@ fn answer_lists(
 ) -> io::Result<()> {
     let mut head = [0u8; 24];
     for _ in 0..vectors::MOST {
-        if !vectors::read_head(from, &mut head)? {
+        if read_full(from, &mut head)? < head.len() {
             return Ok(());
         }
         answer_list(rt, from, &head, buffer, block)?;

@@ -5,9 +5,12 @@
 // end; then the buffer's bytes.
 #![tactic(auto)]
 
+ghost use Rattle.std.specs.Prelude.{◌≡◌, ◌≤◌, length, IfOk};
+
 use format::{Counts, Refusal};
 use std::io;
 use std::io::Read;
+use vectors::Told;
 
 // What a case holds.
 #[derive(Clone, Copy, PartialEq, Eq, Debug)]
@@ -44,7 +47,7 @@ fn normal_file(
     }
 }
 
-// The digest of the normal form, in a second buffer as long as the first.
+// The digest of the normal form, in a second buffer as long as the first, and the line's end.
 fn print_normal(
     rt: &impl Print,
     kind: FileType,
@@ -54,7 +57,7 @@ fn print_normal(
 ) -> io::Result<()> {
     second.fill(b'.');
     let _ = normal_file(kind, buffer, used, second);
-    print!(rt; " {}", vectors::digest(second))
+    print!(rt; " {}\n", vectors::digest(second))
 }
 
 // One case: the judgement, and behind it the digest of an accepted file's normal form.
@@ -66,11 +69,30 @@ fn answer(
     second: &mut [u8],
 ) -> io::Result<()> {
     let judged = judge_file(kind, buffer, used);
-    vectors::print_answer(rt, judged.map(|counts| [counts.records, counts.items]))?;
+    let numbers = judged.map(|counts| [counts.records, counts.items]);
+    print!(rt; "{}", Told(numbers))?;
     if judged.is_ok() {
-        print_normal(rt, kind, buffer, used, second)?;
+        print_normal(rt, kind, buffer, used, second)
+    } else {
+        print!(rt; "\n")
     }
-    print!(rt; "\n")
+}
+
+// Reads until the buffer is full or the input ends, and answers how many bytes were read. An error leaves a part of them at its start.
+fn read_full(from: &mut impl Read, buffer: &mut [u8]) -> io::Result<usize>
+    ensures ok { IfOk result (λ n. n ≤ length buffer.new) }
+    ensures kept { length buffer.new ≡ length buffer.old }
+{
+    let mut done = 0;
+    // Kept: a read says how far it came, which no range counts.
+    while done < buffer.len() {
+        let n = from.read(&mut buffer[done..])?;
+        if n == 0 {
+            break;
+        }
+        done += n;
+    }
+    Ok(done)
 }
 
 // The case that a line heads: its bytes are read into a buffer of their length.
@@ -86,7 +108,7 @@ fn answer_case(
         .min(buffer.len())
         .min(second.len());
     let buffer = &mut buffer[..size];
-    vectors::read_full(from, buffer)?;
+    read_full(from, buffer)?;
     answer(rt, file_type(head[0]), buffer, used, &mut second[..size])
 }
 
@@ -100,7 +122,7 @@ fn answer_cases(
 ) -> io::Result<()> {
     let mut head = [0u8; 24];
     for _ in 0..vectors::MOST {
-        if !vectors::read_head(from, &mut head)? {
+        if read_full(from, &mut head)? < head.len() {
             return Ok(());
         }
         answer_case(rt, from, &head, buffer, second)?;

@@ -3,9 +3,11 @@
 // What it writes is held to the answers of an implementation that shares nothing with the library.
 #![tactic(auto)]
 
-ghost use Rattle.std.specs.Prelude.{◌≤◌, length};
+ghost use Rattle.std.specs.Prelude.{◌≡◌, ◌≤◌, length, IfOk};
 
 use std::io;
+use std::io::Read;
+use vectors::Told;
 
 // The three words behind a line's command, each behind one space: a word that is missing is empty, and a control byte ends the last.
 #[derive(Clone, Copy, Debug)]
@@ -69,7 +71,7 @@ fn unhex(word: &[u8], out: &mut [u8]) -> usize
 // read BYTES: the bytes are spelled out in `space` first.
 fn answer_read(rt: &impl Print, word: &[u8], space: &mut [u8]) -> io::Result<()> {
     let width = unhex(word, space);
-    vectors::print_answer(rt, columns::read(&space[..width]).map(|n| [n]))
+    print!(rt; "{}", Told(columns::read(&space[..width]).map(|n| [n])))
 }
 
 // write WIDTH VALUE: the column is lent by the caller, and has the width.
@@ -82,7 +84,7 @@ fn answer_write(rt: &impl Print, column: &mut [u8], value: i64) -> io::Result<()
             }
             Ok(())
         }
-        Err(refusal) => vectors::print_refusal(rt, refusal),
+        Err(refusal) => print!(rt; "{}", Told::<usize, 0>(Err(refusal))),
     }
 }
 
@@ -105,26 +107,30 @@ fn answer_formed(
 // One command, told apart by its first letter.
 // Kept: the letter as it stands in the line; an enum would be matched once, where it is made.
 fn answer(rt: &impl Print, command: u8, words: Words<'_>, space: &mut [u8]) -> io::Result<()> {
-    let number = size_of(words.first);
     match command {
         b'r' => answer_read(rt, words.first, space),
         b'w' => {
-            let width = usize::try_from(number)
+            let width = usize::try_from(size_of(words.first))
                 .unwrap_or(space.len())
                 .min(space.len());
             answer_write(rt, &mut space[..width], signed(words.second))
         }
         b'f' => {
+            let start = size_of(words.first) as usize;
             let count = size_of(words.second) as usize;
-            answer_formed(rt, number as usize, count, words.third, space)
+            answer_formed(rt, start, count, words.third, space)
         }
         b'j' => {
-            let joined = corners::join(number, signed(words.second), signed(words.third));
-            vectors::print_answer(rt, joined.map(|millimetres| [millimetres]))
+            let unit = size_of(words.first);
+            let joined = corners::join(unit, signed(words.second), signed(words.third));
+            print!(rt; "{}", Told(joined.map(|millimetres| [millimetres])))
         }
         _ => {
-            let split = corners::split(number, signed(words.second));
-            vectors::print_answer(rt, split.map(|corner| [corner.whole, corner.fraction]))
+            let split = corners::split(size_of(words.first), signed(words.second));
+            print!(rt;
+                "{}",
+                Told(split.map(|corner| [corner.whole, corner.fraction]))
+            )
         }
     }
 }
@@ -140,9 +146,26 @@ fn answer_lines(rt: &impl Print, input: &[u8], space: &mut [u8]) -> io::Result<(
     Ok(())
 }
 
+// Reads until the buffer is full or the input ends, and answers how many bytes were read. An error leaves a part of them at its start.
+fn read_full(from: &mut impl Read, buffer: &mut [u8]) -> io::Result<usize>
+    ensures ok { IfOk result (λ n. n ≤ length buffer.new) }
+    ensures kept { length buffer.new ≡ length buffer.old }
+{
+    let mut done = 0;
+    // Kept: a read says how far it came, which no range counts.
+    while done < buffer.len() {
+        let n = from.read(&mut buffer[done..])?;
+        if n == 0 {
+            break;
+        }
+        done += n;
+    }
+    Ok(done)
+}
+
 fn main(rt: HostRuntime) -> io::Result<()> {
     let mut buffer = [0u8; 65536];
-    let n = vectors::read_full(&mut rt.stdin(), &mut buffer)?;
+    let n = read_full(&mut rt.stdin(), &mut buffer)?;
     let mut space = [0u8; 4096];
     answer_lines(&rt, &buffer[..n], &mut space)
 }

@@ -1,6 +1,6 @@
--- `vectors::read_full` ends: each turn leaves less to fill.
+-- `read_full` ends: each turn leaves less to fill.
 use Rattle.std.proofs.Common.{length, ◌-◌, ◌≡◌, ◌≤◌}
-use Rattle.vectors.proofs.read_full.Given as goal
+use Rattle.directory_vectors.proofs.read_full.Given as goal
 
 abbrev pub invariant-loop-done : goal.invariant-loop-done
 invariant-loop-done g l = (length l.buffer ≡ length l.initial.buffer) × (l.done ≤ length l.buffer)
