@@ -13,3 +13,4 @@ mod AnswerLaws
 mod FileLaws
 pub mod Opened
 pub mod ListedLaws
+pub mod Claims

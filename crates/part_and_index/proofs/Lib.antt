@@ -6,3 +6,4 @@ pub mod WalkLaws
 pub mod Meaning
 pub mod Parts
 pub mod Laws
+pub mod Claims

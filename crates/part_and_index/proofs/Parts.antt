@@ -322,7 +322,7 @@ module _ (rs : List (List ℕ)) (wide : Wide rs) (w : SheetPart) (walked : w ≡
   unfolding index_fault_of Index.index_fault
   answer_by f e = ap (λ (f : Fault). fault_answer (or_else f (to_fault (unless (eqb (length rs) (part_from Index.index_machine Index.due_a rs)) 10) 1))) (sym e)
 
-  index-fails : (w.fault ≡ 0 → ⊥) → record { number = w.fault; at = w.at } ≡ index_fault_of rs
+  pub index-fails : (w.fault ≡ 0 → ⊥) → record { number = w.fault; at = w.at } ≡ index_fault_of rs
   index-fails z = go found refl
     where
       go : (f : Fault) → found ≡ f → record { number = w.fault; at = w.at } ≡ index_fault_of rs

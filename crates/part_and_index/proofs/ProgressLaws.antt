@@ -44,7 +44,7 @@ module _ (p : Progress) (r : List ℕ) (q : Progress) where
     unfolding fault_of_sheet_b
     step-sheet-b sets e h = sheet_is (SheetB sets) e refl (fault_of_sheet_b p.level r) refl h
 
-    step-sheet-c : (sets : ℕ) → p.due ≡ SheetC sets → q ≡ put p 0 next → q ≡ stepped p r
+    pub step-sheet-c : (sets : ℕ) → p.due ≡ SheetC sets → q ≡ put p 0 next → q ≡ stepped p r
     step-sheet-c sets e h = sheet_is (SheetC sets) e refl 0 (sym (c_unjudged r)) h
 
     pub step-sheet-d : (sets : ℕ) → p.due ≡ SheetD sets → (f : ℕ) → q ≡ put p f next → f ≡ fault_of_sheet_d r → q ≡ stepped p r
@@ -63,13 +63,13 @@ module _ (p : Progress) (r : List ℕ) (q : Progress) where
     unfolding fault_of_index_a
     step-index-a e f h ef = step_is IndexA e f ef h
 
-    step-index-b : (bs cs : ℕ) → p.due ≡ IndexB bs cs → q ≡ put p 0 next → q ≡ stepped p r
+    pub step-index-b : (bs cs : ℕ) → p.due ≡ IndexB bs cs → q ≡ put p 0 next → q ≡ stepped p r
     step-index-b bs cs e h = step_is (IndexB bs cs) e 0 (sym (index_b_unjudged r)) h
 
     pub step-index-c : (cs : ℕ) → p.due ≡ IndexC cs → (f : ℕ) → q ≡ put p f next → f ≡ fault_in index_c r → q ≡ stepped p r
     step-index-c cs e f h ef = step_is (IndexC cs) e f (columns_first index_c r wide f ef) h
 
-    step-over : p.due ≡ Over → q ≡ put p 0 next → q ≡ stepped p r
+    pub step-over : p.due ≡ Over → q ≡ put p 0 next → q ≡ stepped p r
     step-over e h = step_is Over e 0 refl h
 
     -- nothing is judged

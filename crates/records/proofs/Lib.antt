@@ -7,3 +7,4 @@ pub mod Entries
 pub mod DataFaults
 pub mod Laws
 pub mod Outlined
+pub mod Claims

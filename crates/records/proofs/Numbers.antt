@@ -1,5 +1,4 @@
 -- What a number that the code reads is, and its bound by its column's width. Assumes nothing.
-use Rattle.format.proofs.Reasons.{not_zero}
 use mathlib.Core.Path.{◌≡◌, sym}
 use mathlib.Core.Bool.{true, ◌&&◌}
 use mathlib.Core.List.{List}
@@ -7,9 +6,6 @@ use Prim.Native.String.{String}
 use Prim.Native.Nat.{ℕ, ◌+◌, ◌<◌}
 use lib.Dec.{leb}
 use lib.ListN.{length}
-use native.Mathlib.Omega.{arith}
-use Rattle.format.specs.Reasons.{refusal_number}
-use Rattle.format.specs.declared.Reason.{Reason}
 use Rattle.format.specs.Layout.{Rule, Col, I, find, number_at}
 use Rattle.columns.specs.InRecord.{number_in}
 use Rattle.columns.proofs.NumberIn.{number_in_below}
