@@ -9,3 +9,4 @@ pub mod NumberAlone
 pub mod Spaces
 pub mod Compared
 pub mod Claims
+pub mod Marks

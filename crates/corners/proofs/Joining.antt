@@ -31,6 +31,9 @@ either P false p q = q
 each_small : (unit n : ℕ) → n * millimetres_each unit ≤ n * 10
 each_small unit n = either (λ k. n * k ≤ n * 10) (eqb unit 1) (omega arith) (omega arith)
 
+pub each_some : (unit : ℕ) → 0 < millimetres_each unit
+each_some unit = either (λ n. 0 < n) (eqb unit 1) (omega arith) (omega arith)
+
 each_fits : (unit : ℕ) → SFits w64 (pos (millimetres_each unit))
 each_fits unit = fits_abs (pos (millimetres_each unit)) (omega (arith, each_small unit 1))
 

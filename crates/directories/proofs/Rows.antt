@@ -53,6 +53,16 @@ pub numbers_each : (r : List ℕ) (k : ℕ) (ns : List ℕ) → ((j : ℕ) → j
 numbers_each r k [] h = refl
 numbers_each r k (n ∷ ns) h = true_and _ _ (ap (λ (m : ℕ). number_is r m n) (let q : k ≡ k + 0 = omega arith in q) ∙ h 0 (omega arith)) (numbers_each r (suc k) ns (λ j l. ap (λ (m : ℕ). number_is r m (get_or ns j 0)) (let q : suc k + j ≡ k + suc j = omega arith in q) ∙ h (suc j) (omega arith)))
 
+-- one that does not stand there is enough
+pub numbers-other : (r : List ℕ) (k : ℕ) (ns : List ℕ) (j : ℕ) → j < length ns → number_is r (k + j) (get_or ns j 0) ≡ false → numbers_are r k ns ≡ false
+numbers-other r k [] j l e = absurd (omega arith)
+numbers-other r k (n ∷ ns) zero l e = ap (λ (t : Bool). t && numbers_are r (suc k) ns) (ap (λ (m : ℕ). number_is r m n) (let q : k ≡ k + 0 = omega arith in q) ∙ e)
+numbers-other r k (n ∷ ns) (suc j) l e = ap (λ (t : Bool). number_is r k n && t) (numbers-other r (suc k) ns j (omega arith) (ap (λ (m : ℕ). number_is r m (get_or ns j 0)) (let q : suc k + j ≡ k + suc j = omega arith in q) ∙ e)) ∙ never (number_is r k n)
+  where
+    never : (t : Bool) → t && false ≡ false
+    never true = refl
+    never false = refl
+
 -- ---- the right record
 module _ (letters ns : List ℕ) (two : TwoLetters letters) (short : Short ns) (room : length ns ≤ 11) where
   rest_is : (l : List ℕ) → length l ≡ 2 → drop (2 + 7 * length ns) (l ++ (columns_of ns ++ replicate (82 - 7 * length ns) 32)) ≡ replicate (82 - 7 * length ns) 32

@@ -559,6 +559,9 @@ pub filling : (file : List ℕ) (e : Edition) (k each : ℕ) (l bytes : List ℕ
 unfolding row
 filling file e k each l bytes q h = record { below = omega arith; taken = omega arith; left = refl; bytes_are = h ∙ ap (λ (x : List ℕ). record_of x []) q }
 
+pub row_long : (file : List ℕ) (e : Edition) (k each : ℕ) (bytes : List ℕ) (at i : ℕ) → Filling file e k each bytes at i → each ≡ per_record e → length bytes ≡ 84
+row_long file e k each bytes at i f q = ap length f.bytes_are ∙ length-row e (take i (layers_in file k)) (omega (arith, most i (layers_in file k), f.below))
+
 module _ (file : List ℕ) (e : Edition) (k each : ℕ) (bytes : List ℕ) (at i : ℕ) (g : Filling file e k each bytes at i) (each-is : each ≡ per_record e) where
   abbrev ls : List Layer
   ls = layers_in file k

@@ -13,7 +13,7 @@ use Rattle.edit.specs.Plans.{nests_in, room_fault}
 
 -- `check_level`
 module _ (opened level next : ℕ) (low : 1 ≤ level) where
-  nests_is : leb (level - 1) opened && leb next level ≡ nests_in opened level next
+  pub nests_is : leb (level - 1) opened && leb next level ≡ nests_in opened level next
   unfolding nests_in
   nests_is = ap (λ (t : Bool). t && leb next level) (leb_same (level - 1) opened level (suc opened) (λ h. omega (arith, h)) (λ h. omega (arith, h)))
 

@@ -22,7 +22,7 @@ use Rattle.form_records.specs.Sure.{all_told, sure}
 -- ---- exactly, by the letters
 
 -- a sum is 0 where both are
-zero_sum : (x y : ℕ) → eqb (x + y) 0 ≡ eqb x 0 && eqb y 0
+pub zero_sum : (x y : ℕ) → eqb (x + y) 0 ≡ eqb x 0 && eqb y 0
 zero_sum x y = go (eqb x 0) refl
   where
     go : (t : Bool) → eqb x 0 ≡ t → eqb (x + y) 0 ≡ t && eqb y 0

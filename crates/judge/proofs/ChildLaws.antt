@@ -121,10 +121,10 @@ module _ (file : List ℕ) (x : Extent) (extent_of : ExtentOf file x) (k : ℕ) 
         by_header : fault_from opened (suc w.next) (views_from file x w.next) ≡ none → counts_agree one (entries rest) ≡ agreed
         by_header q = sym (of ∙ counts_agree_at (record_at file x k) s.header w.tally (entries rest) (wide_at file x extent_of k here) (λ kind h. sym (counted q kind)))
 
-        group_agrees : agreed ≡ true → Child file x k opened seen (passed_group_of w.next w.low w.seen)
+        pub group_agrees : agreed ≡ true → Child file x k opened seen (passed_group_of w.next w.low w.seen)
         group_agrees t = passes_on w.low (joins_agreed opened (suc k) one rest s.well s.deep header_is _ _ _ inner (λ q. by_header q ∙ t))
 
-        group_differs : agreed ≡ false → Child file x k opened seen (passed_group_of w.next (Some (k + 1)) w.seen)
+        pub group_differs : agreed ≡ false → Child file x k opened seen (passed_group_of w.next (Some (k + 1)) w.seen)
         group_differs t = rw (add-one k) (passes_on (Some (suc k)) (joins_differing opened (suc k) one rest s.well s.deep header_is _ _ _ inner (λ q. by_header q ∙ t)))
 
   -- as the code has it

@@ -1,4 +1,4 @@
--- The loop of `all_inside`, and `is_listed`, in the code's own words. Assumes nothing.
+-- A malformed integer, the loop of `all_inside`, and `is_listed`, in the code's own words. Assumes nothing.
 use mathlib.Core.Path.{◌≡◌, refl, sym, ap₂, ◌∙◌}
 use mathlib.Core.Bool.{Bool, true, false, ◌&&◌, ◌||◌, and_assoc, and-true, false≢true, true≢false}
 use mathlib.Core.List.{List, [], ◌∷◌}
@@ -15,12 +15,22 @@ use mir.Val.{SFits, to_z, of_z}
 use mir.ValLaws.{to_z-of_z}
 use Rattle.std.specs.Prelude.{Some, None}
 use Rattle.std.specs.List.{list_any}
+use Rattle.format.specs.declared.Column.{Column}
+use Rattle.format.specs.declared.Column.TheVariants.{Value}
 use Rattle.format.specs.Basics.{member}
 use Rattle.format.specs.Column.{integer}
 use Rattle.format.specs.Layout.{is_one}
+use Rattle.format.proofs.Columns.{other_tag}
 use Rattle.columns.specs.InRecord.{column_at}
 use Rattle.layouts.specs.declared.TableColumn.{TableColumn}
-use Rattle.layout_faults.specs.Tables.{formed_by, between_by, inside_if, told, formed_at, between_at, table_told, listed_at}
+use Rattle.layout_faults.specs.Tables.{formed_by, between_by, inside_if, integer_told, told, formed_at, between_at, table_told, listed_at}
+
+-- ---- `integer_inside`
+
+module _ (l : List ℕ) (column : TableColumn) (c : Column) (e : c ≡ column_at l column.start column.width) where
+  pub integer-malformed : ((z : ℤ) → c ≡ Value z → ⊥) → None ≡ integer_told l column
+  unfolding integer_told
+  integer-malformed n = rw (← e, other_tag c n)
 
 -- ---- `all_inside`
 

@@ -68,14 +68,14 @@ module _ (l : List ℕ) (whole : length l ≡ 84) where
   swap true false false d = refl
   swap false b c d = refl
 
-  formed-table : (t : List Col) → all_lie t ≡ true → formed_at l (table_of t) ≡ all_formed t l
+  pub formed-table : (t : List Col) → all_lie t ≡ true → formed_at l (table_of t) ≡ all_formed t l
   unfolding formed_at all_formed table_of
   formed-table [] h = refl
   formed-table (c ∷ cs) h =
       let p = and-true (lies c) (all_lie cs) h in
       ap₂ ◌&&◌ (formed_one c.start c.width c.what (table_column c) refl refl p.0) (formed-table cs p.1)
 
-  inside-table : (t : List Col) → all_lie t ≡ true → between_at l (table_of t) && all_listed t l ≡ all_inside t l
+  pub inside-table : (t : List Col) → all_lie t ≡ true → between_at l (table_of t) && all_listed t l ≡ all_inside t l
   unfolding between_at all_inside all_listed table_of
   inside-table [] h = refl
   inside-table (c ∷ cs) h =

@@ -30,9 +30,9 @@ first_lie (suc n) [] h = refl
 first_lie (suc n) (c ∷ cs) h = let p = and-true (lies c) (all_lie cs) h in true_and _ _ p.0 (first_lie n cs p.1)
 
 -- a layout whose columns lie like those of a grid
-record LikeGrid (layout : List Col) : Type 0 where
-  table_is : table_of layout ≡ table_of (tabled data_grid)
-  lie : all_lie layout ≡ true
+pub record LikeGrid (layout : List Col) : Type 0 where
+  pub table_is : table_of layout ≡ table_of (tabled data_grid)
+  pub lie : all_lie layout ≡ true
 
 first-form : (layout : List Col) → LikeGrid layout → (n : ℕ) (l : List ℕ) → length l ≡ 84 → first_sevens n l ≡ normal_record (take n layout) l
 unfolding first_sevens

@@ -48,7 +48,7 @@ module _ (l : List ℕ) (whole : length l ≡ 84) where
   own-note : column_fault data_note l ≡ fault_in data_note l
   own-note = sym (fault_in_record data_note l whole)
 
-  note-refused : (reason : Reason) → refusal_number reason ≡ fault_in data_note l → refusal_number reason ≡ data_fault_of l Notes 0
+  pub note-refused : (reason : Reason) → refusal_number reason ≡ fault_in data_note l → refusal_number reason ≡ data_fault_of l Notes 0
   unfolding data_fault data_columns
   note-refused reason e = rw (note_record, own-note ∙ sym e) (first_some (refusal_number reason) (unless (direction_ok l) 6) (not_zero reason))
 

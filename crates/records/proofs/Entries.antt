@@ -1,12 +1,12 @@
 -- Headers and items in the code's own words: each layout's fault and its numbers make the entry of its view. Assumes nothing.
 use mathlib.Core.Path.{◌≡◌, refl, sym, ◌∙◌}
-use mathlib.Core.Bool.{Bool, ◌&&◌}
+use mathlib.Core.Bool.{Bool, true, ◌&&◌}
 use mathlib.Core.List.{List}
 use Prim.Native.Nat.{ℕ, zero, suc, ◌*◌, ◌≤◌, ◌<◌}
 use native.Mathlib.Nat.{mul-le-mul}
 use native.Mathlib.Omega.{arith}
-use borrow.Author.Tests.{eq-eqb, ne_eqb, le-leb}
-use lib.Dec.{eqb}
+use borrow.Author.Tests.{eq-eqb, ne_eqb, le-leb, leb-true}
+use lib.Dec.{eqb, leb}
 use lib.ListN.{length}
 use mir.Syntax.{w64}
 use mir.Val.{Fits}
@@ -15,8 +15,9 @@ use Rattle.format.specs.Reasons.{refusal_number}
 use Rattle.format.specs.declared.Reason.{Reason}
 use Rattle.format.specs.Layout.{Col, find, number_at, column_fault, header, element, grid_header, net_header}
 use Rattle.format.specs.Record.{RecordType, H, E1, E2, E3, E4, E5, E6, E7, E8, G, T, other, type_of, kind_of, count_index, data_of, kind_and_count, element_records, element_rule, grid_states, grid_needs, net_needs, View, header_view, element_view, grid_view, net_view, other_view, view_as, view}
+use Rattle.format.proofs.Basics.{and-true}
 use Rattle.layout_faults.specs.Faults.{fault_in}
-use Rattle.layout_faults.proofs.Laws.{fault_in_record}
+use Rattle.layout_faults.proofs.Laws.{fault_in_record, number-inside}
 use Rattle.columns.specs.InRecord.{number_in}
 use Rattle.records.specs.Entry.{Entry}
 use Rattle.records.specs.declared.Held.{Held}
@@ -109,6 +110,15 @@ module _ (l : List ℕ) (whole : length l ≡ 84) where
   pub grid-refused : (reason : Reason) → refusal_number reason ≡ fault_in grid_header l → refused_entry (refusal_number reason) ≡ entry_in (grid_view l)
   grid-refused reason e = view-refused (grid_view l) grid_header l reason own-grid whole e
 
+  -- repeat is 1 to 9
+  module _ (f : ℕ) (e : f ≡ fault_in grid_header l) where
+    pub repeats : (repeat : ℕ) → f ≡ 0 → repeat ≡ number_in l 83 1 → 1 ≤ repeat
+    unfolding find grid_header
+    repeats repeat none a =
+        let q : fault_in grid_header l ≡ 0 = sym e ∙ none in
+        let h : leb 1 (number_at grid_header "repeat" l) && leb (number_at grid_header "repeat" l) 9 ≡ true = number-inside grid_header "repeat" 83 1 _ refl refl l q refl in
+        rw (a ∙ stated l whole grid_header "repeat" 83 1 _ refl refl) (leb-true 1 (number_at grid_header "repeat" l) (and-true (leb 1 (number_at grid_header "repeat" l)) (leb (number_at grid_header "repeat" l) 9) h).0)
+
   module _ (level rows columns records repeat states needs : ℕ) where
     pub grid-passed : 0 ≡ fault_in grid_header l → level ≡ number_in l 16 2 → rows ≡ number_in l 18 4 → columns ≡ number_in l 22 4 → records ≡ number_in l 26 4 → repeat ≡ number_in l 83 1 → states ≡ grid_states repeat records → needs ≡ round_up (rows * columns) 12 → record { fault = 0; kind = 9; level = level; data_records = states; held = Heights (rows * columns); rule_fault = unless (eqb states needs) 8 } ≡ entry_in (grid_view l)
     unfolding grid_view grid_needs find grid_header
@@ -127,7 +137,7 @@ module _ (l : List ℕ) (whole : length l ≡ 84) where
 
 -- rows times columns, of four digits each
 module _ (l : List ℕ) (start start' rows columns : ℕ) (a : rows ≡ number_in l start 4) (b : columns ≡ number_in l start' 4) where
-  heights-below : rows * columns < 100000000
+  pub heights-below : rows * columns < 100000000
   heights-below =
       let p : rows ≤ 9999 = omega (arith, number_in_below l start 4) in
       let q : columns ≤ 9999 = omega (arith, number_in_below l start' 4) in

@@ -17,20 +17,24 @@ use Rattle.report.specs.Steps.{last_digits, stored_digits}
 
 -- ---- how many: one more than the exponent of the greatest power of ten that is not above the number; 0 has one
 
-counted : (f k n : ℕ) → 10 ^ k ≤ n → n < 10 * 10 ^ k → k ≤ f → k + 1 ≡ length (digits_in f n)
-counted f zero n low high h = sym (length_one f n (omega arith))
-counted zero (suc k) n low high h = absurd (omega arith)
-counted (suc f) (suc k) n low high h =
+by_exponent : (f k n : ℕ) → 10 ^ k ≤ n → n < 10 * 10 ^ k → k ≤ f → k + 1 ≡ length (digits_in f n)
+by_exponent f zero n low high h = sym (length_one f n (omega arith))
+by_exponent zero (suc k) n low high h = absurd (omega arith)
+by_exponent (suc f) (suc k) n low high h =
     let low' : 10 ^ k * 10 ≤ n = rw pow-suc at low in
     let high' : n < 10 * (10 ^ k * 10) = rw pow-suc at high in
     let some : 10 ^ 0 ≤ 10 ^ k = pow-le-pow_right {n = 10} (omega arith) {i = 0} {j = k} (omega arith) in
     let more : 10 ≤ n = omega arith in
-    omega (arith, length_more f n more, counted f k (n / 10) (omega arith) (omega arith) (omega arith))
+    omega (arith, length_more f n more, by_exponent f k (n / 10) (omega arith) (omega arith) (omega arith))
 
 pub digits-counted : (n m k : ℕ) → m ≡ max n 1 → 10 ^ k ≤ m → m < 10 * 10 ^ k → k < 20 → k + 1 ≡ length (digits n)
 unfolding digits digits_in
-digits-counted zero m k e low high h = counted 19 k 1 (rw e at low) (rw e at high) (omega arith)
-digits-counted (suc n) m k e low high h = let f : m ≡ suc n = omega arith in counted 19 k (suc n) (rw f at low) (rw f at high) (omega arith)
+digits-counted zero m k e low high h = by_exponent 19 k 1 (rw e at low) (rw e at high) (omega arith)
+digits-counted (suc n) m k e low high h = let f : m ≡ suc n = omega arith in by_exponent 19 k (suc n) (rw f at low) (rw f at high) (omega arith)
+
+-- or one digit after the other: nothing but the first is left, and `count` is one more than the digits counted
+pub counted : (n left count : ℕ) → left < 10 → length (digits n) + 1 ≡ count + length (digits_in (20 - count) left) → count ≡ length (digits n)
+counted n left count h e = omega (arith, e, length_one (20 - count) left h)
 
 -- ---- the digits stored, from the last to the first
 -- one turn, and the end, of the loop of stores
