@@ -17,8 +17,11 @@ use layouts::{
     DataNote, Element, GridHeader, Header, IndexC, Layout, NetHeader, SheetB, SheetE, SheetF,
 };
 
+#[cfg(test)]
+mod tests;
+
 // The letters, those of form_bytes, of each layout's bytes.
-// Kept: arrays that `letters` answers by value; of a reference to one the compiler knows where each letter stands, and takes the last sixteen bytes of
+// Kept: arrays that `letters_by_value` answers; of a reference to one the compiler knows where each letter stands, and takes the last sixteen bytes of
 // some layouts one by one.
 const INDEX_C: [u8; RECORD] =
     *b"SssdSssd1111111111d.................................................................";
@@ -49,8 +52,15 @@ const DATA_NOTE: [u8; RECORD] =
 
 // A layout whose records can be told at once: the letters, those of form_bytes, of its bytes.
 pub trait Lettered: Layout {
-    fn letters() -> [u8; RECORD]
-        ensures { result ≡ letters_of Self.columns };
+    fn letters() -> &'static [u8; RECORD]
+        ensures { result.now ≡ letters_of Self.columns };
+
+    // The same as a value, which `is_sure` compares with.
+    fn letters_by_value() -> [u8; RECORD]
+        ensures { result ≡ letters_of Self.columns }
+    {
+        *Self::letters()
+    }
 
     // the columns follow one another from 0 to 84, and each has letters of its own
     ghost laid: { laid_out 0 Self.columns ≡ true };
@@ -60,7 +70,12 @@ impl Lettered for IndexC {
     ghost laid = { laid_index_c };
 
     #[tactic(auto, unfolding(crate::specs::LaidOut::letters_of, form_bytes::specs::Letters::letters_for, form_bytes::specs::Letters::ruled, form_bytes::specs::Letters::letters_in, form_bytes::specs::Letters::behind, format::specs::Layout::index_c))]
-    fn letters() -> [u8; RECORD] {
+    fn letters() -> &'static [u8; RECORD] {
+        &INDEX_C
+    }
+
+    #[tactic(auto, unfolding(crate::specs::LaidOut::letters_of, form_bytes::specs::Letters::letters_for, form_bytes::specs::Letters::ruled, form_bytes::specs::Letters::letters_in, form_bytes::specs::Letters::behind, format::specs::Layout::index_c))]
+    fn letters_by_value() -> [u8; RECORD] {
         INDEX_C
     }
 }
@@ -69,7 +84,12 @@ impl Lettered for SheetB {
     ghost laid = { laid_sheet_b };
 
     #[tactic(auto, unfolding(crate::specs::LaidOut::letters_of, form_bytes::specs::Letters::letters_for, form_bytes::specs::Letters::ruled, form_bytes::specs::Letters::letters_in, form_bytes::specs::Letters::behind, format::specs::Layout::sheet_b))]
-    fn letters() -> [u8; RECORD] {
+    fn letters() -> &'static [u8; RECORD] {
+        &SHEET_B
+    }
+
+    #[tactic(auto, unfolding(crate::specs::LaidOut::letters_of, form_bytes::specs::Letters::letters_for, form_bytes::specs::Letters::ruled, form_bytes::specs::Letters::letters_in, form_bytes::specs::Letters::behind, format::specs::Layout::sheet_b))]
+    fn letters_by_value() -> [u8; RECORD] {
         SHEET_B
     }
 }
@@ -78,7 +98,12 @@ impl Lettered for SheetE {
     ghost laid = { laid_sheet_e };
 
     #[tactic(auto, unfolding(crate::specs::LaidOut::letters_of, form_bytes::specs::Letters::letters_for, form_bytes::specs::Letters::ruled, form_bytes::specs::Letters::letters_in, form_bytes::specs::Letters::behind, format::specs::Layout::sheet_e))]
-    fn letters() -> [u8; RECORD] {
+    fn letters() -> &'static [u8; RECORD] {
+        &SHEET_E
+    }
+
+    #[tactic(auto, unfolding(crate::specs::LaidOut::letters_of, form_bytes::specs::Letters::letters_for, form_bytes::specs::Letters::ruled, form_bytes::specs::Letters::letters_in, form_bytes::specs::Letters::behind, format::specs::Layout::sheet_e))]
+    fn letters_by_value() -> [u8; RECORD] {
         SHEET_E
     }
 }
@@ -87,7 +112,12 @@ impl Lettered for SheetF {
     ghost laid = { laid_sheet_f };
 
     #[tactic(auto, unfolding(crate::specs::LaidOut::letters_of, form_bytes::specs::Letters::letters_for, form_bytes::specs::Letters::ruled, form_bytes::specs::Letters::letters_in, form_bytes::specs::Letters::behind, format::specs::Layout::sheet_f))]
-    fn letters() -> [u8; RECORD] {
+    fn letters() -> &'static [u8; RECORD] {
+        &SHEET_F
+    }
+
+    #[tactic(auto, unfolding(crate::specs::LaidOut::letters_of, form_bytes::specs::Letters::letters_for, form_bytes::specs::Letters::ruled, form_bytes::specs::Letters::letters_in, form_bytes::specs::Letters::behind, format::specs::Layout::sheet_f))]
+    fn letters_by_value() -> [u8; RECORD] {
         SHEET_F
     }
 }
@@ -96,7 +126,12 @@ impl Lettered for Header {
     ghost laid = { laid_header };
 
     #[tactic(auto, unfolding(crate::specs::LaidOut::letters_of, form_bytes::specs::Letters::letters_for, form_bytes::specs::Letters::ruled, form_bytes::specs::Letters::letters_in, form_bytes::specs::Letters::behind, format::specs::Layout::header))]
-    fn letters() -> [u8; RECORD] {
+    fn letters() -> &'static [u8; RECORD] {
+        &HEADER
+    }
+
+    #[tactic(auto, unfolding(crate::specs::LaidOut::letters_of, form_bytes::specs::Letters::letters_for, form_bytes::specs::Letters::ruled, form_bytes::specs::Letters::letters_in, form_bytes::specs::Letters::behind, format::specs::Layout::header))]
+    fn letters_by_value() -> [u8; RECORD] {
         HEADER
     }
 }
@@ -105,7 +140,12 @@ impl Lettered for Element {
     ghost laid = { laid_element };
 
     #[tactic(auto, unfolding(crate::specs::LaidOut::letters_of, form_bytes::specs::Letters::letters_for, form_bytes::specs::Letters::ruled, form_bytes::specs::Letters::letters_in, form_bytes::specs::Letters::behind, format::specs::Layout::element))]
-    fn letters() -> [u8; RECORD] {
+    fn letters() -> &'static [u8; RECORD] {
+        &ELEMENT
+    }
+
+    #[tactic(auto, unfolding(crate::specs::LaidOut::letters_of, form_bytes::specs::Letters::letters_for, form_bytes::specs::Letters::ruled, form_bytes::specs::Letters::letters_in, form_bytes::specs::Letters::behind, format::specs::Layout::element))]
+    fn letters_by_value() -> [u8; RECORD] {
         ELEMENT
     }
 }
@@ -114,7 +154,12 @@ impl Lettered for GridHeader {
     ghost laid = { laid_grid_header };
 
     #[tactic(auto, unfolding(crate::specs::LaidOut::letters_of, form_bytes::specs::Letters::letters_for, form_bytes::specs::Letters::ruled, form_bytes::specs::Letters::letters_in, form_bytes::specs::Letters::behind, format::specs::Layout::grid_header))]
-    fn letters() -> [u8; RECORD] {
+    fn letters() -> &'static [u8; RECORD] {
+        &GRID_HEADER
+    }
+
+    #[tactic(auto, unfolding(crate::specs::LaidOut::letters_of, form_bytes::specs::Letters::letters_for, form_bytes::specs::Letters::ruled, form_bytes::specs::Letters::letters_in, form_bytes::specs::Letters::behind, format::specs::Layout::grid_header))]
+    fn letters_by_value() -> [u8; RECORD] {
         GRID_HEADER
     }
 }
@@ -123,7 +168,12 @@ impl Lettered for NetHeader {
     ghost laid = { laid_net_header };
 
     #[tactic(auto, unfolding(crate::specs::LaidOut::letters_of, form_bytes::specs::Letters::letters_for, form_bytes::specs::Letters::ruled, form_bytes::specs::Letters::letters_in, form_bytes::specs::Letters::behind, format::specs::Layout::net_header))]
-    fn letters() -> [u8; RECORD] {
+    fn letters() -> &'static [u8; RECORD] {
+        &NET_HEADER
+    }
+
+    #[tactic(auto, unfolding(crate::specs::LaidOut::letters_of, form_bytes::specs::Letters::letters_for, form_bytes::specs::Letters::ruled, form_bytes::specs::Letters::letters_in, form_bytes::specs::Letters::behind, format::specs::Layout::net_header))]
+    fn letters_by_value() -> [u8; RECORD] {
         NET_HEADER
     }
 }
@@ -132,7 +182,12 @@ impl Lettered for DataNote {
     ghost laid = { laid_data_note };
 
     #[tactic(auto, unfolding(crate::specs::LaidOut::letters_of, form_bytes::specs::Letters::letters_for, form_bytes::specs::Letters::ruled, form_bytes::specs::Letters::letters_in, form_bytes::specs::Letters::behind, format::specs::Layout::data_note))]
-    fn letters() -> [u8; RECORD] {
+    fn letters() -> &'static [u8; RECORD] {
+        &DATA_NOTE
+    }
+
+    #[tactic(auto, unfolding(crate::specs::LaidOut::letters_of, form_bytes::specs::Letters::letters_for, form_bytes::specs::Letters::ruled, form_bytes::specs::Letters::letters_in, form_bytes::specs::Letters::behind, format::specs::Layout::data_note))]
+    fn letters_by_value() -> [u8; RECORD] {
         DATA_NOTE
     }
 }
@@ -162,6 +217,6 @@ pub fn is_sure<L: Lettered>(record: &[u8]) -> bool
     let Ok(record) = <&[u8; RECORD]>::try_from(record) else {
         return false;
     };
-    let letters = L::letters();
+    let letters = L::letters_by_value();
     doubts(&letters, record) == 0
 }

@@ -8,4 +8,4 @@ returns-in_default g c = no_record _ c.args.record.now c.in_default.ensures.1
 pub returns : goal.returns
 returns g c =
     let w = c.in-Ok.ensures.1 in
-    rw (c.doubts.ensures, c.letters-letters.ensures, w.same) (doubtless _ g.met.L.Lettered.laid c.args.record.now w.long)
+    rw (c.doubts.ensures, c.letters_by_value-letters.ensures, w.same) (doubtless _ g.met.L.Lettered.laid c.args.record.now w.long)
